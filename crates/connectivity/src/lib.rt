@@ -1,0 +1,1 @@
+// No functions: definitions stand in specs/, theorems in proofs/.

@@ -1,0 +1,19 @@
+-- The word and the buffer for a plan, by its answer. Assumes nothing.
+use Prim.Native.Nat.{ℕ}
+use mathlib.Core.List.{List}
+use mathlib.Core.Path.{_≡_, refl, sym, ap, _∙_}
+use Rattle.record.specs.declared.Answer.{Answer}
+use Rattle.record.specs.declared.Answer.the-variants.{Accepted, Grade, PlanFault, CertificateFault}
+use Rattle.graph.specs.Code.{wholePlan, withPlan}
+use Rattle.graph.specs.declared.PlanRead.{PlanRead}
+use Rattle.fikzarn.specs.Words.{answerWord, rewritten, planRewritten}
+
+module _ (s out : List ℕ) (r : PlanRead) (e : r ≡ wholePlan s) {w : ℕ} (f : w ≡ answerWord (r .answer)) where
+  word-told : w ≡ answerWord (wholePlan s .answer)
+  word-told = f ∙ ap (λ (q : PlanRead). answerWord (q .answer)) e
+
+  pub plan-accepted : r .answer ≡ Accepted → {after : List ℕ} → after ≡ withPlan out (r .graph) → (w ≡ answerWord (wholePlan s .answer)) × (after ≡ planRewritten s out)
+  plan-accepted a {after} g = (word-told, g ∙ ap (λ (x : Answer). rewritten x out (withPlan out (r .graph))) (sym a) ∙ ap (λ (q : PlanRead). rewritten (q .answer) out (withPlan out (q .graph))) e)
+
+  pub plan-refused : ((written : List ℕ) → out ≡ rewritten (r .answer) out written) → (w ≡ answerWord (wholePlan s .answer)) × (out ≡ planRewritten s out)
+  plan-refused g = (word-told, g (withPlan out (r .graph)) ∙ ap (λ (q : PlanRead). rewritten (q .answer) out (withPlan out (q .graph))) e)

@@ -1,0 +1,26 @@
+-- A number that is no value is a fault: what the other arm of a `let .. else` knows. Assumes nothing.
+use Prim.Native.Nat.{ℕ}
+use mathlib.Core.List.{List, [], _∷_}
+use mathlib.Core.Path.{_≡_, refl}
+use mathlib.Core.Logic.{_⊎_, inl, inr}
+use native.Mathlib.Omega.{arith}
+use types.Run.{OneOf}
+use denote.Enum.Declared.{tagOf}
+use Rattle.record.proofs.Number.{the-type}
+use Rattle.record.specs.Read.{Read.Refused}
+use Rattle.record.specs.Number.{numberAt, asRead, faultNumber, faultPlace}
+use Rattle.record.specs.declared.Number.{Number}
+use Rattle.record.specs.declared.Number.the-variants.{Value, Ended, Padded, Overlong}
+
+pub no-value : (x : Number) → OneOf (1 ∷ 2 ∷ 3 ∷ []) (tagOf the-type x) → asRead x ≡ Refused (faultNumber x) (faultPlace x)
+no-value (Value v next) (inl e) = absurd (omega arith)
+no-value (Value v next) (inr (inl e)) = absurd (omega arith)
+no-value (Value v next) (inr (inr e)) = absurd (omega arith)
+no-value (Ended p) k = refl
+no-value (Padded p) k = refl
+no-value (Overlong p) k = refl
+
+-- the same with the code's own number and place
+pub unread : {x : Number} (s : List ℕ) (at : ℕ) {r p : ℕ} → x ≡ numberAt s at → OneOf (1 ∷ 2 ∷ 3 ∷ []) (tagOf the-type x) → r ≡ faultNumber x → p ≡ faultPlace x
+    → asRead (numberAt s at) ≡ Refused r p
+unread {x} s at e k f g = rw (← e, f, g) (no-value x k)

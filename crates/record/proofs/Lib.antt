@@ -1,0 +1,7 @@
+pub mod Tests
+pub mod Laws
+pub mod Groups
+pub mod Write
+pub mod Parts
+pub mod Loops
+pub mod Faults

@@ -1,0 +1,4 @@
+pub mod Read
+pub mod Number
+pub mod Write
+pub mod Loop

@@ -1,0 +1,90 @@
+-- The bits of a number: what the operations do to them, and that they determine it. Assumes nothing.
+use mathlib.Core.Path.{_≡_, refl, sym, _∙_}
+use mathlib.Core.Bool.{Bool, false, cond, not, _&&_, _||_, true≢false, false≢true}
+use Prim.Native.Nat.{ℕ, zero, suc, _+_, _/_, _%_, _^_, _<_}
+use native.Mathlib.Nat.{mod-lt, zero-div, div-one, add-comm, add-assoc, pow-suc, mul-mod-left}
+use native.Mathlib.Numerals.{add-one}
+use native.Mathlib.Omega.{arith}
+use lib.Dec.{eqb, lit<, eqb·zero-suc, eqb·suc-zero, eqb·suc-suc}
+use lib.Pow.{shr-shr, shr-lt, shl-shr}
+use lib.Bits.{bitOr, bitAnd, or-shr, and-shr, xor-shr, or-mod, and-mod, xor-mod}
+use lib.Count.{ones, ones-step}
+use Rattle.vertexset.specs.Set.{less, tally}
+
+-- bit k of w is 1
+abbrev pub on : ℕ → ℕ → Bool
+on w k = eqb (w / 2 ^ k % 2) 1
+
+-- what holds of 0 and 1 holds of the lowest bit of any number
+by-bit : (P : ℕ → Type 0) → P 0 → P 1 → (a : ℕ) → P (a % 2)
+by-bit P z o a = go (a % 2) (mod-lt a (lit< tt)) where
+  go : (n : ℕ) → n < 2 → P n
+  go zero h = z
+  go (suc zero) h = o
+  go (suc (suc n)) h = absurd (omega arith)
+
+by-bits : (P : ℕ → ℕ → Type 0) → P 0 0 → P 0 1 → P 1 0 → P 1 1 → (a b : ℕ) → P (a % 2) (b % 2)
+by-bits P zz zo oz oo a b = by-bit (λ p. P p (b % 2)) (by-bit (P 0) zz zo b) (by-bit (P 1) oz oo b) a
+
+pub on-or : (a b k : ℕ) → on (bitOr a b) k ≡ (on a k || on b k)
+on-or a b k =
+    rw (or-shr, or-mod (a / 2 ^ k) (b / 2 ^ k) 1)
+    (by-bits (λ p q. eqb (bitOr p q) 1 ≡ (eqb p 1 || eqb q 1)) refl refl refl refl (a / 2 ^ k) (b / 2 ^ k))
+
+pub on-less : (a b k : ℕ) → on (less a b) k ≡ (on a k && not (on b k))
+on-less a b k =
+    rw (xor-shr, and-shr, xor-mod (a / 2 ^ k) (bitAnd (a / 2 ^ k) (b / 2 ^ k)) 1, and-mod (a / 2 ^ k) (b / 2 ^ k) 1)
+    (by-bits (λ p q. eqb (less p q) 1 ≡ (eqb p 1 && not (eqb q 1))) refl refl refl refl (a / 2 ^ k) (b / 2 ^ k))
+
+-- bit k + 1 of a number is bit k of its half
+on-half : (w k : ℕ) → on w (suc k) ≡ on (w / 2) k
+on-half w k = rw (← add-one k, add-comm k 1, ← shr-shr w 1 k)
+
+half-lt : (n w : ℕ) → w < 2 ^ suc n → w / 2 < 2 ^ n
+half-lt n w h = shr-lt n 1 (rw (add-one n) h)
+
+pub on-zero : (k : ℕ) → on 0 k ≡ false
+on-zero k = rw zero-div
+
+pub on-pow : (j k : ℕ) → on (2 ^ j) k ≡ eqb j k
+on-pow zero zero = refl
+on-pow zero (suc k) = rw (on-half 1 k, on-zero k) (sym (eqb·zero-suc k))
+on-pow (suc j) zero = rw (div-one, pow-suc, mul-mod-left (2 ^ j) 2) (sym (eqb·suc-zero j))
+on-pow (suc j) (suc k) = rw (on-half (2 ^ suc j) k, pow-suc, shl-shr (2 ^ j) 1, eqb·suc-suc j k) (on-pow j k)
+
+-- numbers below 2 ^ n with the same n bits are equal
+pub same-bits : (n a b : ℕ) → a < 2 ^ n → b < 2 ^ n → ((k : ℕ) → k < n → on a k ≡ on b k) → a ≡ b
+same-bits zero a b ha hb same = omega arith
+same-bits (suc n) a b ha hb same =
+    let upper : (k : ℕ) → k < n → on (a / 2) k ≡ on (b / 2) k = λ k l. sym (on-half a k) ∙ same (suc k) (omega arith) ∙ on-half b k in
+    let halves : a / 2 ≡ b / 2 = same-bits n (a / 2) (b / 2) (half-lt n a ha) (half-lt n b hb) upper in
+    let first : eqb (a % 2) 1 ≡ eqb (b % 2) 1 = rw (div-one a, div-one b) at (same 0 (omega arith)) in
+    let lowest : a % 2 ≡ b % 2 = by-bits (λ p q. eqb p 1 ≡ eqb q 1 → p ≡ q) (λ e. refl) (λ e. absurd (false≢true e)) (λ e. absurd (true≢false e)) (λ e. refl) a b first in
+    omega arith
+
+-- ---- counting
+
+tally-front : (p : ℕ → Bool) (n : ℕ) → tally p (suc n) ≡ cond (p 0) 1 0 + tally (λ k. p (suc k)) n
+unfolding tally
+tally-front p zero = add-comm 0 _
+tally-front p (suc n) = rw (tally-front p n) (add-assoc _ _ _)
+
+pub tally-same : (p q : ℕ → Bool) (n : ℕ) → ((k : ℕ) → k < n → p k ≡ q k) → tally p n ≡ tally q n
+unfolding tally
+tally-same p q zero same = refl
+tally-same p q (suc n) same = rw (same n (omega arith), tally-same p q n (λ k l. same k (omega arith)))
+
+-- a number below 2 ^ n has as many ones as bits that are 1
+pub ones-tally : (n w : ℕ) → w < 2 ^ n → ones w ≡ tally (on w) n
+unfolding tally ones
+ones-tally zero w h = let e : w ≡ 0 = omega arith in rw e
+ones-tally (suc n) w h =
+    let lowest : w % 2 ≡ cond (eqb (w % 2) 1) 1 0 = by-bit (λ p. p ≡ cond (eqb p 1) 1 0) refl refl w in
+    rw (
+      tally-front (on w) n,
+      ones-step w,
+      ones-tally n (w / 2) (half-lt n w h),
+      tally-same (on (w / 2)) (λ k. on w (suc k)) n (λ k l. sym (on-half w k)),
+      div-one w,
+      ← lowest,
+    )

@@ -1,0 +1,199 @@
+-- What the definitions on words say about members, at any number of words. Assumes nothing.
+use mathlib.Core.Path.{_≡_, refl, sym, ap, fun-ext, _∙_}
+use mathlib.Core.Bool.{Bool, true, false, not, _&&_, _||_, or-false, false≢true, cond}
+use mathlib.Core.List.{List, [], _∷_}
+use mathlib.Core.Logic.{_⊎_, inl, inr, ⊎-elim}
+use Prim.Native.Nat.{ℕ, zero, suc, _+_, _*_, _-_, _/_, _%_, _^_, _<_, _≤_}
+use native.Mathlib.Nat.{add-zero, add-suc, add-assoc, zero-div, div-eq-of-lt, mod-eq-of-lt}
+use native.Mathlib.Decide.{ℕ-discrete}
+use native.Mathlib.Omega.{arith}
+use lib.Dec.{eqb, lit<}
+use lib.Arith.{digits-div, digits-mod}
+use lib.ListN.{length, getD, replicate, length-set, length-replicate, List·getD-eq-default}
+use lib.Seq.{getD-set-same, getD-set-other, ext-getD}
+use lib.Bits.{bitOr, and-le-l, xor-lt}
+use borrow.Author.Tests.{eq-eqb, ne-eqb, eqb-true, not-false}
+use Rattle.vertexset.specs.declared.VertexSet.{VertexSet}
+use Rattle.vertexset.specs.Set.{wordCount, has, with, emptySet, withBit, inserted, zip, wordwise, less, count, none, within, firstFrom, next, tally}
+use Rattle.vertexset.proofs.Bit.{on, on-or, on-less, on-zero, on-pow, same-bits, tally-same, ones-tally}
+
+-- every word has 64 bits
+abbrev pub Words : List ℕ → Type 0
+Words ws = (i : ℕ) → getD ws i 0 < 2 ^ 64
+
+-- ---- members after each operation
+
+pub has-past : (ws : List ℕ) (x : ℕ) → 64 * length ws ≤ x → has ws x ≡ false
+has-past ws x h =
+    let l : length ws ≤ x / 64 = omega arith in
+    rw (List·getD-eq-default ws 0 l, zero-div)
+
+zeros-at : (n i : ℕ) → _≡_ {A = ℕ} (getD (replicate n 0) i 0) 0
+zeros-at zero i = refl
+zeros-at (suc n) zero = refl
+zeros-at (suc n) (suc i) = zeros-at n i
+
+pub has-empty : (n x : ℕ) → has (replicate n 0) x ≡ false
+has-empty n x = rw zeros-at (on-zero (x % 64))
+
+-- of two vertices in the same word
+same-word : (x v : ℕ) → x / 64 ≡ v / 64 → eqb (v % 64) (x % 64) ≡ eqb x v
+same-word x v e = elim (ℕ-discrete x v) [
+  | yes f ↦ rw (eq-eqb x v f, eq-eqb (v % 64) (x % 64) (ap (λ z. z % 64) (sym f)))
+  | no n ↦ rw (ne-eqb x v n, ne-eqb (v % 64) (x % 64) (λ f. n (omega arith)))
+]
+
+pub has-insert : (ws : List ℕ) (v : ℕ) → v < 64 * length ws → has (withBit ws v) ≡ with (has ws) v
+has-insert ws v h = fun-ext at where
+  at : (x : ℕ) → has (withBit ws v) x ≡ with (has ws) v x
+  at x = elim (ℕ-discrete (x / 64) (v / 64)) [
+    | yes e ↦ rw (e, getD-set-same ws (v / 64) _ 0 (omega arith), on-or _ _ (x % 64), on-pow, same-word x v e)
+    | no n ↦ rw (getD-set-other ws (v / 64) (x / 64) _ 0 n, ne-eqb x v (λ g. n (ap (λ z. z / 64) g))) (sym (or-false _))
+  ]
+
+getD-zip : (f : ℕ → ℕ → ℕ) → f 0 0 ≡ 0 → (xs ys : List ℕ) → length xs ≡ length ys → (i : ℕ) → getD (zip f xs ys) i 0 ≡ f (getD xs i 0) (getD ys i 0)
+unfolding zip
+getD-zip f e [] [] h i = sym e
+getD-zip f e [] (y ∷ ys) h i = absurd (omega arith)
+getD-zip f e (x ∷ xs) [] h i = absurd (omega arith)
+getD-zip f e (x ∷ xs) (y ∷ ys) h zero = refl
+getD-zip f e (x ∷ xs) (y ∷ ys) h (suc i) = getD-zip f e xs ys (omega arith) i
+
+pub has-union : (xs ys : List ℕ) → length xs ≡ length ys → (x : ℕ) → has (zip bitOr xs ys) x ≡ (has xs x || has ys x)
+has-union xs ys h x = rw (getD-zip bitOr refl xs ys h) (on-or _ _ (x % 64))
+
+pub has-minus : (xs ys : List ℕ) → length xs ≡ length ys → (x : ℕ) → has (zip less xs ys) x ≡ (has xs x && not (has ys x))
+has-minus xs ys h x = rw (getD-zip less refl xs ys h) (on-less _ _ (x % 64))
+
+-- ---- a set is known by its members
+
+at-word : (ws : List ℕ) (i k : ℕ) → k < 64 → has ws (i * 64 + k) ≡ on (getD ws i 0) k
+at-word ws i k h = rw (digits-div i h, digits-mod i h)
+
+pub same-members : (xs ys : List ℕ) → length xs ≡ length ys → Words xs → Words ys → ((x : ℕ) → x < 64 * length xs → has xs x ≡ has ys x) → xs ≡ ys
+same-members xs ys l wx wy same =
+    ext-getD 0 xs ys l (λ i h. same-bits 64 _ _ (wx i) (wy i)
+    (λ k m. sym (at-word xs i k m) ∙ same (i * 64 + k) (omega arith) ∙ at-word ys i k m))
+
+-- ---- no members, and members of another set
+
+and-both : (p q : Bool) → (p && q) ≡ true → (p ≡ true) × (q ≡ true)
+and-both true q h = (refl, h)
+and-both false q h = (h, absurd (false≢true h))
+
+none-zeros : (ws : List ℕ) → none ws ≡ true → ws ≡ replicate (length ws) 0
+unfolding none
+none-zeros [] h = refl
+none-zeros (w ∷ ws) h =
+    let b = and-both (eqb w 0) (none ws) h in
+    rw (eqb-true w 0 (b .0), ← none-zeros ws (b .1))
+
+zeros-none : (n : ℕ) → none (replicate n 0) ≡ true
+unfolding none
+zeros-none zero = refl
+zeros-none (suc n) = zeros-none n
+
+pub none-has : (ws : List ℕ) → none ws ≡ true → (x : ℕ) → has ws x ≡ false
+none-has ws h x = rw (none-zeros ws h) (has-empty (length ws) x)
+
+pub has-none : (ws : List ℕ) → Words ws → ((x : ℕ) → x < 64 * length ws → has ws x ≡ false) → none ws ≡ true
+has-none ws s h =
+    let small : Words (replicate (length ws) 0) = λ i. rw zeros-at (lit< tt) in
+    let bare : (x : ℕ) → x < 64 * length ws → has ws x ≡ has (replicate (length ws) 0) x = λ x l. h x l ∙ sym (has-empty (length ws) x) in
+    let e : ws ≡ replicate (length ws) 0 = same-members ws _ (sym (length-replicate (length ws) 0)) s small bare in
+    rw e (zeros-none (length ws))
+
+length-zip : (f : ℕ → ℕ → ℕ) (xs ys : List ℕ) → length xs ≡ length ys → length (zip f xs ys) ≡ length xs
+unfolding zip
+length-zip f [] ys h = refl
+length-zip f (x ∷ xs) [] h = absurd (omega arith)
+length-zip f (x ∷ xs) (y ∷ ys) h = ap suc (length-zip f xs ys (omega arith))
+
+implied : (p q : Bool) → (p ≡ true → q ≡ true) → (p && not q) ≡ false
+implied true q h = rw (h refl)
+implied false q h = refl
+
+pub within-has : (xs ys : List ℕ) → length xs ≡ length ys → within xs ys ≡ true → (x : ℕ) → has xs x ≡ true → has ys x ≡ true
+within-has xs ys l h x m = not-false _ (rw m at (sym (has-minus xs ys l x) ∙ none-has (zip less xs ys) h x))
+
+pub has-within : (xs ys : List ℕ) → length xs ≡ length ys → Words xs → ((x : ℕ) → x < 64 * length xs → has xs x ≡ true → has ys x ≡ true) → within xs ys ≡ true
+has-within xs ys l wx h =
+    let small : (i : ℕ) → less (getD xs i 0) (getD ys i 0) < 2 ^ 64 = λ i. xor-lt 64 _ _ (wx i) (omega (arith, and-le-l (getD xs i 0) (getD ys i 0), wx i)) in
+    has-none (zip less xs ys) (λ i. rw (getD-zip less refl xs ys l i) (small i)) (λ x k. has-minus xs ys l x ∙ implied _ _ (h x (rw length-zip at k)))
+
+-- ---- the size is the number of members
+
+tally-add : (p : ℕ → Bool) (a n : ℕ) → tally p (a + n) ≡ tally p a + tally (λ k. p (a + k)) n
+unfolding tally
+tally-add p a zero = rw (add-zero a) (sym (add-zero _))
+tally-add p a (suc n) = rw (add-suc a n, tally-add p a n) (add-assoc _ _ _)
+
+first-word : (w : ℕ) (ws : List ℕ) (k : ℕ) → k < 64 → on w k ≡ has (w ∷ ws) k
+first-word w ws k h = rw (div-eq-of-lt h, mod-eq-of-lt h)
+
+later-words : (w : ℕ) (ws : List ℕ) (k : ℕ) → has ws k ≡ has (w ∷ ws) (64 + k)
+later-words w ws k =
+    let d : (64 + k) / 64 ≡ suc (k / 64) = omega arith in
+    let m : (64 + k) % 64 ≡ k % 64 = omega arith in
+    rw (d, m)
+
+pub count-tally : (ws : List ℕ) → Words ws → count ws ≡ tally (has ws) (64 * length ws)
+unfolding count tally
+count-tally [] s = refl
+count-tally (w ∷ ws) s =
+    let e : 64 * suc (length ws) ≡ 64 + 64 * length ws = omega arith in
+    rw (
+      e,
+      tally-add (has (w ∷ ws)) 64 (64 * length ws),
+      ones-tally 64 w (s 0),
+      count-tally ws (λ i. s (suc i)),
+      tally-same (on w) (has (w ∷ ws)) 64 (first-word w ws),
+      tally-same (has ws) (λ k. has (w ∷ ws) (64 + k)) (64 * length ws) (λ k l. later-words w ws k),
+    )
+
+-- ---- the next member
+
+-- r is the least number from v on of which p holds
+pub record Found (p : ℕ → Bool) (v r : ℕ) : Type 0 where
+  pub member : p r ≡ true
+  pub notBelow : v ≤ r
+  pub between : (x : ℕ) → v ≤ x → x < r → p x ≡ false
+
+-- p holds of no number from v on, and r is z
+pub record Missing (p : ℕ → Bool) (z v r : ℕ) : Type 0 where
+  pub limit : r ≡ z
+  pub beyond : (x : ℕ) → v ≤ x → p x ≡ false
+
+-- one number more in front
+in-front : (p : ℕ → Bool) (z v r : ℕ) (b : Bool) → p v ≡ b → Found p (suc v) r ⊎ Missing p z (suc v) r
+    → Found p v (cond b v r) ⊎ Missing p z v (cond b v r)
+in-front p z v r true e later = inl record { member = e; notBelow = omega arith; between = λ x l m. absurd (omega arith) }
+in-front p z v r false e later = ⊎-elim
+    (λ f. inl record { member = f .member; notBelow = omega (arith, f .notBelow); between = λ x l m. or-above x l (λ k. f .between x k m) })
+    (λ f. inr record { limit = f .limit; beyond = λ x l. or-above x l (f .beyond x) })
+    later where
+      or-above : (x : ℕ) → v ≤ x → (suc v ≤ x → p x ≡ false) → p x ≡ false
+      or-above x l above = elim (ℕ-discrete x v) [ yes same ↦ rw same e | no n ↦ above (omega arith) ]
+
+first-is : (p : ℕ → Bool) (z : ℕ) → ((x : ℕ) → z ≤ x → p x ≡ false) → (n v : ℕ) → z ≤ v + n
+    → Found p v (firstFrom p z n v) ⊎ Missing p z v (firstFrom p z n v)
+unfolding firstFrom
+first-is p z past zero v h = inr record { limit = refl; beyond = λ x l. past x (omega arith) }
+first-is p z past (suc n) v h = in-front p z v (firstFrom p z n (suc v)) (p v) refl (first-is p z past n (suc v) (omega arith))
+
+pub next-is : (ws : List ℕ) (v : ℕ) → Found (has ws) v (next ws v) ⊎ Missing (has ws) (64 * length ws) v (next ws v)
+next-is ws v = first-is (has ws) (64 * length ws) (has-past ws) (64 * length ws - v) v (omega arith)
+
+-- ---- sets, as loops carry them
+
+pub empty-has : has (emptySet .words) ≡ (λ x. false)
+empty-has = fun-ext (has-empty wordCount)
+
+pub inserted-has : (s : VertexSet) (v : ℕ) → length (s .words) ≡ wordCount → v < 64 * wordCount → has (inserted s v .words) ≡ with (has (s .words)) v
+inserted-has s v l h = has-insert (s .words) v (omega arith)
+
+pub inserted-length : (s : VertexSet) (v : ℕ) → length (s .words) ≡ wordCount → length (inserted s v .words) ≡ wordCount
+inserted-length s v l = simp length-set l
+
+pub wordwise-length : (f : ℕ → ℕ → ℕ) (s t : VertexSet) → length (s .words) ≡ wordCount → length (t .words) ≡ wordCount → length (wordwise f s t .words) ≡ wordCount
+wordwise-length f s t l m = length-zip f _ _ (l ∙ sym m) ∙ l

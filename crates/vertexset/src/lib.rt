@@ -1,0 +1,102 @@
+// A set of vertices (a set of boxes), by value: one bit for each vertex, 64 to a word.
+ghost use mathlib.Core.Path.{_≡_};
+ghost use lib.Bits.{bitOr};
+ghost use Rattle.vertexset.specs.Set.{has, emptySet, inserted, count, wordwise, less, none, within, next};
+
+pub struct VertexSet {
+    pub words: [u64; VertexSet::WORDS],
+}
+
+impl VertexSet {
+    // as many as `wordCount` in the definitions
+    pub const WORDS: usize = 2;
+    // the vertices 0 to CAPACITY - 1 can be members
+    pub const CAPACITY: u16 = 64 * VertexSet::WORDS as u16;
+
+    pub fn empty() -> Self
+        ensures { λ r. ⌜ r ≡ emptySet ⌝ }
+    {
+        VertexSet {
+            words: [0u64; VertexSet::WORDS],
+        }
+    }
+
+    pub fn contains(self, v: u16) -> bool
+        ensures { λ r. ⌜ r ≡ has (self .words) v ⌝ }
+    {
+        if v < VertexSet::CAPACITY {
+            (self.words[(v / 64) as usize] >> (v % 64)) % 2 == 1
+        } else {
+            false
+        }
+    }
+
+    // Nothing changes where v is past the words.
+    pub fn insert(mut self, v: u16) -> Self
+        ensures { λ r. ⌜ r ≡ inserted self v ⌝ }
+    {
+        if v < VertexSet::CAPACITY {
+            self.words[(v / 64) as usize] |= 1u64 << (v % 64);
+        }
+        self
+    }
+
+    pub fn size(self) -> u16
+        ensures { λ r. ⌜ r ≡ count (self .words) ⌝ }
+    {
+        let mut n: u16 = 0;
+        for i in 0..VertexSet::WORDS {
+            n += u64::count_ones(self.words[i]) as u16;
+        }
+        n
+    }
+
+    pub fn union(mut self, other: VertexSet) -> Self
+        ensures { λ r. ⌜ r ≡ wordwise bitOr self other ⌝ }
+    {
+        for i in 0..VertexSet::WORDS {
+            self.words[i] |= other.words[i];
+        }
+        self
+    }
+
+    pub fn minus(mut self, other: VertexSet) -> Self
+        ensures { λ r. ⌜ r ≡ wordwise less self other ⌝ }
+    {
+        for i in 0..VertexSet::WORDS {
+            self.words[i] ^= self.words[i] & other.words[i];
+        }
+        self
+    }
+
+    pub fn is_empty(self) -> bool
+        ensures { λ r. ⌜ r ≡ none (self .words) ⌝ }
+    {
+        for i in 0..VertexSet::WORDS {
+            if self.words[i] != 0 {
+                return false;
+            }
+        }
+        true
+    }
+
+    pub fn subset(self, other: VertexSet) -> bool
+        ensures { λ r. ⌜ r ≡ within (self .words) (other .words) ⌝ }
+    {
+        self.minus(other).is_empty()
+    }
+
+    // The least member that is not below v, or CAPACITY where there is none.
+    pub fn next_from(self, v: u16) -> u16
+        ensures { λ r. ⌜ r ≡ next (self .words) v ⌝ }
+    {
+        let mut at = v;
+        while at < VertexSet::CAPACITY {
+            if self.contains(at) {
+                return at;
+            }
+            at += 1;
+        }
+        VertexSet::CAPACITY
+    }
+}

@@ -1,0 +1,689 @@
+// Test cases from a seed: plans of many families, certificates good and bad, damaged records, scripts of session calls.
+use crate::reference::*;
+
+/// One call of a session, with the part handed in.
+#[derive(Clone, Debug)]
+pub enum Call {
+    Start(Vec<u8>),
+    Path(Vec<u8>),
+    Close,
+}
+
+/// An opening and the calls after it.
+#[derive(Clone, Debug)]
+pub struct Script {
+    pub plan: Vec<u8>,
+    pub calls: Vec<Call>,
+}
+
+/// Several cases are drawn from one plan and its certificate before the next plan is made.
+pub struct Generator {
+    random: Random,
+    plan: Plan,
+    certificate: Certificate,
+    left: usize,
+}
+
+const CASES_A_PLAN: usize = 12;
+
+impl Generator {
+    pub fn new(seed: u64) -> Generator {
+        let certificate = Certificate::Side { side: vec![0] };
+        Generator { random: Random::new(seed), plan: Plan { n: 4, edges: vec![] }, certificate, left: 0 }
+    }
+
+    fn turn(&mut self) {
+        if self.left == 0 {
+            self.plan = any_plan(&mut self.random);
+            self.certificate = certify_with(&self.plan, &mut self.random);
+            self.left = CASES_A_PLAN;
+        }
+        self.left -= 1;
+    }
+
+    /// A plan record, about one in three of them good.
+    pub fn plan_record(&mut self) -> Vec<u8> {
+        let plan = any_plan(&mut self.random);
+        if self.random.chance(35) {
+            encode_plan(&plan)
+        } else {
+            damaged_plan(&plan, &mut self.random)
+        }
+    }
+
+    /// A plan record and a certificate record.
+    pub fn case(&mut self) -> (Vec<u8>, Vec<u8>) {
+        self.turn();
+        let random = &mut self.random;
+        let items = self.certificate.items();
+        let plan = encode_plan(&self.plan);
+        match random.below(100) {
+            0..=9 => (plan, encode_items(&items)),
+            10..=15 => {
+                // Another certificate of the same plan; large plans keep theirs, for time.
+                if self.plan.n <= 24 {
+                    self.certificate = certify_with(&self.plan, random);
+                }
+                (plan, encode_certificate(&self.certificate))
+            }
+            16..=20 => (damaged_plan(&self.plan, random), encode_items(&items)),
+            21..=28 => (plan, damaged_bytes(encode_items(&items), random)),
+            29..=40 => (plan, damaged_numbers(&items.concat(), self.plan.n, random)),
+            41..=42 => (plan, damaged_bytes(damaged_numbers(&items.concat(), self.plan.n, random), random)),
+            43..=62 => (plan, encode_items(&damaged_items(items, &self.plan, random))),
+            63..=72 => (plan, encode_certificate(&other_kind(&self.plan, random))),
+            73..=78 => {
+                let other = other_kind(&self.plan, random);
+                (plan, damaged_numbers(&other.items().concat(), self.plan.n, random))
+            }
+            79..=82 => (plan, encode_items(&damaged_items(other_kind(&self.plan, random).items(), &self.plan, random))),
+            83..=92 => {
+                let (plan, items) = altered(&self.plan, &self.certificate, random);
+                let record = encode_items(&items);
+                (encode_plan(&plan), if random.chance(20) { damaged_bytes(record, random) } else { record })
+            }
+            _ => (plan, small_bytes(self.plan.n, random)),
+        }
+    }
+
+    /// An opening and a list of calls: good and damaged parts, wrong order, repeats.
+    pub fn script(&mut self) -> Script {
+        self.turn();
+        let random = &mut self.random;
+        let (plan, items) = match (&self.certificate, random.below(10)) {
+            (Certificate::Build { .. }, 0..=6) => (self.plan.clone(), self.certificate.items()),
+            (Certificate::Build { .. }, 7..=8) => altered(&self.plan, &self.certificate, random),
+            _ => (self.plan.clone(), build_attempt(&self.plan, random).items()),
+        };
+        let record = if random.chance(5) { damaged_plan(&plan, random) } else { encode_plan(&plan) };
+        Script { plan: record, calls: calls(&plan, &items, random) }
+    }
+}
+
+fn calls(plan: &Plan, items: &[Vec<usize>], random: &mut Random) -> Vec<Call> {
+    let mut calls = Vec::new();
+    let trailing = random.chance(50);
+    // The part for items[from..to], with the rest of the record after it or not.
+    let part = |from: usize, to: usize| encode_items(&items[from..if trailing { items.len() } else { to.min(items.len()) }]);
+    let first = items.len().min(8);
+    for _ in 0..random.below(3) {
+        calls.push(match random.below(4) {
+            0 => Call::Path(part(first, first + 1)),
+            1 => Call::Close,
+            2 => Call::Start(encode_items(&damaged_items(items[1..first].to_vec(), plan, random))),
+            _ => Call::Start(damaged_numbers(&items[1..first].concat(), plan.n, random)),
+        });
+    }
+    if !random.chance(2) {
+        calls.push(Call::Start(part(1, first)));
+    }
+    for index in first..items.len() {
+        match random.below(40) {
+            0 => calls.push(Call::Start(part(1, first))),
+            1 => calls.push(Call::Close),
+            2 | 3 => calls.push(Call::Path(damaged_numbers(&items[index], plan.n, random))),
+            4 | 5 => calls.push(Call::Path(encode_items(&[random_walk(plan, random)]))),
+            6 => calls.push(Call::Path(damaged_bytes(part(index, index + 1), random))),
+            7 if random.chance(20) => continue,
+            8 => calls.push(Call::Path(encode_items(&[random.pick(&items[2..]).clone()]))),
+            _ => {}
+        }
+        calls.push(Call::Path(part(index, index + 1)));
+    }
+    for _ in 0..random.within(1, 4) {
+        calls.push(match random.below(4) {
+            0 => Call::Path(encode_items(&[random_walk(plan, random)])),
+            1 => Call::Start(part(1, first)),
+            _ => Call::Close,
+        });
+    }
+    calls
+}
+
+// ---------------------------------------------------------------- plans
+
+fn vertex_count(random: &mut Random) -> usize {
+    match random.below(100) {
+        0..=49 => random.within(4, 7),
+        50..=79 => random.within(8, 14),
+        80..=94 => random.within(15, 40),
+        95..=98 => random.within(41, 127),
+        _ => 128,
+    }
+}
+
+/// A plan of one of the families, numbered at random, sometimes with a few edges changed.
+pub fn any_plan(random: &mut Random) -> Plan {
+    let n = vertex_count(random);
+    let (n, mut edges) = family(n, random);
+    if random.chance(25) {
+        for _ in 0..random.within(1, 3) {
+            if random.chance(50) || edges.is_empty() {
+                edges.push(random_edge(n, random));
+            } else {
+                edges.swap_remove(random.below(edges.len()));
+            }
+        }
+    }
+    let mut labels: Vec<usize> = (0..n).collect();
+    if random.chance(80) {
+        random.shuffle(&mut labels);
+    }
+    let mut plan = Plan::new(n, edges.iter().map(|&(a, b)| (labels[a], labels[b])));
+    while plan.edges.len() > MOST_EDGES {
+        plan.edges.remove(random.below(plan.edges.len()));
+    }
+    plan
+}
+
+fn random_edge(n: usize, random: &mut Random) -> (usize, usize) {
+    let a = random.below(n);
+    (a, (a + random.within(1, n - 1)) % n)
+}
+
+fn random_edges(n: usize, count: usize, random: &mut Random) -> Vec<(usize, usize)> {
+    (0..count).map(|_| random_edge(n, random)).collect()
+}
+
+fn random_tree(n: usize, random: &mut Random) -> Vec<(usize, usize)> {
+    let near = random.chance(50);
+    (1..n).map(|v| (if near { v - 1 - random.below(v.min(3)) } else { random.below(v) }, v)).collect()
+}
+
+fn cycle(n: usize) -> Vec<(usize, usize)> {
+    (0..n).map(|v| (v, (v + 1) % n)).collect()
+}
+
+fn complete(n: usize) -> Vec<(usize, usize)> {
+    (0..n).flat_map(|b| (0..b).map(move |a| (a, b))).collect()
+}
+
+fn family(n: usize, random: &mut Random) -> (usize, Vec<(usize, usize)>) {
+    let pairs = n * (n - 1) / 2;
+    match random.below(16) {
+        // Random, from empty to full.
+        0 => (n, random_edges(n, random.within(0, pairs.min(MOST_EDGES)), random)),
+        // Sparse: about as many edges as vertices.
+        1 => (n, random_edges(n, random.within(n / 2, 2 * n), random)),
+        // A tree with a few more edges.
+        2 => (n, [random_tree(n, random), random_edges(n, random.below(4), random)].concat()),
+        // A Hamilton cycle with chords: about cubic, then denser.
+        3 => (n, [cycle(n), random_matching(n, random)].concat()),
+        4 => (n, [cycle(n), random_matching(n, random), random_edges(n, random.below(n), random)].concat()),
+        5 => (n, [cycle(n), random_edges(n, random.below(n), random)].concat()),
+        // A wheel.
+        6 => (n, [cycle(n - 1), (0..n - 1).map(|v| (v, n - 1)).collect()].concat()),
+        // A prism, at times twisted.
+        7 => prism((n / 2).max(3), random.chance(30)),
+        8 => grid(n, random),
+        9 => (n.min(33), complete(n.min(33))),
+        10 => bipartite(n, random),
+        // Planted: two or more dense pieces that share 0, 1, 2 or 3 vertices.
+        11..=13 => pieces(n, random),
+        // Half of the pairs or more.
+        14 => (n.min(40), complete(n.min(40)).into_iter().filter(|_| random.chance(70)).collect()),
+        // At the limits.
+        _ => match random.below(12) {
+            0 => (MOST_VERTICES, [cycle(128), random_edges(128, 600, random)].concat()),
+            4 => (MOST_VERTICES, [cycle(128), random_edges(128, random.below(4), random)].concat()),
+            1 => (33, complete(33)),
+            2 => (MOST_VERTICES, random_tree(128, random)),
+            3 => (MOST_VERTICES, Vec::new()),
+            _ => (n, random_edges(n, pairs.min(MOST_EDGES) * 3, random)),
+        },
+    }
+}
+
+fn random_matching(n: usize, random: &mut Random) -> Vec<(usize, usize)> {
+    let mut order: Vec<usize> = (0..n).collect();
+    random.shuffle(&mut order);
+    order.chunks(2).filter(|pair| pair.len() == 2).map(|pair| (pair[0], pair[1])).collect()
+}
+
+fn prism(half: usize, twisted: bool) -> (usize, Vec<(usize, usize)>) {
+    let mut edges = Vec::new();
+    for v in 0..half {
+        let next = (v + 1) % half;
+        let (top, bottom) = if twisted && next == 0 { (half, 0) } else { (next, half + next) };
+        edges.extend([(v, half + v), (v, top), (half + v, bottom)]);
+    }
+    (2 * half, edges)
+}
+
+fn grid(n: usize, random: &mut Random) -> (usize, Vec<(usize, usize)>) {
+    let width = random.within(2, 8.min(n / 2));
+    let height = n / width;
+    let around = random.chance(50);
+    let mut edges = Vec::new();
+    for y in 0..height {
+        for x in 0..width {
+            if x + 1 < width || around && width > 2 {
+                edges.push((y * width + x, y * width + (x + 1) % width));
+            }
+            if y + 1 < height || around && height > 2 && random.chance(80) {
+                edges.push((y * width + x, (y + 1) % height * width + x));
+            }
+        }
+    }
+    (width * height, edges)
+}
+
+fn bipartite(n: usize, random: &mut Random) -> (usize, Vec<(usize, usize)>) {
+    let left = random.within(1, 4.min(n - 1));
+    (n, (0..left).flat_map(|a| (left..n).map(move |b| (a, b))).collect())
+}
+
+/// A chain of dense pieces, each sharing a few vertices with what came before.
+fn pieces(n: usize, random: &mut Random) -> (usize, Vec<(usize, usize)>) {
+    let mut edges = Vec::new();
+    let mut made = 0;
+    while made < n {
+        let size = random.within(1, n - made);
+        let shared = if made == 0 { 0 } else { random.below(4).min(made) };
+        let mut members: Vec<usize> = (0..made).collect();
+        random.shuffle(&mut members);
+        members.truncate(shared);
+        members.extend(made..made + size);
+        let percent = if size > 20 { 10 } else { random.within(60, 100) };
+        for (a, b) in complete(members.len()) {
+            if b == a + 1 || random.chance(percent) {
+                edges.push((members[a], members[b]));
+            }
+        }
+        made += size;
+    }
+    (n, edges)
+}
+
+// ---------------------------------------------------------------- damage to bytes and numbers
+
+fn boundary(n: usize, random: &mut Random) -> usize {
+    *random.pick(&[0, 1, 2, 3, 4, n - 2, n - 1, n, n + 1, 127, 128, 129, 255, 256, 511, 512, 513, 16383])
+}
+
+fn damaged_bytes(mut bytes: Vec<u8>, random: &mut Random) -> Vec<u8> {
+    let at = random.below(bytes.len() + 1);
+    let byte = if random.chance(50) { random.below(8) as u8 } else { random.next() as u8 };
+    match random.below(7) {
+        0 if at < bytes.len() => bytes[at] = byte,
+        1 => bytes.insert(at, byte),
+        2 if at < bytes.len() => drop(bytes.remove(at)),
+        3 => bytes.truncate(at),
+        4 => (0..random.within(1, 3)).for_each(|_| bytes.push(byte)),
+        5 => {
+            // The first byte of two, and no second.
+            bytes.truncate(at);
+            bytes.push(byte | 128);
+        }
+        _ => {
+            let copy = bytes[at..(at + random.within(1, 4)).min(bytes.len())].to_vec();
+            bytes.splice(at..at, copy);
+        }
+    }
+    bytes
+}
+
+/// Damage to one, two or three numbers of a record, padded and over-long forms among it.
+fn damaged_numbers(numbers: &[usize], n: usize, random: &mut Random) -> Vec<u8> {
+    let mut forms: Vec<Vec<u8>> = numbers.iter().map(|&value| encode_number(value)).collect();
+    for _ in 0..*random.pick(&[1, 1, 1, 2, 3]) {
+        // Half of the damage near the front, where the counts are.
+        let limit = if random.chance(50) { forms.len().min(12) } else { forms.len() };
+        let at = random.below(limit.max(1));
+        if at >= forms.len() {
+            return encode_number(boundary(n, random));
+        }
+        let first = forms[at][0];
+        match random.below(10) {
+            0 => forms[at] = vec![first | 128, 0],
+            1 => forms[at] = vec![first | 128, random.within(128, 255) as u8, random.below(3) as u8],
+            2 => {
+                let other = random.below(forms.len());
+                forms.swap(at, other);
+            }
+            3 => drop(forms.remove(at)),
+            4 => forms.insert(at, encode_number(random.below(n))),
+            5 => forms.insert(at, forms[at].clone()),
+            6 | 7 => forms[at] = encode_number(random.below(n)),
+            _ => forms[at] = encode_number(boundary(n, random)),
+        }
+    }
+    forms.concat()
+}
+
+fn damaged_plan(plan: &Plan, random: &mut Random) -> Vec<u8> {
+    let n = plan.n;
+    let mut edges = plan.edges.clone();
+    match random.below(15) {
+        0..=3 => return damaged_bytes(encode_plan(plan), random),
+        4..=7 => return damaged_numbers(&plan_numbers(n, &edges), n, random),
+        14 => return damaged_bytes(damaged_numbers(&plan_numbers(n, &edges), n, random), random),
+        8 if edges.len() > 1 => {
+            let (i, j) = (random.below(edges.len()), random.below(edges.len()));
+            edges.swap(i, j);
+        }
+        9 if !edges.is_empty() => {
+            let at = random.below(edges.len());
+            edges.insert(at, edges[at]);
+        }
+        10 if !edges.is_empty() => {
+            let at = random.below(edges.len());
+            edges[at] = (edges[at].1, edges[at].0);
+        }
+        11 => {
+            // At the limit or a few edges above it, all of them in order.
+            let many = random.within(MOST_EDGES, MOST_EDGES + 8);
+            let mut edges = complete(128)[..many].to_vec();
+            edges.sort();
+            return encode_edges(128, &edges);
+        }
+        // Too few or too many vertices; isolated vertices are no fault.
+        12 => {
+            return encode_edges(*random.pick(&[0, 1, 2, 3, 128, 129, 130, 256, 16383]), &edges);
+        }
+        _ => edges.push(random_edge(n + 1, random)),
+    }
+    encode_edges(n, &edges)
+}
+
+/// A kind and then mostly small numbers.
+fn small_bytes(n: usize, random: &mut Random) -> Vec<u8> {
+    let mut bytes = vec![random.below(5) as u8];
+    for _ in 0..random.below(30) {
+        bytes.push(if random.chance(97) { random.below(n) as u8 } else { random.next() as u8 });
+    }
+    bytes
+}
+
+// ---------------------------------------------------------------- damage to items
+
+/// Two to six vertices along edges, as a path is written.
+fn random_walk(plan: &Plan, random: &mut Random) -> Vec<usize> {
+    let neighbours = plan.neighbours();
+    let mut walk = vec![random.below(plan.n)];
+    let length = random.within(2, 6.min(plan.n));
+    while walk.len() < length {
+        let near = &neighbours[walk[walk.len() - 1]];
+        let ahead: Vec<usize> = near.iter().copied().filter(|v| !walk.contains(v) || random.chance(10)).collect();
+        if ahead.is_empty() {
+            break;
+        }
+        walk.push(*random.pick(&ahead));
+    }
+    walk.insert(0, walk.len());
+    walk
+}
+
+/// Faults that keep the record's form: paths turned, moved, doubled, left out, lengthened, cut, closed; sides changed.
+fn damaged_items(mut items: Vec<Vec<usize>>, plan: &Plan, random: &mut Random) -> Vec<Vec<usize>> {
+    if items.len() < 2 {
+        return vec![random_walk(plan, random)];
+    }
+    let at = random.within(1, items.len() - 1);
+    let other = random.within(1, items.len() - 1);
+    let last = items[at].len() - 1;
+    match random.below(18) {
+        0 => items[at][1..].reverse(),
+        1 => items.swap(at, other),
+        2 => items.insert(other, items[at].clone()),
+        3 => left_out(&mut items, at),
+        4 => items[at] = random_walk(plan, random),
+        5 => items.insert(at, random_walk(plan, random)),
+        6 if last > 2 => {
+            items[at].pop();
+            items[at][0] = last - 1;
+        }
+        7 => {
+            // One vertex more at the end, a neighbour if there is one.
+            let from = items[at][last];
+            let near: Vec<usize> = (0..plan.n).filter(|&v| plan.adjacent(v, from)).collect();
+            items[at].push(if near.is_empty() { from } else { *random.pick(&near) });
+            items[at][0] = last + 1;
+        }
+        8 if last > 1 => items[at][last] = items[at][1],
+        9 | 10 => changed_side(&mut items, plan.n, random),
+        11 | 12 => offered(&mut items, plan, random),
+        13 => {
+            let item = items.remove(at);
+            items.insert(other, item);
+        }
+        14 => closed(&mut items[at], plan),
+        15 | 16 => {
+            let long: Vec<usize> = (1..items.len()).filter(|&i| items[i].len() > 3).collect();
+            turned_back(&mut items[if long.is_empty() { at } else { *random.pick(&long) }], plan, random);
+        }
+        _ => {
+            let place = random.below(items[at].len());
+            items[at][place] = random.below(plan.n);
+        }
+    }
+    items
+}
+
+/// Leaves an item out; an ear with its count.
+fn left_out(items: &mut Vec<Vec<usize>>, at: usize) {
+    items.remove(at);
+    if items[0] == [2] && at >= 3 && items.len() > 4 {
+        items[2][0] -= 1;
+    }
+}
+
+/// Goes on from the last vertex of a path to its first, if they are adjacent: equal ends, every step an edge.
+fn closed(item: &mut Vec<usize>, plan: &Plan) {
+    let last = item.len() - 1;
+    if last > 2 && item[0] == last && plan.adjacent(item[1], item[last]) {
+        item.push(item[1]);
+        item[0] += 1;
+    }
+}
+
+/// Within a path one step along an edge and back: a vertex twice, every step an edge.
+fn turned_back(item: &mut Vec<usize>, plan: &Plan, random: &mut Random) {
+    let at = random.below(item.len());
+    let near: Vec<usize> = (0..plan.n).filter(|&v| plan.adjacent(v, item[at])).collect();
+    if at > 0 && item[0] == item.len() - 1 && !near.is_empty() {
+        let step = if at + 1 < item.len() && random.chance(50) { item[at + 1] } else { *random.pick(&near) };
+        item.splice(at + 1..at + 1, [step, item[at]]);
+        item[0] += 2;
+    }
+}
+
+/// Another side for kinds 0 to 2: empty, everything but the removed vertices, the other part, one vertex more or fewer.
+fn changed_side(items: &mut [Vec<usize>], n: usize, random: &mut Random) {
+    let kind = items[0][0];
+    if kind > 2 || items.len() < 2 {
+        return;
+    }
+    let removed = if kind == 0 { vec![] } else { items[1].clone() };
+    let index = items.len() - 1;
+    let mut side: Vec<usize> = items[index][1..].to_vec();
+    match random.below(7) {
+        0 => side.clear(),
+        1 => side = (0..n).filter(|v| !removed.contains(v)).collect(),
+        2 => side = (0..n).filter(|v| !removed.contains(v) && !side.contains(v)).collect(),
+        3 => side = (0..n).filter(|v| !side.contains(v)).collect(),
+        4 if !side.is_empty() => drop(side.remove(random.below(side.len()))),
+        5 => side.push(random.below(n)),
+        _ => side = (0..n).collect(),
+    }
+    if random.chance(90) {
+        side.sort();
+        side.dedup();
+    }
+    side.insert(0, side.len());
+    items[index] = side;
+}
+
+/// Kind 3: in the midst of the paths, one from the build through vertices outside it and back, whether or not one link holds both ends.
+fn offered(items: &mut Vec<Vec<usize>>, plan: &Plan, random: &mut Random) {
+    if items[0] != [3] || items.len() < 8 || items[1].len() != 4 {
+        return;
+    }
+    let stop = random.within(8, items.len());
+    let mut build = Build::new(plan.n, &items[1]);
+    for item in &items[2..stop] {
+        build.take(item[1..].to_vec());
+    }
+    let inside: Vec<usize> = (0..plan.n).filter(|&v| build.inside[v]).collect();
+    let from = *random.pick(&inside);
+    let mut goal = build.inside.clone();
+    goal[from] = false;
+    if let Ok(mut path) = search(&plan.neighbours(), &[from], &goal, &vec![false; plan.n], random) {
+        path.insert(0, path.len());
+        if random.chance(50) && stop < items.len() {
+            items[stop] = path;
+        } else {
+            items.insert(stop, path);
+        }
+    }
+}
+
+// ---------------------------------------------------------------- certificates of another kind
+
+/// A certificate of any kind, made as well as the plan lets it; most are refused late.
+fn other_kind(plan: &Plan, random: &mut Random) -> Certificate {
+    let neighbours = plan.neighbours();
+    let mut vertices: Vec<usize> = (0..plan.n).collect();
+    random.shuffle(&mut vertices);
+    match random.below(4) {
+        0 => {
+            let mut side = vertices[..random.within(0, plan.n)].to_vec();
+            side.sort();
+            Certificate::Side { side }
+        }
+        1 => {
+            let (root, mut pairs) = tree(&neighbours, random);
+            while pairs.len() + 1 < plan.n {
+                pairs.push(*random.pick(&[(vertices[0], vertices[1]), (vertices[1], root)]));
+            }
+            let side = side_without(&neighbours, &vertices[..1], random);
+            Certificate::Tree { removed: vertices[0], root, pairs, side }
+        }
+        2 => {
+            let ears = ears_attempt(&neighbours, random);
+            let mut removed = [vertices[0], vertices[1]];
+            removed.sort();
+            let side = side_without(&neighbours, &removed, random);
+            Certificate::Ears { removed, ears, side }
+        }
+        _ => build_attempt(plan, random),
+    }
+}
+
+/// Ears as far as they go. Where a cut vertex stops them a closed one, with equal ends, may stand in.
+fn ears_attempt(neighbours: &[Vec<usize>], random: &mut Random) -> Vec<Vec<usize>> {
+    let n = neighbours.len();
+    let mut reached = vec![false; n];
+    let mut ears: Vec<Vec<usize>> = Vec::new();
+    for _ in 0..3 * n {
+        let from = random.below(n);
+        if neighbours[from].is_empty() || !ears.is_empty() && !reached[from] || ears.len() == n - 2 {
+            continue;
+        }
+        let step = *random.pick(&neighbours[from]);
+        if reached[step] {
+            continue;
+        }
+        let mut goal = if ears.is_empty() { marks(n, &neighbours[from]) } else { reached.clone() };
+        goal[from] = false;
+        goal[step] = false;
+        let mut ear = vec![from];
+        match search(neighbours, &[step], &goal, &marks(n, &[from]), random) {
+            Ok(path) => ear.extend(path),
+            Err(_) if ears.is_empty() => continue,
+            Err(_) => {
+                let mut goal = marks(n, &neighbours[from]);
+                goal[step] = false;
+                let Ok(path) = search(neighbours, &[step], &goal, &marks(n, &[from]), random) else { continue };
+                ear.extend(path);
+                ear.push(from);
+            }
+        }
+        ear.iter().for_each(|&v| reached[v] = true);
+        ears.push(ear);
+    }
+    if ears.is_empty() {
+        ears.push(vec![0, 1, 2]);
+    }
+    ears
+}
+
+/// A kind 3 certificate with as many paths as the plan asks for, filled up with walks where no BG-path is found.
+fn build_attempt(plan: &Plan, random: &mut Random) -> Certificate {
+    let neighbours = plan.neighbours();
+    let further = plan.further_paths().unwrap_or(0);
+    let two_connected = plan.n <= 24 && connectivity_by_low_points(plan) >= 2;
+    let begun = if two_connected { (0..4).find_map(|_| start(&neighbours, random).ok()) } else { None };
+    let Some((four, mut paths)) = begun else {
+        let walks = (0..6 + further.min(3)).map(|_| random_walk(plan, random)[1..].to_vec());
+        return Certificate::Build { four: [0, 1, 2, 3], paths: walks.collect() };
+    };
+    let mut build = Build::new(plan.n, &four);
+    paths.iter().for_each(|path| build.take(path.clone()));
+    for _ in 0..further {
+        match (0..6).find_map(|_| any_bg_path(&neighbours, &build, random)) {
+            Some(path) => {
+                build.take(path.clone());
+                paths.push(path);
+            }
+            None => paths.push(random_walk(plan, random)[1..].to_vec()),
+        }
+    }
+    Certificate::Build { four, paths }
+}
+
+// ---------------------------------------------------------------- plans altered under a certificate
+
+/// The plan with one edge or vertex more or fewer, and its old certificate, at times fitted to the change.
+fn altered(plan: &Plan, certificate: &Certificate, random: &mut Random) -> (Plan, Vec<Vec<usize>>) {
+    let mut items = certificate.items();
+    let mut plan = plan.clone();
+    let room = plan.n < MOST_VERTICES && plan.edges.len() < MOST_EDGES;
+    match random.below(7) {
+        0 if !plan.edges.is_empty() => drop(plan.edges.remove(random.below(plan.edges.len()))),
+        1 if room => {
+            let edge = random_edge(plan.n, random);
+            plan = Plan::new(plan.n, plan.edges.iter().copied().chain([edge]));
+        }
+        2 | 3 if room && !plan.edges.is_empty() => {
+            // A new vertex in the middle of an edge, in the plan and in every path over it.
+            let (a, b) = plan.edges.remove(random.below(plan.edges.len()));
+            let new = plan.n;
+            plan = Plan::new(new + 1, plan.edges.iter().copied().chain([(a, new), (b, new)]));
+            for item in items.iter_mut().skip(2).filter(|item| item.len() > 2) {
+                let over = (1..item.len() - 1).find(|&i| (item[i], item[i + 1]) == (a, b) || (item[i + 1], item[i]) == (a, b));
+                if let Some(i) = over {
+                    item.insert(i + 1, new);
+                    item[0] += 1;
+                }
+            }
+        }
+        4 if room => {
+            // A new vertex with one edge.
+            let new = plan.n;
+            let edge = (random.below(new), new);
+            plan = Plan::new(new + 1, plan.edges.iter().copied().chain([edge]));
+        }
+        5 if plan.n < MOST_VERTICES => {
+            // A new vertex without an edge: one path fewer.
+            plan.n += 1;
+            if items[0] == [3] && items.len() > 8 {
+                items.pop();
+            }
+        }
+        _ => {
+            let (a, b) = random_edge(plan.n, random);
+            let swap = |v: usize| {
+                if v == a {
+                    b
+                } else if v == b {
+                    a
+                } else {
+                    v
+                }
+            };
+            plan = Plan::new(plan.n, plan.edges.iter().map(|&(c, d)| (swap(c), swap(d))));
+        }
+    }
+    (plan, items)
+}

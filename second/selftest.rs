@@ -1,0 +1,329 @@
+// Tries the second implementation: recorded answers, figures for small plans, generated cases.
+//   selftest vectors PROGRAM SESSIONS   recorded answers of the checking program and of sessions
+//   selftest barns                      the cases that document 01 names
+//   selftest figures [7]                every plan on 4, 5 and 6 vertices (or 7): certify, check and connectivity agree
+//   selftest certify COUNT SEED         the same for plans of every family, certificates chosen at random
+//   selftest outcomes COUNT SEED        generated cases; every refusal and every grade must occur
+#![allow(dead_code)]
+mod generate;
+mod reference;
+
+use generate::{any_plan, Call, Generator, Script};
+use reference::*;
+use std::collections::BTreeMap;
+use std::process::exit;
+
+fn main() {
+    let arguments: Vec<String> = std::env::args().skip(1).collect();
+    let words: Vec<&str> = arguments.iter().map(String::as_str).collect();
+    let number = |word: &str| word.parse::<u64>().expect("a number");
+    let right = match words[..] {
+        ["vectors", program, sessions] => program_vectors(program) & session_vectors(sessions),
+        ["barns"] => barns(),
+        ["figures"] => figures(6),
+        ["figures", "7"] => figures(7),
+        ["certify", count, seed] => certify_all(number(count), number(seed)),
+        ["outcomes", count, seed] => outcomes(number(count), number(seed)),
+        _ => {
+            eprintln!("selftest vectors PROGRAM SESSIONS | barns | figures [7] | certify COUNT SEED | outcomes COUNT SEED");
+            false
+        }
+    };
+    exit(if right { 0 } else { 1 });
+}
+
+// ---------------------------------------------------------------- recorded answers
+
+fn bytes_of(hex: &str) -> Vec<u8> {
+    let hex = if hex == "-" { "" } else { hex };
+    (0..hex.len() / 2).map(|i| u8::from_str_radix(&hex[2 * i..2 * i + 2], 16).expect("hex")).collect()
+}
+
+/// Each line: standard input in hex, a tab, the printed line.
+fn program_vectors(file: &str) -> bool {
+    let text = std::fs::read_to_string(file).expect("program vectors");
+    let (mut count, mut differ) = (0, 0);
+    for line in text.lines() {
+        let (hex, expected) = line.split_once('\t').expect("a tab");
+        let given = program_line(&bytes_of(hex));
+        count += 1;
+        if given != expected {
+            differ += 1;
+            println!("{hex}: expected {expected}, given {given}");
+        }
+    }
+    println!("program: {count} compared, {differ} differ");
+    differ == 0
+}
+
+/// Blocks of lines: a call, " = ", its answer.
+fn session_vectors(file: &str) -> bool {
+    let text = std::fs::read_to_string(file).expect("session vectors");
+    let mut session = open(&[]).1;
+    let (mut count, mut differ) = (0, 0);
+    for line in text.lines().filter(|line| !line.is_empty()) {
+        let (call, expected) = line.split_once(" = ").expect("an answer");
+        let words: Vec<&str> = call.split(' ').collect();
+        let part = bytes_of(words.get(1).unwrap_or(&""));
+        let (answer, unread);
+        match words[0] {
+            "open" => ((answer, session), unread) = (open(&part), None),
+            "close" => ((answer, session), unread) = (session.close(), None),
+            "start" => {
+                let left;
+                (answer, session, left) = session.start(&part);
+                unread = Some(left);
+            }
+            _ => {
+                let left;
+                (answer, session, left) = session.path(&part);
+                unread = Some(left);
+            }
+        }
+        let given = session_line(answer, unread);
+        count += 1;
+        if given != expected {
+            differ += 1;
+            println!("{call}: expected {expected}, given {given}");
+        }
+    }
+    println!("sessions: {count} calls compared, {differ} differ");
+    differ == 0
+}
+
+fn session_line(answer: Answer, unread: Option<usize>) -> String {
+    match (answer, unread) {
+        (Answer::Accepted, None) => "ok".to_string(),
+        (Answer::Accepted, Some(left)) => format!("ok {left} left"),
+        (Answer::Grade(grade), _) => format!("grade {grade}"),
+        (Answer::PlanFault(number, place), _) => format!("plan {number} {place}"),
+        (Answer::CertificateFault(number, place), _) => format!("certificate {number} {place}"),
+    }
+}
+
+// ---------------------------------------------------------------- the cases of document 01
+
+fn numbers(words: &str) -> Vec<u8> {
+    words.split_whitespace().map(|word| word.parse().expect("a byte")).collect()
+}
+
+fn barns() -> bool {
+    const FIVE: &str = "5 10 0 1 0 2 0 3 0 4 1 2 1 3 1 4 2 3 2 4 3 4";
+    let cases = [
+        ("A", "4 6 0 1 0 2 0 3 1 2 1 3 2 3", "3 0 1 2 3 2 0 1 2 0 2 2 0 3 2 1 2 2 1 3 2 2 3", Answer::Grade(3)),
+        ("B", "4 5 0 1 0 2 0 3 1 2 1 3", "2 0 1 2 3 0 1 2 3 0 3 1 1 2", Answer::Grade(2)),
+        ("C", "4 5 0 1 0 2 0 3 1 2 1 3", "3", Answer::CertificateFault(29, 0)),
+        ("D", "4 3 0 1 1 2 2 3", "1 1 0 1 0 2 1 3 2 1 0", Answer::Grade(1)),
+        ("E", "4 0", "0 1 0", Answer::Grade(0)),
+        ("F", "4 0", "0 0", Answer::CertificateFault(22, 1)),
+        ("G", FIVE, "3 0 1 2 3 3 0 4 1 2 0 2 2 0 3 2 1 2 2 1 3 2 2 3 2 4 2 2 4 3 2 0 1", Answer::Grade(3)),
+        ("H", FIVE, "3 0 1 2 3 3 0 4 1 2 0 2 2 0 3 2 1 2 2 1 3 2 2 3 2 0 1 2 4 2 2 4 3", Answer::CertificateFault(27, 24)),
+        (
+            "I",
+            "5 7 0 2 0 3 0 4 1 2 1 3 1 4 2 3",
+            "3 0 1 2 3 3 0 4 1 2 0 2 2 0 3 2 1 2 2 1 3 2 2 3",
+            Answer::CertificateFault(28, 24),
+        ),
+        (
+            "0 4 1 beside the link 0 1",
+            FIVE,
+            "3 0 1 2 3 2 0 1 2 0 2 2 0 3 2 1 2 2 1 3 2 2 3 3 0 4 1",
+            Answer::CertificateFault(27, 23),
+        ),
+        ("no plan", "", "", Answer::PlanFault(1, 0)),
+        ("plan", "3 0", "0 1 0", Answer::PlanFault(3, 0)),
+        ("plan", "128 1 0", "0 1 0", Answer::Grade(0)),
+        ("plan", "129 1 0", "0 1 0", Answer::PlanFault(3, 0)),
+        ("plan", "132 0", "0 1 0", Answer::PlanFault(2, 0)),
+        ("plan", "4 129 4", "0 1 0", Answer::PlanFault(4, 1)),
+        ("plan", "4 1 1 1", "0 1 0", Answer::PlanFault(5, 2)),
+        ("plan", "4 2 0 1 0 1", "0 1 0", Answer::PlanFault(6, 4)),
+        ("plan", "4 0 0", "0 1 0", Answer::PlanFault(7, 2)),
+    ];
+    let mut right = program_line(&[numbers(cases[0].1), numbers(cases[0].2)].concat()) == "boxes 4 cables 6 grade 3";
+    for (name, plan, certificate, expected) in cases {
+        let given = check(&numbers(plan), &numbers(certificate));
+        if given != expected {
+            println!("{name}: {plan} with {certificate}: expected {expected:?}, given {given:?}");
+            right = false;
+        }
+    }
+    println!("{} cases, {}", cases.len(), if right { "all agree" } else { "DIFFERENT" });
+    right
+}
+
+// ---------------------------------------------------------------- certify, check, connectivity
+
+/// Every plan on 4 to `most` vertices, counted by connectivity.
+fn figures(most: usize) -> bool {
+    let expected = [[26, 28, 9, 1], [296, 490, 212, 26], [6064, 15336, 9600, 1768], [230896, 851368, 789792, 225096]];
+    let mut right = true;
+    for n in 4..=most {
+        let expected = expected[n - 4];
+        let pairs: Vec<(usize, usize)> = (0..n).flat_map(|b| (0..b).map(move |a| (a, b))).collect();
+        let mut counts = [0; 4];
+        for set in 0..1u32 << pairs.len() {
+            let plan = Plan::new(n, (0..pairs.len()).filter(|i| set >> i & 1 == 1).map(|i| pairs[i]));
+            let figure = connectivity(&plan);
+            counts[figure as usize] += 1;
+            right &= figure == connectivity_by_low_points(&plan);
+            right &= check(&encode_plan(&plan), &certify(&plan)) == Answer::Grade(figure);
+        }
+        right &= counts == expected;
+        println!("{n} vertices: {counts:?}, expected {expected:?}");
+    }
+    println!("{}", if right { "all agree" } else { "DIFFERENT" });
+    right
+}
+
+/// Random certificates of random plans are accepted with the plan's connectivity; what kind 3 must show besides is tested too.
+fn certify_all(count: u64, seed: u64) -> bool {
+    println!("seed {seed}");
+    let mut random = Random::new(seed);
+    let mut grades = [0; 4];
+    let mut additions = [0; 3];
+    let mut longest = [0; 4];
+    for _ in 0..count {
+        let plan = any_plan(&mut random);
+        let certificate = certify_with(&plan, &mut random);
+        let record = encode_certificate(&certificate);
+        let figure = connectivity_by_low_points(&plan);
+        let mut right = check(&encode_plan(&plan), &record) == Answer::Grade(figure);
+        right &= plan.n > 40 || figure == connectivity(&plan);
+        if let Certificate::Build { four, paths } = &certificate {
+            right &= each_edge_once(&plan, paths);
+            right &= certificate.items().concat().len() + 2 * plan.n == 3 * plan.edges.len() + 13;
+            count_additions(plan.n, four, paths, &mut additions);
+        }
+        grades[figure as usize] += 1;
+        longest[figure as usize] = longest[figure as usize].max(record.len());
+        if !right {
+            println!("DIFFERENT: {:?} {:?}", encode_plan(&plan), record);
+            return false;
+        }
+    }
+    println!("{count} certificates accepted, by grade {grades:?}, longest records {longest:?}");
+    println!("additions vertex-vertex, edge-vertex, edge-edge: {additions:?}");
+    additions.iter().all(|&count| count > 0) && grades.iter().all(|&count| count > 0)
+}
+
+/// "Every cable is then used just once."
+fn each_edge_once(plan: &Plan, paths: &[Vec<usize>]) -> bool {
+    let mut used: Vec<(usize, usize)> =
+        paths.iter().flat_map(|path| path.windows(2).map(|pair| (pair[0].min(pair[1]), pair[0].max(pair[1])))).collect();
+    used.sort();
+    used == plan.edges
+}
+
+/// How many ends of each further path lay inside a link.
+fn count_additions(n: usize, four: &[usize], paths: &[Vec<usize>], additions: &mut [usize; 3]) {
+    let mut build = Build::new(n, four);
+    for (index, path) in paths.iter().enumerate() {
+        if index >= 6 {
+            let ends = [path[0], path[path.len() - 1]];
+            additions[ends.iter().filter(|&&end| !build.branch[end]).count()] += 1;
+        }
+        build.take(path.clone());
+    }
+}
+
+// ---------------------------------------------------------------- generated cases
+
+fn name(answer: Answer) -> (&'static str, u8) {
+    match answer {
+        Answer::Accepted => ("accepted", 0),
+        Answer::Grade(grade) => ("grade", grade),
+        Answer::PlanFault(number, _) => ("plan refused", number),
+        Answer::CertificateFault(number, _) => ("certificate refused", number),
+    }
+}
+
+/// One case in eight is a script of session calls, the others are a plan and a certificate.
+fn outcomes(count: u64, seed: u64) -> bool {
+    println!("seed {seed}");
+    let mut generator = Generator::new(seed);
+    let mut checked: BTreeMap<(&str, u8), u64> = BTreeMap::new();
+    let mut called: BTreeMap<(&str, u8), u64> = BTreeMap::new();
+    let mut right = true;
+    for index in 0..count {
+        if index % 8 == 7 {
+            right &= run_script(&generator.script(), &mut called);
+            continue;
+        }
+        let (plan, certificate) = generator.case();
+        let answer = check(&plan, &certificate);
+        *checked.entry(name(answer)).or_default() += 1;
+        if !consistent(&plan, &certificate, answer) {
+            println!("DIFFERENT: {plan:?} {certificate:?} {answer:?}");
+            right = false;
+        }
+    }
+    for (title, counts) in [("checks", &checked), ("session calls", &called)] {
+        println!("{title}:");
+        counts.iter().for_each(|((name, number), count)| println!("  {name} {number}: {count}"));
+    }
+    let seen = |key| checked.contains_key(&key) || called.contains_key(&key);
+    let mut due: Vec<(&str, u8)> = (0..4).map(|grade| ("grade", grade)).collect();
+    due.extend((1..8).chain([29]).map(|number| ("plan refused", number)));
+    due.extend([1, 2, 7, 8, 9].into_iter().chain(20..30).chain([31]).map(|number| ("certificate refused", number)));
+    for key in due.into_iter().filter(|&key| !seen(key)) {
+        println!("MISSING: {} {}", key.0, key.1);
+        right = false;
+    }
+    println!("{count} cases, {}", if right { "all refusals and grades seen" } else { "FAILED" });
+    right
+}
+
+/// A grade is the connectivity; "a certificate of kind 3 is accepted exactly when these calls accept it and no byte is left".
+fn consistent(plan: &[u8], certificate: &[u8], answer: Answer) -> bool {
+    let Ok(graph) = read_plan(plan) else { return true };
+    let true_grade = match answer {
+        Answer::Grade(grade) => grade == connectivity_by_low_points(&graph),
+        _ => true,
+    };
+    let by_calls = certificate.first() == Some(&3) && calls_accept(plan, &certificate[1..], &graph);
+    true_grade && by_calls == (answer == Answer::Grade(3))
+}
+
+fn calls_accept(plan: &[u8], parts: &[u8], graph: &Plan) -> bool {
+    let (opened, session) = open(plan);
+    let (mut answer, mut session, mut unread) = session.start(parts);
+    for _ in 0..graph.further_paths().unwrap_or(0) {
+        if opened != Answer::Accepted || answer != Answer::Accepted {
+            return false;
+        }
+        (answer, session, unread) = session.path(&parts[parts.len() - unread..]);
+    }
+    answer == Answer::Accepted && unread == 0 && session.close().0 == Answer::Grade(3)
+}
+
+/// Runs a script; a refused call leaves the session and the part as they were, and a closing that is accepted tells the connectivity.
+fn run_script(script: &Script, counts: &mut BTreeMap<(&'static str, u8), u64>) -> bool {
+    let (answer, mut session) = open(&script.plan);
+    *counts.entry(name(answer)).or_default() += 1;
+    let mut right = true;
+    let small = script.plan.len() < 100;
+    for call in &script.calls {
+        let before = small.then(|| session.clone());
+        let (answer, part, unread);
+        match call {
+            Call::Start(bytes) => (part, (answer, session, unread)) = (bytes.len(), session.start(bytes)),
+            Call::Path(bytes) => (part, (answer, session, unread)) = (bytes.len(), session.path(bytes)),
+            Call::Close => {
+                (answer, session) = session.close();
+                (part, unread) = (0, 0);
+            }
+        }
+        *counts.entry(name(answer)).or_default() += 1;
+        if answer != Answer::Accepted {
+            right &= unread == part && before.is_none_or(|before| session == before);
+        }
+        if answer == Answer::Grade(3) {
+            right &= connectivity_by_low_points(&read_plan(&script.plan).expect("opened")) == 3;
+        }
+    }
+    if !right {
+        println!("DIFFERENT: {script:?}");
+    }
+    right
+}
