@@ -84,3 +84,63 @@ module _ {A : Type 0} (R : Reader A) {s : List ℕ} {at : ℕ} where
   pub leads-got : {B : Type 0} (f : A → Reader B) {v : A} {mid : ℕ} → R s at ≡ Got v mid → (R ▹ f) s at ≡ f v s mid
   unfolding _▹_
   leads-got f e = rw e
+
+-- an item that was read, and three tests
+on-cond : {A B : Type 0} (b : Bool) (x y : Read A) (f : A → ℕ → Read B) → onRead (cond b x y) f ≡ cond b (onRead x f) (onRead y f)
+on-cond true x y f = refl
+on-cond false x y f = refl
+
+pub three-tests : {A : Type 0} (R : Reader A) (t u w : A → Bool) (p q r : ℕ) {s : List ℕ} {at : ℕ} {v : A} {next : ℕ} → R s at ≡ Got v next
+    → (R needs⟨ p ⟩ t needs⟨ q ⟩ u needs⟨ r ⟩ w) s at ≡ cond (t v) (cond (u v) (cond (w v) (Got v next) (Refused r at)) (Refused q at)) (Refused p at)
+unfolding _needs⟨_⟩_
+three-tests {A} R t u w p q r {s} {at} {v} {next} e =
+    rw e (ap (λ (y : Read A). onRead y (λ a z. cond (w a) (Got a z) (Refused r at))) (on-cond (t v) (Got v next) (Refused p at) (λ a z. cond (u a) (Got a z) (Refused q at)))
+    ∙ on-cond (t v) (cond (u v) (Got v next) (Refused q at)) (Refused p at) (λ a z. cond (w a) (Got a z) (Refused r at))
+    ∙ ap (λ (y : Read A). cond (t v) y (Refused p at)) (on-cond (u v) (Got v next) (Refused q at) (λ a z. cond (w a) (Got a z) (Refused r at))))
+
+-- two ways of keeping the state, related by R: where the items are the same beside related states, and an item that was read keeps R
+module _ {S U A : Type 0} (R : S → U → Type 0) (item : S → Reader A) (after : S → A → S) (other : U → Reader A) (next : U → A → U)
+    (same : (st : S) (u : U) → R st u → (s : List ℕ) (at : ℕ) → item st s at ≡ other u s at)
+    (kept : (st : S) (u : U) → R st u → (s : List ℕ) (at : ℕ) (a : A) (mid : ℕ) → item st s at ≡ Got a mid → R (after st a) (next u a)) where
+  pub many-same : (k : ℕ) (st : S) (u : U) → R st u → (s : List ℕ) (at : ℕ) → many item after k st s at ≡ many other next k u s at
+  unfolding many
+  many-same zero st u r s at = refl
+  many-same (suc k) st u r s at = rw (← same st u r s at)
+      (go (item st s at) (λ a mid e. many-same k (after st a) (next u a) (kept st u r s at a mid e) s mid))
+    where
+      go : (x : Read A) → ((a : A) (mid : ℕ) → x ≡ Got a mid → many item after k (after st a) s mid ≡ many other next k (next u a) s mid)
+          → onRead x (λ a mid. onRead (many item after k (after st a) s mid) (λ l z. Got (a ∷ l) z))
+          ≡ onRead x (λ a mid. onRead (many other next k (next u a) s mid) (λ l z. Got (a ∷ l) z))
+      go (Got a mid) ih = ap (λ (y : Read (List A)). onRead y (λ l z. Got (a ∷ l) z)) (ih a mid refl)
+      go (Refused q p) ih = refl
+
+  pub many-kept : (k : ℕ) (st : S) (u : U) → R st u → (s : List ℕ) (at : ℕ) {l : List A} {z : ℕ} → many item after k st s at ≡ Got l z → R (folded after st l) (folded next u l)
+  unfolding many folded
+  many-kept zero st u r s at e = carry (λ l n. R (folded after st l) (folded next u l)) e r
+  many-kept (suc k) st u r s at e =
+      let g = on-got (item st s at) _ e in
+      let q = on-got (many item after k (after st (g .0)) s (g .1)) _ (g .3) in
+      carry (λ l n. R (folded after st l) (folded next u l)) (q .3) (many-kept k (after st (g .0)) (next u (g .0)) (kept st u r s at (g .0) (g .1) (g .2)) s (g .1) (q .2))
+
+-- two readers that agree, each with a test; the tests need to agree only on what was read
+pub needs-same : {A : Type 0} (R Q : Reader A) (r : ℕ) (ok fine : A → Bool) (s : List ℕ) (at : ℕ) → R s at ≡ Q s at → ((v : A) (next : ℕ) → Q s at ≡ Got v next → ok v ≡ fine v)
+    → (R needs⟨ r ⟩ ok) s at ≡ (Q needs⟨ r ⟩ fine) s at
+unfolding _needs⟨_⟩_
+needs-same {A} R Q r ok fine s at e f = rw e (go (Q s at) refl)
+  where
+    go : (x : Read A) → Q s at ≡ x → onRead x (λ v next. cond (ok v) (Got v next) (Refused r at)) ≡ onRead x (λ v next. cond (fine v) (Got v next) (Refused r at))
+    go (Got v next) k = rw (f v next k)
+    go (Refused q p) k = refl
+
+-- two readers that agree, each with what comes after it; that needs to agree only where the first item was read
+pub then-same : {A : Type 0} {B : A → Type 0} (R Q : Reader A) (f f′ : (a : A) → Reader (B a)) (s : List ℕ) (at : ℕ) → R s at ≡ Q s at → ((a : A) (mid : ℕ) → Q s at ≡ Got a mid → f a s mid ≡ f′ a s mid)
+    → (R ▸ f) s at ≡ (Q ▸ f′) s at
+unfolding _▸_
+then-same {A} {B} R Q f f′ s at e h = rw e (go (Q s at) refl)
+  where
+    paired : (a : A) → B a → ℕ → Read ((a : A) × B a)
+    paired a b next = Got (a, b) next
+
+    go : (x : Read A) → Q s at ≡ x → onRead x (λ a mid. onRead (f a s mid) (paired a)) ≡ onRead x (λ a mid. onRead (f′ a s mid) (paired a))
+    go (Got a mid) k = rw (h a mid k)
+    go (Refused r p) k = refl

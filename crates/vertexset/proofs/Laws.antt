@@ -1,6 +1,6 @@
 -- What the definitions on words say about members, at any number of words. Assumes nothing.
 use mathlib.Core.Path.{_≡_, refl, sym, ap, fun-ext, _∙_}
-use mathlib.Core.Bool.{Bool, true, false, not, _&&_, _||_, or-false, false≢true, cond}
+use mathlib.Core.Bool.{Bool, true, false, not, _&&_, _||_, or-false, and-true, false≢true, cond}
 use mathlib.Core.List.{List, [], _∷_}
 use mathlib.Core.Logic.{_⊎_, inl, inr, ⊎-elim}
 use Prim.Native.Nat.{ℕ, zero, suc, _+_, _*_, _-_, _/_, _%_, _^_, _<_, _≤_}
@@ -9,7 +9,7 @@ use native.Mathlib.Decide.{ℕ-discrete}
 use native.Mathlib.Omega.{arith}
 use lib.Dec.{eqb, lit<}
 use lib.Arith.{digits-div, digits-mod}
-use lib.ListN.{length, getD, replicate, length-set, length-replicate, List·getD-eq-default}
+use lib.ListN.{length, getD, set, replicate, length-set, length-replicate, List·getD-eq-default}
 use lib.Seq.{getD-set-same, getD-set-other, ext-getD}
 use lib.Bits.{bitOr, and-le-l, xor-lt}
 use borrow.Author.Tests.{eq-eqb, ne-eqb, eqb-true, not-false}
@@ -50,6 +50,13 @@ has-insert ws v h = fun-ext at where
     | yes e ↦ rw (e, getD-set-same ws (v / 64) _ 0 (omega arith), on-or _ _ (x % 64), on-pow, same-word x v e)
     | no n ↦ rw (getD-set-other ws (v / 64) (x / 64) _ 0 n, ne-eqb x v (λ g. n (ap (λ z. z / 64) g))) (sym (or-false _))
   ]
+
+-- the words without a bit
+pub has-remove : (ws : List ℕ) (v : ℕ) → v < 64 * length ws → (x : ℕ) → has (set ws (v / 64) (less (getD ws (v / 64) 0) (2 ^ (v % 64)))) x ≡ (has ws x && not (eqb x v))
+has-remove ws v h x = elim (ℕ-discrete (x / 64) (v / 64)) [
+  | yes e ↦ rw (e, getD-set-same ws (v / 64) _ 0 (omega arith), on-less _ _ (x % 64), on-pow, same-word x v e)
+  | no n ↦ rw (getD-set-other ws (v / 64) (x / 64) _ 0 n, ne-eqb x v (λ g. n (ap (λ z. z / 64) g))) (sym (and-true _))
+]
 
 getD-zip : (f : ℕ → ℕ → ℕ) → f 0 0 ≡ 0 → (xs ys : List ℕ) → length xs ≡ length ys → (i : ℕ) → getD (zip f xs ys) i 0 ≡ f (getD xs i 0) (getD ys i 0)
 unfolding zip

@@ -1,0 +1,7 @@
+pub mod Cases
+pub mod Decide
+pub mod Sides
+pub mod Paths
+pub mod Items
+pub mod Accepted
+pub mod BuildCalls
