@@ -2,6 +2,7 @@
 ghost use mathlib.Core.Path.{_≡_};
 ghost use Prim.Native.Nat.{_<_};
 ghost use Rattle.graph.specs.Code.{wholePlan};
+ghost use Rattle.checker.specs.Check.{checkOf};
 ghost use Rattle.fikzarn.specs.Words.{word, answerWord, planRewritten};
 use record::Answer;
 
@@ -40,4 +41,13 @@ pub extern "C" fn fikzarn_plan(input: &[u8], out: &mut [u8]) -> u64
         Answer::PlanFault(_, _) => answer_word(answer),
         Answer::CertificateFault(_, _) => answer_word(answer),
     }
+}
+
+// Checks a certificate record beside a plan record.
+#[no_mangle]
+pub extern "C" fn fikzarn_check(plan: &[u8], certificate: &[u8]) -> u64
+    ensures { λ r. ⌜ r ≡ answerWord (checkOf (now (plan .entry)) (now (certificate .entry))) ⌝ }
+{
+    let answer = checker::check(plan, certificate);
+    answer_word(answer)
 }

@@ -1,0 +1,12 @@
+-- `build::Session::close` meets its contract. Assumes nothing.
+use Rattle.build.specs.Session.{closeStep}
+use borrow.Author.Needs.{needs}
+use Rattle.build.proofs.Session.close.Statement.{statement}
+use Rattle.build.proofs.Session.close.Tie as tie
+
+returns : tie.Need-returns
+unfolding closeStep
+returns c = rw (c .closing .ensures)
+
+pub close-spec : {M : Type 1} → statement M
+close-spec = tie.close (tie.spec (λ c κs. search needs) returns)

@@ -1,0 +1,222 @@
+-- What a path that was read and tested leaves of a build. Assumes nothing.
+use Prim.Native.Nat.{ℕ, suc, _+_, _-_, _<_, _≤_}
+use mathlib.Core.List.{List, [], _∷_, _++_, append-assoc}
+use mathlib.Core.Bool.{Bool, true, false, cond, _&&_, not}
+use mathlib.Core.Path.{_≡_, refl, sym, ap, _∙_}
+use native.Mathlib.Omega.{arith}
+use lib.Dec.{ltb, leb, eqb}
+use lib.ListN.{length, getD, set, replicate, length-append, length-set}
+use lib.Seq.{take-at, getD-at}
+use borrow.Author.Tests.{lt-ltb, le-ltb}
+use Rattle.record.specs.Read.{Read, Read.Got, Read.Refused, Reader, onRead, _needs⟨_⟩_}
+use Rattle.record.proofs.Laws.{test-got}
+use Rattle.record.proofs.Loops.{needs-bad}
+use Rattle.vertexset.specs.Set.{has, inserted}
+use Rattle.graph.specs.Plan.{maxVertices}
+use Rattle.graph.specs.Rows.{adjacentIn}
+use Rattle.connectivity.specs.Path.{vertices}
+use Rattle.connectivity.specs.Path.{Link as Path}
+use Rattle.certificates.specs.Tests.{pathAlong, pathNew, startEnds}
+use Rattle.certificates.specs.Records.{path}
+use Rattle.paths.specs.Items.{limited, endRead, rowsGraph}
+use Rattle.paths.specs.Paths.{listed, pathTold, pathRead}
+use Rattle.paths.specs.declared.PathRead.{PathRead}
+use Rattle.paths.specs.declared.Item.the-variants.{Value, Fault}
+use Rattle.paths.proofs.Told.{path-told, path-fault}
+use Rattle.build.specs.declared.Build.{Build}
+use Rattle.build.specs.declared.Taken.{Taken}
+use Rattle.build.specs.declared.End.{End}
+use Rattle.build.specs.declared.Addition.{Addition}
+use Rattle.build.specs.Ends.{additionOf, held}
+use Rattle.build.specs.State.{pointBack, pointOn, entered, endOf, splitBy, pathAddition, bothIn, pathTaken, buildPath, startOn}
+use Rattle.build.specs.Code.{innerIn, pathFault, buildIn, enteredFrom, onPathRead, Leaves, towards}
+
+-- the code's array of a path, taken apart
+module _ (P : Path) where
+  whole : listed (vertices P) ≡ P .s ∷ (P .inner ++ (P .t ∷ replicate (maxVertices - length (vertices P)) 0))
+  whole = rw append-assoc
+
+  inner-length : length (vertices P) ≡ suc (suc (length (P .inner)))
+  inner-length = simp length-append (omega arith)
+
+  told-inner : innerIn (listed (vertices P)) (length (vertices P)) ≡ P .inner
+  told-inner =
+      let z : length (P .inner) ≡ length (vertices P) - 2 = omega (arith, inner-length) in
+      rw append-assoc (take-at (P .inner) _ (length (vertices P) - 2) z)
+
+  told-last : getD (listed (vertices P)) (length (vertices P) - 1) 0 ≡ P .t
+  told-last =
+      let z : length (vertices P) - 1 ≡ suc (length (P .inner)) = omega (arith, inner-length) in
+      rw (z, append-assoc) (getD-at (P .inner) (P .t) _ 0 (length (P .inner)) refl)
+
+  -- the array has room for it
+  told-room : length (vertices P) ≤ length (listed (vertices P))
+  told-room = omega (arith, length-append (vertices P) (replicate (maxVertices - length (vertices P)) 0))
+
+  pub told-entered : (adj : ℕ → ℕ → Bool) (old : ℕ → Bool) (next : ℕ) (b : Build) → enteredFrom (pathTold adj old P next) b ≡ entered b P
+  told-entered adj old next b = rw (told-inner, told-last)
+
+-- pointers are set within the array
+pub back-length : (before : List ℕ) (u : ℕ) (l : List ℕ) → length (pointBack before u l) ≡ length before
+unfolding pointBack
+back-length before u [] = refl
+back-length before u (v ∷ l) = back-length (set before v u) v l ∙ simp length-set
+
+pub on-length : (after l : List ℕ) (t : ℕ) → length (pointOn after l t) ≡ length after
+unfolding pointOn
+on-length after [] t = refl
+on-length after (v ∷ []) t = simp length-set
+on-length after (v ∷ w ∷ l) t = on-length (set after v w) (w ∷ l) t ∙ simp length-set
+
+-- refused, or as it was read
+abbrev pub faulted : {A : Type 0} → ℕ → A → ℕ → ℕ → Read A
+faulted r v next at = cond (ltb 0 r) (Refused r at) (Got v next)
+
+-- the tests of a path, one after the other
+module _ {A : Type 0} (R : Reader A) (along ends new apart : A → Bool) (s : List ℕ) (at : ℕ) {v : A} {next : ℕ} (e : R s at ≡ Got v next) where
+  pub tested-three : (R needs⟨ 24 ⟩ along needs⟨ 25 ⟩ ends needs⟨ 26 ⟩ new) s at ≡ faulted (pathFault (along v) (ends v) (new v) true) v next at
+  unfolding _needs⟨_⟩_
+  tested-three = rw e (one (along v))
+    where
+      three : (c : Bool) → cond c (Got v next) (Refused 26 at) ≡ faulted (pathFault true true c true) v next at
+      three true = refl
+      three false = refl
+
+      two : (b : Bool) → onRead (cond b (Got v next) (Refused 25 at)) (λ w z. cond (new w) (Got w z) (Refused 26 at)) ≡ faulted (pathFault true b (new v) true) v next at
+      two true = three (new v)
+      two false = refl
+
+      one : (a : Bool) → onRead (onRead (cond a (Got v next) (Refused 24 at)) (λ w z. cond (ends w) (Got w z) (Refused 25 at))) (λ w z. cond (new w) (Got w z) (Refused 26 at))
+          ≡ faulted (pathFault a (ends v) (new v) true) v next at
+      one true = two (ends v)
+      one false = refl
+
+  pub tested-four : (R needs⟨ 24 ⟩ along needs⟨ 25 ⟩ ends needs⟨ 26 ⟩ new needs⟨ 27 ⟩ apart) s at ≡ faulted (pathFault (along v) (ends v) (new v) (apart v)) v next at
+  unfolding _needs⟨_⟩_
+  tested-four = ap (λ (y : Read A). onRead y (λ w z. cond (apart w) (Got w z) (Refused 27 at))) tested-three ∙ last (along v) (ends v) (new v) (apart v)
+    where
+      last : (a b c d : Bool) → onRead (faulted (pathFault a b c true) v next at) (λ w z. cond (apart w) (Got w z) (Refused 27 at))
+          ≡ faulted (pathFault a b c (apart v)) v next at
+      last false b c d = refl
+      last true false c d = refl
+      last true true false d = refl
+      last true true true d = end (apart v)
+        where
+          end : (d : Bool) → cond d (Got v next) (Refused 27 at) ≡ faulted (pathFault true true true d) v next at
+          end true = refl
+          end false = refl
+
+-- a limit that was kept
+pub within-limit : {A : Type 0} (n : ℕ) (R : Reader A) {s : List ℕ} {at next : ℕ} {v : A} → limited n R s at ≡ Got v next → (leb n maxVertices ≡ true) × (R s at ≡ Got v next)
+within-limit n R {s} {at} e = test-got (leb n maxVertices) (R s at) 9 at e
+
+pub limit-kept : {A : Type 0} (n : ℕ) (R : Reader A) (s : List ℕ) (at : ℕ) {y : Read A} → leb n maxVertices ≡ true → R s at ≡ y → limited n R s at ≡ y
+limit-kept n R s at l e = rw (l, e)
+
+pub limit-refused : {A B : Type 0} (n : ℕ) (R : Reader A) (Q : Reader B) (s : List ℕ) (at : ℕ) {q p : ℕ} → (R s at ≡ Refused q p → Q s at ≡ Refused q p)
+    → limited n R s at ≡ Refused q p → limited n Q s at ≡ Refused q p
+limit-refused {A} {B} n R Q s at {q} {p} f = go (leb n maxVertices)
+  where
+    go : (b : Bool) → cond b (R s at) (Refused 9 at) ≡ Refused q p → cond b (Q s at) (Refused 9 at) ≡ Refused q p
+    go true e = f e
+    go false e = let y : q ≡ 9 = cc in let z : p ≡ at = cc in rw (y, z)
+
+-- a path that is read is tested by `item` and taken a step on: `fault` is the number that the tests give, `raise` the build that the path enters
+pub record Takes (n : ℕ) (adj : ℕ → ℕ → Bool) (old : ℕ → Bool) (item : Build → Reader Path) (step : Build → Path → Build) (b : Build) (s : List ℕ) (at : ℕ) : Type 0 where
+  pub fault : PathRead → ℕ
+  pub raise : PathRead → Build
+  pub stops : (q p : ℕ) → path n 2 s at ≡ Refused q p → item b s at ≡ Refused q p
+  pub tests : (P : Path) (next : ℕ) → path n 2 s at ≡ Got P next → item b s at ≡ faulted (fault (pathTold adj old P next)) P next at
+  pub steps : (P : Path) (next : ℕ) → entered (raise (pathTold adj old P next)) P ≡ step b P
+
+module _ {n : ℕ} {adj : ℕ → ℕ → Bool} {old : ℕ → Bool} {item : Build → Reader Path} {step : Build → Path → Build} {b : Build} {s : List ℕ} {at : ℕ}
+    (T : Takes n adj old item step b s at) {x : PathRead} (e : x ≡ pathRead adj old (limited n (path n 2) s at)) where
+  refused : {r : Taken} {before after linked : List ℕ} {q p : ℕ} → limited n (item b) s at ≡ Refused q p → r .end ≡ Fault q p → buildIn (r .branch) (r .built) before after linked ≡ b
+      → Leaves n item step b s at r before after linked
+  unfolding endRead onPathRead
+  refused f g h = record { end = g ∙ sym (ap endRead f); build = h ∙ sym (ap (onPathRead step b) f) }
+
+  pub leaves-unread : {r : Taken} {before after linked : List ℕ} {q p : ℕ} → x .end ≡ Fault q p → r .end ≡ x .end → buildIn (r .branch) (r .built) before after linked ≡ b
+      → Leaves n item step b s at r before after linked
+  leaves-unread f g h = refused (limit-refused n (path n 2) (item b) s at (T .stops _ _) (path-fault adj old _ f e)) (g ∙ f) h
+
+  tested : {v next : ℕ} → x .end ≡ Value v next → (P : Path) × ((x ≡ pathTold adj old P next) × (limited n (item b) s at ≡ faulted (T .fault x) P next at))
+  tested {v} {next} f =
+      let t = path-told adj old _ f e in
+      let P = t .0 in
+      let l = within-limit n (path n 2) (t .1 .0) in
+      let k : item b s at ≡ faulted (T .fault x) P next at = T .tests P next (l .1) ∙ ap (λ (y : PathRead). faulted (T .fault y) P next at) (sym (t .1 .1)) in
+      (P, (t .1 .1, limit-kept n (item b) s at (l .0) k))
+
+  pub leaves-refused : {r : Taken} {before after linked : List ℕ} {v next : ℕ} {q : ℕ} → x .end ≡ Value v next → q ≡ T .fault x → 0 < q → r .end ≡ Fault q at
+      → buildIn (r .branch) (r .built) before after linked ≡ b → Leaves n item step b s at r before after linked
+  leaves-refused {q = q} f g h k m =
+      let t = tested f in
+      let z : 0 < T .fault x = omega arith in
+      refused (t .1 .1 ∙ rw (lt-ltb 0 (T .fault x) z, g)) k m
+
+  pub leaves-taken : {r : Taken} {before after linked : List ℕ} {v next : ℕ} {q : ℕ} → x .end ≡ Value v next → q ≡ T .fault x → q ≤ 0 → r .end ≡ x .end
+      → buildIn (r .branch) (r .built) before after linked ≡ enteredFrom x (T .raise x) → Leaves n item step b s at r before after linked
+  unfolding endRead onPathRead
+  leaves-taken {r = r} {next = next} f g h k m =
+      let t = tested f in
+      let P = t .0 in
+      let z : T .fault x ≤ 0 = omega arith in
+      let got : limited n (item b) s at ≡ Got P next = t .1 .1 ∙ rw (le-ltb 0 (T .fault x) z) in
+      let end : x .end ≡ Value 0 next = ap (λ (y : PathRead). y .end) (t .1 .0) in
+      let built : enteredFrom x (T .raise x) ≡ step b P = ap (λ (y : PathRead). enteredFrom y (T .raise y)) (t .1 .0) ∙ told-entered P adj old next (T .raise (pathTold adj old P next)) ∙ T .steps P next in
+      record { end = k ∙ end ∙ sym (ap endRead got); build = m ∙ built ∙ sym (ap (onPathRead step b) got) }
+
+  -- the array of a path that was read has room for it
+  pub len-low : {v next : ℕ} → x .end ≡ Value v next → x .len ≤ length (x .list)
+  len-low f = let t = path-told adj old _ f e in rw (t .1 .1) (told-room (t .0))
+
+-- the code's own results for what a test asks
+pub fault-same : (along new p q h p′ q′ h′ : Bool) → p ≡ p′ → q ≡ q′ → h ≡ h′ → pathFault along (p && q) new (not h) ≡ pathFault along (p′ && q′) new (not h′)
+fault-same along new p q h p′ q′ h′ e f g = rw (e, f, g)
+
+pub addition-same : (linked : List ℕ) (x y : End) (x′ y′ : End) {a : Addition} → a ≡ additionOf linked x y → x ≡ x′ → y ≡ y′ → a ≡ additionOf linked x′ y′
+addition-same linked x y x′ y′ e f g = e ∙ ap (λ (z : End). additionOf linked z y) f ∙ ap (additionOf linked x′) g
+
+-- a path of the start from u to v
+module _ (n : ℕ) (rows s : List ℕ) (at u v : ℕ) (b : Build) where
+  pub start-stops : (q p : ℕ) → path n 2 s at ≡ Refused q p → startOn (rowsGraph n rows) (towards u v b) s at ≡ Refused q p
+  unfolding startOn
+  start-stops q p e = needs-bad _ 26 _ (needs-bad _ 25 _ (needs-bad _ 24 _ e))
+
+  pub start-tests : (P : Path) (next : ℕ) → path n 2 s at ≡ Got P next
+      → startOn (rowsGraph n rows) (towards u v b) s at ≡ faulted (pathFault (pathAlong (rowsGraph n rows) P) (eqb (P .s) u && eqb (P .t) v) (pathNew (has (b .built .words)) P) true) P next at
+  unfolding startOn
+  start-tests P next e = tested-three (path n 2) (pathAlong (rowsGraph n rows)) (startEnds ((u, v) ∷ [])) (pathNew (has (b .built .words))) (λ P. true) s at e
+
+  abbrev pub start-takes : Takes n (adjacentIn rows) (has (b .built .words)) (λ b. startOn (rowsGraph n rows) (towards u v b)) entered b s at
+  start-takes = record {
+    fault = λ x. pathFault (x .along) (eqb (x .first) u && eqb (x .last) v) (x .new) true;
+    raise = λ x. b;
+    stops = start-stops;
+    tests = start-tests;
+    steps = λ P next. refl;
+  }
+
+-- a further path
+module _ (n : ℕ) (rows s : List ℕ) (at : ℕ) (b : Build) where
+  pub further-stops : (q p : ℕ) → path n 2 s at ≡ Refused q p → buildPath (rowsGraph n rows) b s at ≡ Refused q p
+  unfolding buildPath
+  further-stops q p e = needs-bad _ 27 _ (needs-bad _ 26 _ (needs-bad _ 25 _ (needs-bad _ 24 _ e)))
+
+  pub further-tests : (P : Path) (next : ℕ) → path n 2 s at ≡ Got P next
+      → buildPath (rowsGraph n rows) b s at ≡ faulted (pathFault (pathAlong (rowsGraph n rows) P) (bothIn b P) (pathNew (has (b .built .words)) P) (not (held (pathAddition b P)))) P next at
+  unfolding buildPath
+  further-tests P next e = tested-four (path n 2) (pathAlong (rowsGraph n rows)) (bothIn b) (pathNew (has (b .built .words))) (λ P. not (held (pathAddition b P))) s at e
+
+  abbrev pub addition-at : PathRead → Addition
+  addition-at x = additionOf (b .linked) (endOf b (x .first)) (endOf b (x .last))
+
+  abbrev pub further-takes : Takes n (adjacentIn rows) (has (b .built .words)) (buildPath (rowsGraph n rows)) pathTaken b s at
+  further-takes = record {
+    fault = λ x. pathFault (x .along) (has (b .built .words) (x .first) && has (b .built .words) (x .last)) (x .new) (not (held (addition-at x)));
+    raise = λ x. buildIn (inserted (inserted (b .branch) (x .first)) (x .last)) (b .built) (b .before) (b .after) (splitBy (b .linked) (addition-at x));
+    stops = further-stops;
+    tests = further-tests;
+    steps = λ P next. refl;
+  }

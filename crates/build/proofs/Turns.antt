@@ -1,0 +1,170 @@
+-- The start and one turn of the loops over paths. Assumes nothing.
+use Prim.Native.Nat.{ℕ, zero, suc, _-_, _<_, _≤_}
+use mathlib.Core.List.{List, [], _∷_}
+use mathlib.Core.Bool.{true, false}
+use mathlib.Core.Path.{_≡_, refl, sym, ap, _∙_}
+use native.Mathlib.Omega.{arith}
+use lib.Dec.{leb}
+use lib.ListN.{length, getD}
+use borrow.Author.Tests.{le-leb, lt-leb}
+use Rattle.record.specs.Read.{Read.Got, Read.Refused, Reader, _needs⟨_⟩_, _▸_}
+use Rattle.record.specs.Loop.{runs}
+use Rattle.record.proofs.Loops.{turn-go, turn-stop, turn-done, needs-got}
+use Rattle.vertexset.specs.Set.{has, emptySet, inserted}
+use Rattle.vertexset.specs.declared.VertexSet.{VertexSet}
+use Rattle.graph.specs.Plan.{maxVertices}
+use Rattle.connectivity.specs.Graph.{Graph}
+use Rattle.connectivity.specs.Path.{Link as Path}
+use Rattle.certificates.specs.Tests.{allBelow, laterEnds}
+use Rattle.certificates.specs.Records.{vertex, branchFour}
+use Rattle.paths.specs.Items.{rowsGraph, limited}
+use Rattle.paths.specs.declared.Item.the-variants.{Value, Fault}
+use Rattle.paths.proofs.Told.{end-told, end-fault}
+use Rattle.build.specs.declared.Build.{Build}
+use Rattle.build.specs.declared.Four.{Four}
+use Rattle.build.specs.declared.Taken.{Taken}
+use Rattle.build.specs.State.{entered, raised, pathTaken, buildPath, BuildStart, bareBuild, fourSet, startOf, startOn}
+use Rattle.build.specs.Code.{buildIn, onPathRead, Leaves, towards, fourOf, noStart, startLoop, furtherLoop}
+use Rattle.build.proofs.Ways.{same-build}
+use Rattle.build.proofs.Taking.{limit-kept, back-length, on-length}
+
+-- a vertex above the one before it
+module _ (n before : ℕ) (s : List ℕ) (at : ℕ) {v next : ℕ} (e : vertex n s at ≡ Got v next) where
+  pub above-low : v ≤ before → (vertex n needs⟨ 20 ⟩ leb (suc before)) s at ≡ Refused 20 at
+  above-low h = needs-got (vertex n) 20 (leb (suc before)) e ∙ (let z : v < suc before = omega arith in rw (lt-leb (suc before) v z))
+
+  pub above-got : before < v → (vertex n needs⟨ 20 ⟩ leb (suc before)) s at ≡ Got v next
+  above-got h = needs-got (vertex n) 20 (leb (suc before)) e ∙ (let z : suc before ≤ v = omega arith in rw (le-leb (suc before) v z))
+
+-- the four branch vertices, one number after the other
+module _ (n : ℕ) (s : List ℕ) (at : ℕ) where
+  pub four-first : {r p : ℕ} → vertex n s at ≡ Refused r p → branchFour n s at ≡ Refused r p
+  unfolding branchFour _▸_
+  four-first e = rw e
+
+  module _ {a second : ℕ} (e : vertex n s at ≡ Got a second) where
+    pub four-second : {r p : ℕ} → (vertex n needs⟨ 20 ⟩ leb (suc a)) s second ≡ Refused r p → branchFour n s at ≡ Refused r p
+    unfolding branchFour _▸_
+    four-second f = rw (e, f)
+
+    module _ {b third : ℕ} (f : (vertex n needs⟨ 20 ⟩ leb (suc a)) s second ≡ Got b third) where
+      pub four-third : {r p : ℕ} → (vertex n needs⟨ 20 ⟩ leb (suc b)) s third ≡ Refused r p → branchFour n s at ≡ Refused r p
+      unfolding branchFour _▸_
+      four-third g = rw (e, f, g)
+
+      module _ {c fourth : ℕ} (g : (vertex n needs⟨ 20 ⟩ leb (suc b)) s third ≡ Got c fourth) where
+        pub four-fourth : {r p : ℕ} → (vertex n needs⟨ 20 ⟩ leb (suc c)) s fourth ≡ Refused r p → branchFour n s at ≡ Refused r p
+        unfolding branchFour _▸_
+        four-fourth h = rw (e, f, g, h)
+
+        pub four-got : {d next : ℕ} → (vertex n needs⟨ 20 ⟩ leb (suc c)) s fourth ≡ Got d next → branchFour n s at ≡ Got (a, (b, (c, d))) next
+        unfolding branchFour _▸_
+        four-got h = rw (e, f, g, h)
+
+-- what is known after a path was read, within the limit
+module _ {n : ℕ} {item : Build → Reader Path} {step : Build → Path → Build} {b : Build} {s : List ℕ} {at : ℕ} {r : Taken} {before after linked : List ℕ}
+    (low : n ≤ maxVertices) (h : Leaves n item step b s at r before after linked) where
+  within : limited n (item b) s at ≡ item b s at
+  within = limit-kept n (item b) s at (le-leb n maxVertices low) refl
+
+  pub left-bad : {q p : ℕ} → r .end ≡ Fault q p → item b s at ≡ Refused q p
+  left-bad f = sym within ∙ end-fault (limited n (item b) s at) f (h .end)
+
+  pub left-got : {v next : ℕ} → r .end ≡ Value v next → (P : Path) × ((item b s at ≡ Got P next) × (buildIn (r .branch) (r .built) before after linked ≡ step b P))
+  unfolding onPathRead
+  left-got f =
+      let t = end-told (limited n (item b) s at) f (h .end) in
+      (t .0, (sym within ∙ t .1, h .build ∙ ap (onPathRead step b) (t .1)))
+
+abbrev pub Long : List ℕ → List ℕ → Type 0
+Long before after = (length before ≡ maxVertices) × (length after ≡ maxVertices)
+
+entered-long : {b′ : Build} (b c : Build) (P : Path) → b′ ≡ entered c P → c .before ≡ b .before → c .after ≡ b .after → Long (b .before) (b .after) → Long (b′ .before) (b′ .after)
+entered-long b c P e f g l = (
+  ap (λ (x : Build). length (x .before)) e ∙ back-length (c .before) (P .s) (P .inner) ∙ ap length f ∙ l .0,
+  ap (λ (x : Build). length (x .after)) e ∙ on-length (c .after) (P .inner) (P .t) ∙ ap length g ∙ l .1,
+)
+
+-- a turn over the further paths
+module _ (n : ℕ) (rows s : List ℕ) (b : Build) (at : ℕ) {r : Taken} {before after linked : List ℕ}
+    (low : n ≤ maxVertices) (h : Leaves n (buildPath (rowsGraph n rows)) pathTaken b s at r before after linked) where
+  pub further-stop : (k : ℕ) {q p : ℕ} → 0 < k → r .end ≡ Fault q p → r .end ≡ runs (furtherLoop n rows) k b b s at
+  further-stop k i f = f ∙ turn-stop (furtherLoop n rows) s k i b b at (left-bad low h f)
+
+  pub further-go : (k : ℕ) {v next : ℕ} → 0 < k → r .end ≡ Value v next → Long (b .before) (b .after)
+      → (Long before after) × (runs (furtherLoop n rows) (k - 1) (buildIn (r .branch) (r .built) before after linked) (buildIn (r .branch) (r .built) before after linked) s next ≡ runs (furtherLoop n rows) k b b s at)
+  further-go k i f l =
+      let t = left-got low h f in
+      (entered-long b (raised b (t .0)) (t .0) (t .1 .1) refl refl l, turn-go (furtherLoop n rows) s k i b b (t .1 .0) (t .1 .1) (t .1 .1))
+
+-- after the last of them
+module _ (n : ℕ) (rows s : List ℕ) (b : Build) (at k : ℕ) (none : k ≤ 0) where
+  pub further-done : allBelow n (has (b .branch .words)) ≡ true → Value 0 at ≡ runs (furtherLoop n rows) k b b s at
+  further-done e = rw (← turn-done (furtherLoop n rows) s k none b b at, e)
+
+  pub further-open : allBelow n (has (b .branch .words)) ≡ false → Fault 28 at ≡ runs (furtherLoop n rows) k b b s at
+  further-open e = rw (← turn-done (furtherLoop n rows) s k none b b at, e)
+
+-- the pairs of ends that the arrays name, k of them from i on
+unfoldable pub pairsFrom : List ℕ → List ℕ → ℕ → ℕ → List (ℕ × ℕ)
+pairsFrom first last zero i = []
+pairsFrom first last (suc k) i = (getD first i 0, getD last i 0) ∷ pairsFrom first last k (suc i)
+
+-- the start with k paths to come
+abbrev pub startWith : List ℕ → List ℕ → ℕ → Build → BuildStart
+startWith first last k b = record { ends = pairsFrom first last k (6 - k); build = b }
+
+abbrev pub firsts : Four → List ℕ
+firsts f = f .p ∷ f .p ∷ f .p ∷ f .q ∷ f .q ∷ f .r ∷ []
+
+abbrev pub lasts : Four → List ℕ
+lasts f = f .q ∷ f .r ∷ f .s ∷ f .r ∷ f .s ∷ f .s ∷ []
+
+first-pair : (first last : List ℕ) (k : ℕ) → 0 < k → k ≤ 6
+    → pairsFrom first last k (6 - k) ≡ (getD first (6 - k) 0, getD last (6 - k) 0) ∷ pairsFrom first last (k - 1) (6 - (k - 1))
+unfolding pairsFrom
+first-pair first last zero h i = absurd (omega arith)
+first-pair first last (suc k) h i =
+    let z : suc k - 1 ≡ k = omega arith in
+    let y : suc (6 - suc k) ≡ 6 - k = omega arith in
+    rw (z, y)
+
+-- only the pair that comes next counts
+next-pair : (g : Graph) (u v : ℕ) (es : List (ℕ × ℕ)) (b : Build) (s : List ℕ) (at : ℕ) → startOn g (record { ends = (u, v) ∷ es; build = b }) s at ≡ startOn g (towards u v b) s at
+unfolding startOn
+next-pair g u v es b s at = refl
+
+same-start : {es es′ : List (ℕ × ℕ)} {b b′ : Build} → es ≡ es′ → b ≡ b′ → _≡_ {A = BuildStart} (record { ends = es; build = b }) (record { ends = es′; build = b′ })
+same-start e f = rw (e, f)
+
+-- a turn over the paths of the start
+module _ (n : ℕ) (rows s first last : List ℕ) (b : Build) (at k : ℕ) {r : Taken} {before after linked : List ℕ}
+    (low : n ≤ maxVertices) (some : 0 < k) (six : k ≤ 6)
+    (h : Leaves n (λ b. startOn (rowsGraph n rows) (towards (getD first (6 - k) 0) (getD last (6 - k) 0) b)) entered b s at r before after linked) where
+  tested-next : startOn (rowsGraph n rows) (startWith first last k b) s at ≡ startOn (rowsGraph n rows) (towards (getD first (6 - k) 0) (getD last (6 - k) 0) b) s at
+  tested-next =
+      ap (λ (es : List (ℕ × ℕ)). startOn (rowsGraph n rows) (record { ends = es; build = b }) s at) (first-pair first last k some six)
+      ∙ next-pair (rowsGraph n rows) (getD first (6 - k) 0) (getD last (6 - k) 0) (pairsFrom first last (k - 1) (6 - (k - 1))) b s at
+
+  pub start-stop : {q p : ℕ} → r .end ≡ Fault q p → noStart (r .end) ≡ runs (startLoop n rows) k (startWith first last k b) (startWith first last k b) s at
+  start-stop f = ap noStart f ∙ turn-stop (startLoop n rows) s k some (startWith first last k b) (startWith first last k b) at (tested-next ∙ left-bad low h f)
+
+  pub start-go : {v next : ℕ} → r .end ≡ Value v next → Long (b .before) (b .after)
+      → (Long before after) × (runs (startLoop n rows) (k - 1) (startWith first last (k - 1) (buildIn (b .branch) (r .built) before after linked)) (startWith first last (k - 1) (buildIn (b .branch) (r .built) before after linked)) s next
+      ≡ runs (startLoop n rows) k (startWith first last k b) (startWith first last k b) s at)
+  start-go f l =
+      let t = left-got low h f in
+      let e : pairsFrom first last (k - 1) (6 - (k - 1)) ≡ laterEnds (pairsFrom first last k (6 - k)) = ap laterEnds (sym (first-pair first last k some six)) in
+      let same : b .branch ≡ r .branch = ap (λ (x : Build). x .branch) (sym (t .1 .1)) in
+      let g = same-start e (same-build same refl refl refl refl ∙ t .1 .1) in
+      let st = startWith first last k b in
+      (entered-long b b (t .0) (t .1 .1) refl refl l, turn-go (startLoop n rows) s k some st st (tested-next ∙ t .1 .0) g g)
+
+-- where the loop begins
+pub four-set : {e a b c d : VertexSet} (p q r s : ℕ) → e ≡ emptySet → a ≡ inserted e p → b ≡ inserted a q → c ≡ inserted b r → d ≡ inserted c s → d ≡ fourSet (p, (q, (r, s)))
+four-set p q r s f g h i j = rw (j, i, h, g, f)
+
+pub start-begun : (n : ℕ) (rows s : List ℕ) (from : ℕ) (f : Four) (set : VertexSet) → set ≡ fourSet (fourOf f)
+    → runs (startLoop n rows) 6 (startWith (firsts f) (lasts f) 6 (bareBuild set)) (startWith (firsts f) (lasts f) 6 (bareBuild set)) s from ≡ runs (startLoop n rows) 6 (startOf (fourOf f)) (startOf (fourOf f)) s from
+unfolding pairsFrom
+start-begun n rows s from f set e = ap (λ (x : VertexSet). runs (startLoop n rows) 6 (startWith (firsts f) (lasts f) 6 (bareBuild x)) (startWith (firsts f) (lasts f) 6 (bareBuild x)) s from) e

@@ -1,0 +1,98 @@
+-- What the functions of this crate give, beside the definitions of the build.
+use Prim.Native.Nat.{ℕ, _-_}
+use mathlib.Core.List.{List, [], _∷_}
+use mathlib.Core.Bool.{Bool, cond}
+use mathlib.Core.Path.{_≡_}
+use lib.Bits.{bitOr}
+use lib.ListN.{getD, take, drop}
+use Rattle.record.specs.Read.{Read, Read.Got, Read.Refused, Reader}
+use Rattle.record.specs.Loop.{Loop}
+use Rattle.vertexset.specs.Set.{has, emptySet, wordwise}
+use Rattle.vertexset.specs.declared.VertexSet.{VertexSet}
+use Rattle.connectivity.specs.Path.{Link as Path}
+use Rattle.certificates.specs.Tests.{allBelow}
+use Rattle.paths.specs.Items.{rowsGraph, endRead, limited}
+use Rattle.paths.specs.declared.PathRead.{PathRead}
+use Rattle.paths.specs.declared.Item.{Item}
+use Rattle.paths.specs.declared.Item.the-variants.{Value, Fault}
+use Rattle.build.specs.declared.Build.{Build}
+use Rattle.build.specs.declared.Taken.{Taken}
+use Rattle.build.specs.declared.Four.{Four}
+use Rattle.build.specs.declared.Started.{Started}
+use Rattle.build.specs.State.{pointBack, pointOn, linkedWith, pathTaken, bareBuild, buildPath, BuildStart, startOn, startEntered, startedBuild}
+
+-- the inner vertices of a path whose vertices stand at the front of the code's array
+abbrev pub innerIn : List ℕ → ℕ → List ℕ
+innerIn list len = take (len - 2) (drop 1 list)
+
+-- document 01's number for a path that was read whole, or 0
+abbrev pub pathFault : Bool → Bool → Bool → Bool → ℕ
+pathFault along ends new apart = cond along (cond ends (cond new (cond apart 0 27) 26) 25) 24
+
+-- the build with these parts
+abbrev pub buildIn : VertexSet → VertexSet → List ℕ → List ℕ → List ℕ → Build
+buildIn branch built before after linked = record { branch = branch; built = built; before = before; after = after; linked = linked }
+
+-- the build with a path that was read as a link
+abbrev pub enteredFrom : PathRead → Build → Build
+enteredFrom x b = record {
+  branch = b .branch;
+  built = wordwise bitOr (b .built) (x .set);
+  before = pointBack (b .before) (getD (x .list) 0 0) (innerIn (x .list) (x .len));
+  after = pointOn (b .after) (innerIn (x .list) (x .len)) (getD (x .list) (x .len - 1) 0);
+  linked = linkedWith (b .linked) (x .first) (x .last);
+}
+
+-- what reading a path leaves of a build: one step on, or as it was
+unfoldable pub onPathRead : (Build → Path → Build) → Build → Read Path → Build
+onPathRead step b (Got P next) = step b P
+onPathRead step b (Refused r p) = b
+
+-- what a function leaves that reads a path with what is tested of it and takes it a step on: where reading goes on, and the build
+pub record Leaves (n : ℕ) (item : Build → Reader Path) (step : Build → Path → Build) (b : Build) (s : List ℕ) (at : ℕ)
+    (r : Taken) (before after linked : List ℕ) : Type 0 where
+  pub end : r .end ≡ endRead (limited n (item b) s at)
+  pub build : buildIn (r .branch) (r .built) before after linked ≡ onPathRead step b (limited n (item b) s at)
+
+-- the start at a path from u to v
+abbrev pub towards : ℕ → ℕ → Build → BuildStart
+towards u v b = record { ends = (u, v) ∷ []; build = b }
+
+-- the four branch vertices, and where reading goes on or the fault
+abbrev pub noFour : Item → Four
+noFour x = record { end = x; p = 0; q = 0; r = 0; s = 0 }
+
+unfoldable pub fourRead : Read (ℕ × (ℕ × (ℕ × ℕ))) → Four
+fourRead (Got b next) = record { end = Value 0 next; p = b .0; q = b .1 .0; r = b .1 .1 .0; s = b .1 .1 .1 }
+fourRead (Refused r p) = noFour (Fault r p)
+
+abbrev pub fourOf : Four → ℕ × (ℕ × (ℕ × ℕ))
+fourOf f = (f .p, (f .q, (f .r, f .s)))
+
+-- the build after its start, and where reading goes on or the fault
+abbrev pub noStart : Item → Started
+noStart x = record { end = x; build = bareBuild emptySet }
+
+unfoldable pub startRead : Read ((ℕ × (ℕ × (ℕ × ℕ))) × List Path) → Started
+startRead (Got x next) = record { end = Value 0 next; build = startedBuild x }
+startRead (Refused r p) = noStart (Fault r p)
+
+-- the loop over the six paths of a start
+abbrev pub startLoop : ℕ → List ℕ → Loop BuildStart Path BuildStart Started
+startLoop n rows = record {
+  item = startOn (rowsGraph n rows);
+  after = startEntered;
+  step = startEntered;
+  ok = λ st next. record { end = Value 0 next; build = st .build };
+  bad = λ r p. noStart (Fault r p);
+}
+
+-- the loop over the further paths, with 28 after the last
+abbrev pub furtherLoop : ℕ → List ℕ → Loop Build Path Build Item
+furtherLoop n rows = record {
+  item = buildPath (rowsGraph n rows);
+  after = pathTaken;
+  step = pathTaken;
+  ok = λ b next. cond (allBelow n (has (b .branch .words))) (Value 0 next) (Fault 28 next);
+  bad = Fault;
+}

@@ -1,0 +1,4 @@
+pub mod Ends
+pub mod State
+pub mod Code
+pub mod Session

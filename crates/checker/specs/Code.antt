@@ -1,0 +1,37 @@
+-- What the checker's inner functions give, on the rows of a graph.
+use Prim.Native.Nat.{ℕ, zero, suc, _+_, _-_}
+use mathlib.Core.List.{List}
+use mathlib.Core.Bool.{Bool, cond, _||_, _&&_}
+use lib.Dec.{ltb, leb}
+use lib.ListN.{length}
+use Rattle.record.specs.Read.{Read, Read.Got, Read.Refused, Reader, onRead}
+use Rattle.record.specs.Number.{number}
+use Rattle.record.specs.declared.Answer.{Answer}
+use Rattle.record.specs.declared.Answer.the-variants.{Grade, CertificateFault}
+use Rattle.connectivity.specs.Graph.{Graph}
+use Rattle.certificates.specs.Records.{body}
+use Rattle.paths.specs.Items.{endRead}
+use Rattle.paths.specs.declared.Item.{Item}
+use Rattle.paths.specs.declared.Item.the-variants.{Value, Fault}
+use Rattle.build.specs.State.{buildBody}
+
+-- where the body of a certificate of kind k ends, beside a graph with m edges
+unfoldable pub bodyEnd : Graph → ℕ → ℕ → List ℕ → ℕ → Item
+bodyEnd g m zero s at = endRead (body g 0 s at)
+bodyEnd g m (suc zero) s at = endRead (body g 1 s at)
+bodyEnd g m (suc (suc zero)) s at = endRead (body g 2 s at)
+bodyEnd g m (suc (suc (suc k))) s at = endRead (buildBody g (m - g .n - 2) s at)
+
+-- after the body nothing may be left
+abbrev pub onEnd : ℕ → ℕ → Item → Answer
+onEnd len k (Value v next) = cond (ltb next len) (CertificateFault 7 next) (Grade k)
+onEnd len k (Fault r p) = CertificateFault r p
+
+-- the kind is read and tested for 8 and 29, then the body is read
+abbrev pub onKind : Graph → ℕ → List ℕ → Read ℕ → Answer
+onKind g m s (Got k at) =
+    cond (leb k 3) (cond (ltb k 3 || leb (g .n + 2) m) (onEnd (length s) k (bodyEnd g m k s at)) (CertificateFault 29 0)) (CertificateFault 8 0)
+onKind g m s (Refused r p) = CertificateFault r p
+
+unfoldable pub rowsAnswer : Graph → ℕ → List ℕ → Answer
+rowsAnswer g m s = onKind g m s (number s 0)

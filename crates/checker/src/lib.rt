@@ -1,0 +1,140 @@
+// The checker: a plan record and a certificate record in, an answer out.
+ghost use mathlib.Core.Path.{_≡_};
+ghost use Prim.Native.Nat.{_≤_, _<_, _-_, _+_};
+ghost use mathlib.Core.Bool.{_||_};
+ghost use lib.Dec.{ltb, leb};
+ghost use Rattle.graph.specs.Plan.{maxVertices};
+ghost use Rattle.paths.specs.Items.{rowsGraph};
+ghost use Rattle.checker.specs.Check.{checkOf, gradeOf};
+ghost use Rattle.checker.specs.Code.{bodyEnd, onEnd, rowsAnswer};
+use graph::Graph;
+use paths::Item;
+use record::Answer;
+use record::Number;
+
+// The answer to a plan with a certificate behind it, and the plan's numbers of vertices and edges.
+pub struct Graded {
+    pub answer: Answer,
+    pub n: u16,
+    pub m: u16,
+}
+
+// How many further paths a certificate of kind 3 has.
+fn further_count(n: u16, m: u16) -> u16
+    requires { ⌜ n ≤ maxVertices ⌝ }
+    ensures { λ r. ⌜ r ≡ m - n - 2 ⌝ }
+{
+    if m < n + 2 {
+        return 0;
+    }
+    m - n - 2
+}
+
+// Kind 3 asks for at least n + 2 edges.
+fn enough(n: u16, m: u16, k: u16) -> bool
+    requires { ⌜ n ≤ maxVertices ⌝ }
+    ensures { λ r. ⌜ r ≡ (ltb k 3 || leb (n + 2) m) ⌝ }
+{
+    if k < 3 {
+        return true;
+    }
+    n + 2 <= m
+}
+
+// The body of a certificate of kind k, after the kind.
+fn read_body<'a>(
+    s: &'a [u8],
+    rows: &'a [u64; Graph::ROW_WORDS],
+    n: u16,
+    m: u16,
+    k: u16,
+    at: usize,
+) -> Item
+    requires { ⌜ n ≤ maxVertices ⌝ }
+    ensures { λ r. ⌜ r ≡ bodyEnd (rowsGraph n (now (rows .entry))) m k (now (s .entry)) at ⌝ }
+{
+    if k == 0 {
+        return sides::read_separation(s, rows, n, at);
+    }
+    if k == 1 {
+        return sides::read_tree(s, rows, n, at);
+    }
+    if k == 2 {
+        return ears::read_ears(s, rows, n, at);
+    }
+    build::read_build(s, rows, n, further_count(n, m), at)
+}
+
+fn ended(len: usize, k: u16, end: Item) -> Answer
+    requires { ⌜ k < 4 ⌝ }
+    ensures { λ r. ⌜ r ≡ onEnd len k end ⌝ }
+{
+    match end {
+        Item::Value(_, next) => {
+            if next < len {
+                Answer::CertificateFault(7, next)
+            } else {
+                Answer::Grade(k as u8)
+            }
+        }
+        Item::Fault(r, p) => Answer::CertificateFault(r, p),
+    }
+}
+
+// A whole certificate beside a graph of n vertices and m edges.
+fn check_certificate<'a>(s: &'a [u8], rows: &'a [u64; Graph::ROW_WORDS], n: u16, m: u16) -> Answer
+    requires { ⌜ n ≤ maxVertices ⌝ }
+    ensures { λ r. ⌜ r ≡ rowsAnswer (rowsGraph n (now (rows .entry))) m (now (s .entry)) ⌝ }
+{
+    let x = record::read_number(s, 0);
+    let Number::Value(k, at) = x else {
+        return Answer::CertificateFault(record::fault_number(x), record::fault_place(x));
+    };
+    if 3 < k {
+        return Answer::CertificateFault(8, 0);
+    }
+    if enough(n, m, k) {
+        return ended(s.len(), k, read_body(s, rows, n, m, k, at));
+    }
+    Answer::CertificateFault(29, 0)
+}
+
+pub fn check(plan: &[u8], certificate: &[u8]) -> Answer
+    ensures { λ r. ⌜ r ≡ checkOf (now (plan .entry)) (now (certificate .entry)) ⌝ }
+{
+    let read = graph::read_plan(plan);
+    let answer = read.answer;
+    let found = read.graph;
+    match answer {
+        Answer::Accepted => check_certificate(certificate, &found.rows, found.n, found.m),
+        Answer::Grade(_) => answer,
+        Answer::PlanFault(_, _) => answer,
+        Answer::CertificateFault(_, _) => answer,
+    }
+}
+
+// The checking program's answer: a plan and, directly after it, a certificate.
+pub fn grade(input: &[u8]) -> Graded
+    ensures { λ r. ⌜ r ≡ gradeOf (now (input .entry)) ⌝ }
+{
+    let read = graph::read_leading_plan(input);
+    let answer = read.answer;
+    let found = read.graph;
+    let next = read.next;
+    match answer {
+        Answer::Accepted => {
+            if input.len() < next {
+                return Graded { answer, n: 0, m: 0 };
+            }
+            let rest = &input[next..];
+            Graded {
+                answer: check_certificate(rest, &found.rows, found.n, found.m),
+                n: found.n,
+                m: found.m,
+            }
+        }
+        Answer::Grade(_) => Graded { answer, n: 0, m: 0 },
+        Answer::PlanFault(_, _) => Graded { answer, n: 0, m: 0 },
+        Answer::CertificateFault(_, _) => Graded { answer, n: 0, m: 0 },
+    }
+}

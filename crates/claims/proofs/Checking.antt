@@ -1,0 +1,75 @@
+-- DEMAND 2, both ways, and that every grade the checker accepts is the plan's connectivity. Assumes nothing.
+use Prim.Native.Nat.{ℕ, _<_}
+use mathlib.Core.List.{List}
+use mathlib.Core.Path.{_≡_, refl, sym, ap, _∙_}
+use mathlib.Core.Logic.{_↔_}
+use native.Mathlib.Omega.{arith}
+use lib.ListN.{length}
+use Rattle.record.specs.Read.{Read, Read.Got, Read.Refused, Bytes, ended}
+use Rattle.record.specs.declared.Answer.{Answer}
+use Rattle.record.specs.declared.Answer.the-variants.{Grade}
+use Rattle.record.proofs.Laws.{ended-there, ended-back}
+use Rattle.connectivity.specs.Graph.{Simple}
+use Rattle.connectivity.specs.Connectivity.{connectivity}
+use Rattle.connectivity.specs.Certificate.{Certificate, kind}
+use Rattle.connectivity.proofs.Edges.{fromEdges-simple}
+use Rattle.connectivity.proofs.Soundness.{kind-connectivity}
+use Rattle.graph.specs.Plan.{Plan, Allowed, plan, planBytes}
+use Rattle.graph.proofs.Plans.{plan-law}
+use Rattle.graph.proofs.Adjacency.{edge-list}
+use Rattle.certificates.specs.Records.{certificate}
+use Rattle.certificates.proofs.Accepted.{accepted-there, accepted-back}
+use Rattle.checker.specs.Check.{planGraph, onCertificate, certificateAnswer, onPlan, checkOf}
+use Rattle.claims.specs.Certified.{IsPlan, Certified}
+
+-- the graph of an allowed plan is simple, and small enough for numbers
+pub plan-simple : (p : Plan) → Allowed p → Simple (planGraph p)
+plan-simple p a = fromEdges-simple (p .n) (p .edges) (edge-list p a)
+
+pub plan-few : (p : Plan) → Allowed p → p .n < 16384
+plan-few p a = omega (arith, a .most)
+
+on-plan : (r : Read Plan) (c : List ℕ) {k : ℕ} → onPlan r c ≡ Grade k → (p : Plan) × (next : ℕ) × (r ≡ Got p next) × (certificateAnswer p c ≡ Grade k)
+on-plan (Got p next) c e = (p, next, refl, e)
+on-plan (Refused r q) c e = let z : _≡_ {A = ℕ} 0 1 = cc in absurd (omega arith)
+
+pub on-certificate : (r : Read Certificate) {k : ℕ} → onCertificate r ≡ Grade k → (x : Certificate) × (next : ℕ) × (r ≡ Got x next) × (kind x ≡ k)
+on-certificate (Got x next) e = (x, next, refl, cc)
+on-certificate (Refused r q) e = let z : _≡_ {A = ℕ} 0 1 = cc in absurd (omega arith)
+
+-- a certificate beside a plan
+pub answer-there : (p : Plan) → Allowed p → (c : List ℕ) (k : ℕ) → Bytes c → certificateAnswer p c ≡ Grade k → Certified (planBytes p) c k
+unfolding certificateAnswer
+answer-there p a c k bytes e =
+    let x = on-certificate (ended (certificate (planGraph p)) c 0) e in
+    let r = accepted-there (planGraph p) (plan-simple p a) (plan-few p a) c (x .0) (x .1) bytes (x .2) in
+    record { plan = p; is-plan = record { allowed = a; bytes = refl }; certificate = x .0; bytes = r .0; same-kind = x .3; rules = r .1 }
+
+-- DEMAND 2: the checker answers grade k exactly when the first record is written as Records says, the second is a certificate
+-- of kind k, and every rule for its kind holds.
+pub grade-certified : (P C : List ℕ) (k : ℕ) → Bytes P → Bytes C → checkOf P C ≡ Grade k → Certified P C k
+unfolding checkOf
+grade-certified P C k bp bc e =
+    let t = on-plan (ended plan P 0) C e in
+    let q = ended-there plan-law bp (t .2) in
+    rw (q .0) (answer-there (t .0) (q .1) C k bc (t .3))
+
+pub certified-grade : (P C : List ℕ) (k : ℕ) → Certified P C k → checkOf P C ≡ Grade k
+unfolding checkOf certificateAnswer
+certified-grade P C k c =
+    let p = c .plan in
+    let a = c .is-plan .allowed in
+    rw (
+      ended-back plan-law {v = p} (c .is-plan .bytes) a,
+      accepted-back (planGraph p) (plan-simple p a) (plan-few p a) C (c .certificate) (c .bytes) (c .rules),
+      c .same-kind,
+    )
+
+pub demand-2 : (P C : List ℕ) (k : ℕ) → Bytes P → Bytes C → (checkOf P C ≡ Grade k) ↔ Certified P C k
+demand-2 P C k bp bc = (grade-certified P C k bp bc, certified-grade P C k)
+
+-- SOUNDNESS: an accepted grade is the plan's connectivity, whoever wrote the certificate.
+pub grade-sound : (P C : List ℕ) (k : ℕ) → Bytes P → Bytes C → checkOf P C ≡ Grade k → (p : Plan) × IsPlan P p × (k ≡ connectivity (planGraph p))
+grade-sound P C k bp bc e =
+    let c = grade-certified P C k bp bc e in
+    (c .plan, c .is-plan, sym (c .same-kind) ∙ kind-connectivity (planGraph (c .plan)) (plan-simple (c .plan) (c .is-plan .allowed)) (c .certificate) (c .rules))

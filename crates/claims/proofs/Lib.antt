@@ -1,0 +1,4 @@
+pub mod Barns
+pub mod Checking
+pub mod Sessions
+pub mod Replay

@@ -1,0 +1,272 @@
+-- SESSIONS: what any list of calls gives from an opening, and that a closing that is accepted answers the plan's connectivity.
+-- Assumes nothing.
+use Prim.Native.Nat.{ℕ, _+_, _-_, _≤_}
+use mathlib.Core.List.{List, [], _∷_, _++_}
+use mathlib.Core.Bool.{Bool, true, false, cond, _&&_}
+use mathlib.Core.Path.{_≡_, refl, sym, ap, _∙_, fun-ext}
+use native.Mathlib.Omega.{arith}
+use lib.Dec.{ltb, eqb}
+use lib.ListN.{length, length-append}
+use borrow.Author.Tests.{ltb-true, ltb-false, eqb-true, le-leb}
+use Rattle.record.specs.Read.{Read, Read.Got, Read.Refused, Reader, Bytes, ended}
+use Rattle.record.specs.declared.Answer.the-variants.{Accepted, Grade, PlanFault, CertificateFault}
+use Rattle.record.proofs.Laws.{ended-there}
+use Rattle.connectivity.specs.Graph.{Graph, Adj, edgeCount}
+use Rattle.connectivity.specs.Connectivity.{connectivity}
+use Rattle.connectivity.specs.Path.{Link as Path}
+use Rattle.connectivity.specs.Build.{StartRules, Steps, taken, final}
+use Rattle.connectivity.specs.Certificate.{Certificate.build}
+use Rattle.connectivity.proofs.Edges.{fromEdges-count}
+use Rattle.connectivity.proofs.Steps.{final-append, steps-append}
+use Rattle.connectivity.proofs.Soundness.{kind-connectivity}
+use Rattle.graph.specs.Plan.{Plan, Allowed, plan, maxVertices}
+use Rattle.graph.specs.Rows.{graphOf}
+use Rattle.graph.specs.declared.Graph.{Graph as RowGraph}
+use Rattle.graph.proofs.Plans.{plan-law}
+use Rattle.graph.proofs.Adjacency.{edge-list, network-listed}
+use Rattle.certificates.specs.Tests.{allBelow, isBranch}
+use Rattle.certificates.specs.Records.{start as readStart, furtherPath}
+use Rattle.certificates.proofs.Decide.{decide-all}
+use Rattle.certificates.proofs.Paths.{further-path-law}
+use Rattle.certificates.proofs.Items.{decide-branch, start-law}
+use Rattle.paths.specs.Items.{rowsGraph, limited}
+use Rattle.build.specs.declared.Session.{Session}
+use Rattle.build.specs.declared.Opened.{Opened}
+use Rattle.build.specs.declared.Stepped.{Stepped}
+use Rattle.build.specs.State.{buildStart, buildPath}
+use Rattle.build.specs.Session.{noSession, openedOn, onOpening, opening, refusedStep, onStart, startStep, onPath, pathCount, pathStep, closeStep}
+use Rattle.simulation.proofs.Shows.{Shows}
+use Rattle.simulation.proofs.Start.{start-same, shows-start}
+use Rattle.simulation.proofs.Reading.{shows-path, shows-read}
+use Rattle.checker.specs.Check.{planGraph}
+use Rattle.claims.specs.Certified.{IsPlan}
+use Rattle.claims.specs.Calls.{Call, Call.start, Call.path, Call.close, called, after, CallBytes}
+use Rattle.claims.proofs.Checking.{plan-simple, plan-few}
+
+-- EVERY SESSION VALUE: closing leaves it as it is, and so does a call that is refused, which reads nothing.
+pub close-same : (s : Session) → closeStep s .session ≡ s
+unfolding closeStep
+close-same s = refl
+
+-- a step that is refused is the session as it was, whatever was to be read
+untouched : {A : Type 0} (s : Session) (on : Read A → Stepped) → ((a : A) (next : ℕ) → on (Got a next) .answer ≡ Accepted) → ((n at : ℕ) → on (Refused n at) ≡ refusedStep s n at)
+    → (b : Bool) (x : Read A) (r q : ℕ) → cond b (on x) (refusedStep s 31 0) .answer ≡ CertificateFault r q
+    → (cond b (on x) (refusedStep s 31 0) .session ≡ s) × (cond b (on x) (refusedStep s 31 0) .read ≡ 0)
+untouched s on got bad true (Got a next) r q e = let z : _≡_ {A = ℕ} 0 1 = cc (got a next) in absurd (omega arith)
+untouched s on got bad true (Refused n at) r q e = (ap (λ (x : Stepped). x .session) (bad n at), ap (λ (x : Stepped). x .read) (bad n at))
+untouched s on got bad false x r q e = (refl, refl)
+
+pub refused-same : (s : Session) (c : Call) (r q : ℕ) → called s c .answer ≡ CertificateFault r q → (called s c .session ≡ s) × (called s c .read ≡ 0)
+unfolding startStep pathStep closeStep
+refused-same s (start part) =
+    untouched s (onStart s) (λ x next. refl) (λ n at. refl) (s .ready) (limited (s .graph .n) (buildStart (rowsGraph (s .graph .n) (s .graph .rows))) part 0)
+refused-same s (path part) =
+    untouched s (onPath s) (λ P next. refl) (λ n at. refl) (s .started && ltb (s .taken) (pathCount s))
+    (limited (s .graph .n) (buildPath (rowsGraph (s .graph .n) (s .graph .rows)) (s .build)) part 0)
+refused-same s close = λ r q e. (refl, refl)
+
+-- NEVER OPENED: every call is refused 31 at 0, and the session stays so.
+pub never-accepts : (c : Call) → called noSession c ≡ refusedStep noSession 31 0
+unfolding startStep pathStep closeStep
+never-accepts (start part) = refl
+never-accepts (path part) = refl
+never-accepts close = refl
+
+pub never-opened : (calls : List Call) → after noSession calls ≡ noSession
+never-opened [] = refl
+never-opened (c ∷ cs) = rw (never-accepts c) (never-opened cs)
+
+-- OPENING: refused, with a session never opened; or accepted, on a plan that was read and has enough edges
+pub data Opens (x : Read Plan) : Type 0 where
+  refused : (r q : ℕ) → onOpening x ≡ record { answer = PlanFault r q; session = noSession } → Opens x
+  accepted : (p : Plan) (next : ℕ) → x ≡ Got p next → p .n + 2 ≤ length (p .edges) → onOpening x ≡ record { answer = Accepted; session = openedOn (graphOf p) } → Opens x
+
+pub opens : (x : Read Plan) → Opens x
+unfolding graphOf
+opens (Refused r q) = refused r q refl
+opens (Got p next) = test (ltb (length (p .edges)) (p .n + 2)) refl
+  where
+    test : (b : Bool) → ltb (length (p .edges)) (p .n + 2) ≡ b → Opens (Got p next)
+    test true e = refused 29 0 (rw e)
+    test false e = accepted p next refl (ltb-false _ _ e) (rw e)
+
+pub refused-opening : (P : List ℕ) (r q : ℕ) → opening P .answer ≡ PlanFault r q → opening P .session ≡ noSession
+unfolding opening
+refused-opening P r q e = on (opens (ended plan P 0))
+  where
+    on : Opens (ended plan P 0) → onOpening (ended plan P 0) .session ≡ noSession
+    on (refused n at f) = rw f
+    on (accepted p next g enough f) = let z : _≡_ {A = ℕ} 0 1 = cc (ap (λ (x : Opened). x .answer) f) in absurd (omega arith)
+
+-- the plan's graph has as many edges as its record; how many paths come after the start
+pub plan-count : (p : Plan) → Allowed p → edgeCount (planGraph p) ≡ length (p .edges)
+plan-count p al = fromEdges-count (p .n) (p .edges) (edge-list p al)
+
+abbrev pub due : Plan → ℕ
+due p = length (p .edges) - p .n - 2
+
+-- a session that was started on a plan, its build showing these links
+pub record Building (p : Plan) (s : Session) (links : List Path) : Type 0 where
+  pub graph : s .graph ≡ graphOf p
+  pub ready : s .ready ≡ false
+  pub started : s .started ≡ true
+  pub shows : Shows (s .build) links
+
+-- and these came from a start and further paths that keep the rules, as many as were counted
+pub record Begun (p : Plan) (s : Session) : Type 0 where
+  pub a : ℕ
+  pub b : ℕ
+  pub c : ℕ
+  pub d : ℕ
+  pub six : List Path
+  pub further : List Path
+  pub rules : StartRules (planGraph p) a b c d six
+  pub steps : Steps (Adj (planGraph p)) six further
+  pub count : length further ≡ s .taken
+  pub most : s .taken ≤ due p
+  pub building : Building p s (final six further)
+
+-- EVERY SESSION THAT CALLS CAN GIVE from one opened on the plan
+pub data Given (p : Plan) (s : Session) : Type 0 where
+  waiting : s ≡ openedOn (graphOf p) → Given p s
+  begun : Begun p s → Given p s
+
+module _ (p : Plan) (al : Allowed p) where
+  -- the session's rows stand for the plan's graph, which is within the limit
+  rows-read : {A : Type 0} (R : Graph → Reader A) (part : List ℕ) → limited (graphOf p .n) (R (rowsGraph (graphOf p .n) (graphOf p .rows))) part 0 ≡ R (planGraph p) part 0
+  unfolding graphOf
+  rows-read R part = rw (le-leb (p .n) maxVertices (al .most)) (ap (λ (g : Graph). R g part 0) (network-listed p al))
+
+  -- A START: it is read as a certificate's start is, and the build then shows its paths
+  pub start-step : (part : List ℕ) → startStep (openedOn (graphOf p)) part ≡ onStart (openedOn (graphOf p)) (readStart (planGraph p) part 0)
+  unfolding startStep readStart
+  start-step part = ap (λ (x : Read ((ℕ × (ℕ × (ℕ × ℕ))) × List Path)). onStart (openedOn (graphOf p)) x) (rows-read buildStart part ∙ start-same (planGraph p) (al .most) part 0)
+
+  pub start-building : (part : List ℕ) (x : (ℕ × (ℕ × (ℕ × ℕ))) × List Path) (next : ℕ) → readStart (planGraph p) part 0 ≡ Got x next
+      → Building p (onStart (openedOn (graphOf p)) (Got x next) .session) (x .1)
+  unfolding readStart
+  start-building part x next e = record { graph = refl; ready = refl; started = refl; shows = shows-start (planGraph p) (al .most) part 0 e }
+
+  -- 31: a path before the start, and a second start
+  early-path : (part : List ℕ) → pathStep (openedOn (graphOf p)) part ≡ refusedStep (openedOn (graphOf p)) 31 0
+  unfolding pathStep
+  early-path part = refl
+
+  second-start : {s : Session} {links : List Path} → Building p s links → (part : List ℕ) → startStep s part ≡ refusedStep s 31 0
+  unfolding startStep
+  second-start h part = rw (h .ready)
+
+  -- A PATH: it is read beside the links, and the build then shows them with the path taken in
+  module _ {s : Session} {links : List Path} (h : Building p s links) where
+    pub path-step : (part : List ℕ) → pathStep s part ≡ cond (ltb (s .taken) (due p)) (onPath s (furtherPath (planGraph p) links part 0)) (refusedStep s 31 0)
+    unfolding pathStep graphOf
+    path-step part =
+        ap (λ (b : Bool). cond (b && ltb (s .taken) (pathCount s)) (onPath s (readIn (s .graph))) (refusedStep s 31 0)) (h .started)
+        ∙ ap (λ (g : RowGraph). cond (ltb (s .taken) (g .m - g .n - 2)) (onPath s (readIn g)) (refusedStep s 31 0)) (h .graph)
+        ∙ ap (λ (x : Read Path). cond (ltb (s .taken) (due p)) (onPath s x) (refusedStep s 31 0)) (rows-read (λ g. buildPath g (s .build)) part ∙ shows-path (planGraph p) (h .shows) part 0)
+      where
+        readIn : RowGraph → Read Path
+        readIn g = limited (g .n) (buildPath (rowsGraph (g .n) (g .rows)) (s .build)) part 0
+
+    pub path-building : (part : List ℕ) (P : Path) (next : ℕ) → furtherPath (planGraph p) links part 0 ≡ Got P next → Building p (onPath s (Got P next) .session) (taken links P)
+    path-building part P next e = record { graph = h .graph; ready = h .ready; started = h .started; shows = shows-read (planGraph p) links part 0 e (al .most) (h .shows) }
+
+    -- CLOSING
+    pub closing-is : closeStep s .answer ≡ cond (eqb (s .taken) (due p)) (cond (allBelow (p .n) (isBranch links)) (Grade 3) (CertificateFault 28 0)) (CertificateFault 31 0)
+    unfolding closeStep graphOf
+    closing-is = rw (h .started, h .graph)
+        (ap (λ (t : ℕ → Bool). cond (eqb (s .taken) (due p)) (cond (allBelow (p .n) t) (Grade 3) (CertificateFault 28 0)) (CertificateFault 31 0)) (fun-ext (h .shows .branch)))
+
+    pub closed : {k : ℕ} → closeStep s .answer ≡ Grade k → (s .taken ≡ due p) × (allBelow (p .n) (isBranch links) ≡ true) × (3 ≡ k)
+    closed {k} e = let r = graded (eqb (s .taken) (due p)) (allBelow (p .n) (isBranch links)) (sym closing-is ∙ e) in (eqb-true _ _ (r .0), r .1, r .2)
+      where
+        graded : (b c : Bool) → cond b (cond c (Grade 3) (CertificateFault 28 0)) (CertificateFault 31 0) ≡ Grade k → (b ≡ true) × (c ≡ true) × (3 ≡ k)
+        graded true true f = (refl, refl, cc)
+        graded true false f = let z : _≡_ {A = ℕ} 0 1 = cc in absurd (omega arith)
+        graded false c f = let z : _≡_ {A = ℕ} 0 1 = cc in absurd (omega arith)
+
+  -- each call keeps what is given
+  given-start : (s : Session) (part : List ℕ) → Bytes part → Given p s → Given p (startStep s part .session)
+  given-start s part bytes (waiting e) = rw (e, start-step part) (on (readStart (planGraph p) part 0) refl)
+    where
+      on : (x : Read ((ℕ × (ℕ × (ℕ × ℕ))) × List Path)) → readStart (planGraph p) part 0 ≡ x → Given p (onStart (openedOn (graphOf p)) x .session)
+      on (Refused r q) f = waiting refl
+      on (Got x next) f = begun (record {
+        a = x .0 .0;
+        b = x .0 .1 .0;
+        c = x .0 .1 .1 .0;
+        d = x .0 .1 .1 .1;
+        six = x .1;
+        further = [];
+        rules = start-law (planGraph p) (plan-simple p al) (plan-few p al) .there bytes f .1;
+        steps = tt;
+        count = refl;
+        most = omega arith;
+        building = start-building part x next f;
+      })
+  given-start s part bytes (begun b) = rw (second-start (b .building) part) (begun b)
+
+  given-path : (s : Session) (part : List ℕ) → Bytes part → Given p s → Given p (pathStep s part .session)
+  given-path s part bytes (waiting e) = rw (e, early-path part) (waiting refl)
+  given-path s part bytes (begun b) = rw (path-step (b .building) part) (test (ltb (s .taken) (due p)) refl (furtherPath (planGraph p) (final (b .six) (b .further)) part 0) refl)
+    where
+      test : (t : Bool) → ltb (s .taken) (due p) ≡ t → (x : Read Path) → furtherPath (planGraph p) (final (b .six) (b .further)) part 0 ≡ x → Given p (cond t (onPath s x) (refusedStep s 31 0) .session)
+      test false f x g = begun b
+      test true f (Refused r q) g = begun b
+      test true f (Got P next) g =
+          let z = final-append (b .six) (b .further) (P ∷ []) in
+          begun (record {
+            a = b .a;
+            b = b .b;
+            c = b .c;
+            d = b .d;
+            six = b .six;
+            further = b .further ++ (P ∷ []);
+            rules = b .rules;
+            steps = steps-append (Adj (planGraph p)) (b .six) (b .further) (P ∷ []) (b .steps)
+                (further-path-law (planGraph p) (plan-simple p al) (plan-few p al) (final (b .six) (b .further)) .there bytes g .1, tt);
+            count = length-append (b .further) (P ∷ []) ∙ ap (λ (k : ℕ). k + 1) (b .count);
+            most = omega (arith, ltb-true (s .taken) (due p) f);
+            building = rw z (path-building (b .building) part P next g);
+          })
+
+  pub given : (calls : List Call) → CallBytes calls → (s : Session) → Given p s → Given p (after s calls)
+  given [] bytes s g = g
+  given (start part ∷ cs) bytes s g = given cs (bytes .1) (startStep s part .session) (given-start s part (bytes .0) g)
+  given (path part ∷ cs) bytes s g = given cs (bytes .1) (pathStep s part .session) (given-path s part (bytes .0) g)
+  given (close ∷ cs) bytes s g = given cs bytes (closeStep s .session) (rw (close-same s) g)
+
+  -- a closing that is accepted answers the plan's connectivity
+  given-close : p .n + 2 ≤ length (p .edges) → (s : Session) → Given p s → (k : ℕ) → closeStep s .answer ≡ Grade k → k ≡ connectivity (planGraph p)
+  unfolding closeStep
+  given-close enough s (waiting e) k f = let z : _≡_ {A = ℕ} 0 1 = cc (rw e at f) in absurd (omega arith)
+  given-close enough s (begun b) k f =
+      let r = closed (b .building) f in
+      let m = plan-count p al in
+      sym (r .2) ∙ kind-connectivity (planGraph p) (plan-simple p al) (build (b .a) (b .b) (b .c) (b .d) (b .six) (b .further))
+      (record {
+        first = b .rules;
+        enough = omega (arith, m);
+        count = omega (arith, m, b .count, r .0);
+        steps = b .steps;
+        all-branch = decide-all (decide-branch (final (b .six) (b .further))) (p .n) .holds (r .1);
+      })
+
+-- CLOSING: take any opening and, from the session it gives, any list of calls; a closing that is accepted then answers the connectivity
+-- of the plan that the session was opened on.
+pub closing-sound : (P : List ℕ) → Bytes P → (calls : List Call) → CallBytes calls → (k : ℕ) → closeStep (after (opening P .session) calls) .answer ≡ Grade k
+    → (p : Plan) × IsPlan P p × (k ≡ connectivity (planGraph p))
+unfolding opening
+closing-sound P bp calls bytes k e = on (opens (ended plan P 0))
+  where
+    never : closeStep (after noSession calls) .answer ≡ CertificateFault 31 0
+    never = rw (never-opened calls, never-accepts close)
+
+    on : Opens (ended plan P 0) → (p : Plan) × IsPlan P p × (k ≡ connectivity (planGraph p))
+    on (refused r q f) =
+        let z : _≡_ {A = ℕ} 0 1 = cc (ap (λ (x : Opened). closeStep (after (x .session) calls) .answer) f, never) in
+        absurd (omega arith)
+    on (accepted p next g enough f) =
+        let r = ended-there plan-law bp g in
+        let s : onOpening (ended plan P 0) .session ≡ openedOn (graphOf p) = ap (λ (x : Opened). x .session) f in
+        (p, record { allowed = r .1; bytes = r .0 }, given-close p (r .1) enough _ (given p (r .1) calls bytes _ (waiting s)) k e)

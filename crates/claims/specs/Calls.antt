@@ -1,0 +1,50 @@
+-- Session calls in any order, a start or a path handed any bytes; and a certificate of kind 3 handed in call by call.
+use Prim.Native.Nat.{ℕ, zero, suc, _-_}
+use mathlib.Core.List.{List, [], _∷_}
+use mathlib.Core.Path.{_≡_}
+use lib.ListN.{length, drop}
+use Rattle.record.specs.Read.{Read.Got, Bytes}
+use Rattle.record.specs.Number.{number}
+use Rattle.record.specs.declared.Answer.the-variants.{Accepted, Grade}
+use Rattle.graph.specs.Plan.{Plan, planBytes}
+use Rattle.build.specs.declared.Session.{Session}
+use Rattle.build.specs.declared.Stepped.{Stepped}
+use Rattle.build.specs.Session.{opening, startStep, pathStep, closeStep, startRest, pathRest}
+
+pub data Call : Type 0 where
+  start : (part : List ℕ) → Call
+  path : (part : List ℕ) → Call
+  close : Call
+
+abbrev pub called : Session → Call → Stepped
+called s (start part) = startStep s part
+called s (path part) = pathStep s part
+called s close = closeStep s
+
+-- the session after a list of calls, refused ones among them: each gets the session that the last one returned
+abbrev pub after : Session → List Call → Session
+after s [] = s
+after s (c ∷ cs) = after (called s c .session) cs
+
+-- what is handed in are bytes
+abbrev pub CallBytes : List Call → Type 0
+CallBytes [] = Unit {0}
+CallBytes (start part ∷ cs) = Bytes part × CallBytes cs
+CallBytes (path part ∷ cs) = Bytes part × CallBytes cs
+CallBytes (close ∷ cs) = CallBytes cs
+
+-- k paths, each accepted on the part that the last call handed back unread; closing then answers grade 3, and no byte is left
+abbrev pub Finishes : ℕ → Session → List ℕ → Type 0
+Finishes zero s part = (closeStep s .answer ≡ Grade 3) × (part ≡ [])
+Finishes (suc k) s part = (pathStep s part .answer ≡ Accepted) × Finishes k (pathStep s part .session) (pathRest s part)
+
+-- the calls accept the certificate C: a session is opened on the plan's record; C begins with the kind, which is 3; what comes
+-- after it begins with a start, and then with the m - n - 2 paths
+abbrev pub sessionOn : Plan → Session
+sessionOn p = opening (planBytes p) .session
+
+pub record Replayed (p : Plan) (C : List ℕ) : Type 0 where
+  pub opened : opening (planBytes p) .answer ≡ Accepted
+  pub three : number C 0 ≡ Got 3 1
+  pub started : startStep (sessionOn p) (drop 1 C) .answer ≡ Accepted
+  pub finishes : Finishes (length (p .edges) - p .n - 2) (startStep (sessionOn p) (drop 1 C) .session) (startRest (sessionOn p) (drop 1 C))

@@ -1,0 +1,3 @@
+pub mod Barns
+pub mod Certified
+pub mod Calls

@@ -1,0 +1,1 @@
+// No functions: the demands, each as a theorem, and document 01's barns, in proofs/.

@@ -1,0 +1,3 @@
+pub mod Ear
+pub mod In
+pub mod Body

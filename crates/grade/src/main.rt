@@ -1,0 +1,40 @@
+// The checking program: a plan and, directly after it, a certificate from standard input; one line out.
+use libc::STDIN_FILENO;
+use libc::STDOUT_FILENO;
+use record::Answer;
+
+fn print_grade(n: u16, m: u16, grade: u8) {
+    io::write_all(STDOUT_FILENO, b"boxes ");
+    io::print_decimal(STDOUT_FILENO, n as u64);
+    io::write_all(STDOUT_FILENO, b" cables ");
+    io::print_decimal(STDOUT_FILENO, m as u64);
+    io::write_all(STDOUT_FILENO, b" grade ");
+    io::print_decimal(STDOUT_FILENO, grade as u64);
+    io::write_all(STDOUT_FILENO, b"\n");
+}
+
+fn print_refusal(who: &[u8], number: u8, place: usize) {
+    io::write_all(STDOUT_FILENO, who);
+    io::write_all(STDOUT_FILENO, b" refused ");
+    io::print_decimal(STDOUT_FILENO, number as u64);
+    io::write_all(STDOUT_FILENO, b" at ");
+    io::print_decimal(STDOUT_FILENO, place as u64);
+    io::write_all(STDOUT_FILENO, b"\n");
+}
+
+fn main() {
+    let mut input = [0u8; 4097];
+    let n = io::read_full(STDIN_FILENO, &mut input);
+    if 4096 < n {
+        io::write_all(STDOUT_FILENO, b"input too long\n");
+        return;
+    }
+    let graded = checker::grade(&input[..n]);
+    let answer = graded.answer;
+    match answer {
+        Answer::Grade(k) => print_grade(graded.n, graded.m, k),
+        Answer::PlanFault(number, place) => print_refusal(b"plan", number, place),
+        Answer::CertificateFault(number, place) => print_refusal(b"certificate", number, place),
+        Answer::Accepted => {}
+    }
+}

@@ -1,0 +1,30 @@
+-- The vertices of a path as a set. Assumes nothing.
+use Prim.Native.Nat.{ℕ, _*_, _<_}
+use mathlib.Core.List.{List, [], _∷_}
+use mathlib.Core.Bool.{Bool, _||_, or-false, or-assoc}
+use mathlib.Core.Path.{_≡_, refl, sym, ap, _∙_}
+use lib.ListN.{length}
+use lib.Dec.{eqb}
+use Rattle.record.specs.Read.{folded}
+use Rattle.record.proofs.Loops.{All}
+use Rattle.vertexset.specs.Set.{has, emptySet, inserted, wordCount}
+use Rattle.vertexset.specs.declared.VertexSet.{VertexSet}
+use Rattle.vertexset.proofs.Laws.{empty-has, inserted-has, inserted-length}
+use Rattle.connectivity.specs.Lists.{member}
+
+pub taken-length : (B : VertexSet) (l : List ℕ) → length (B .words) ≡ wordCount → length (folded inserted B l .words) ≡ wordCount
+unfolding folded
+taken-length B [] h = h
+taken-length B (v ∷ l) h = taken-length (inserted B v) l (inserted-length B v h)
+
+pub taken-has : (B : VertexSet) (l : List ℕ) (x : ℕ) → length (B .words) ≡ wordCount → All (λ v. v < 64 * wordCount) l
+    → has (folded inserted B l .words) x ≡ (has (B .words) x || member x l)
+unfolding folded All
+taken-has B [] x h q = sym (or-false _)
+taken-has B (v ∷ l) x h q =
+    taken-has (inserted B v) l x (inserted-length B v h) (q .1)
+    ∙ ap (λ (f : ℕ → Bool). f x || member x l) (inserted-has B v h (q .0))
+    ∙ or-assoc (has (B .words) x) (eqb x v) (member x l)
+
+pub listed-has : (l : List ℕ) (x : ℕ) → All (λ v. v < 64 * wordCount) l → has (folded inserted emptySet l .words) x ≡ member x l
+listed-has l x q = taken-has emptySet l x refl q ∙ ap (λ (f : ℕ → Bool). f x || member x l) empty-has

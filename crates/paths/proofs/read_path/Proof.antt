@@ -1,0 +1,59 @@
+-- `paths::read_path` meets its contract: a number that can't be read, or is out of its range, ends the reading. Assumes nothing.
+use Prim.Native.Nat.{_≤_}
+use mathlib.Core.Path.{_∙_, sym, ap}
+use borrow.Author.Needs.{needs}
+use borrow.Author.Tests.{le-leb, lt-leb}
+use native.Mathlib.Omega.{arith}
+use Rattle.graph.specs.Plan.{maxVertices}
+use Rattle.paths.specs.Paths.{pathRead}
+use Rattle.paths.proofs.Told.{value-told, fault-told}
+use Rattle.paths.proofs.Reading.{ranged-low, path-length, path-first, path-rest}
+use Rattle.paths.proofs.read_path.Statement.{statement}
+use Rattle.paths.proofs.read_path.Tie as tie
+
+returns : tie.Need-returns
+unfolding pathRead
+returns c = c .no-path .ensures ∙ rw (lt-leb _ _ (c .before .if1 .taken))
+
+returns-2 : tie.Need-returns-2
+unfolding pathRead
+returns-2 c =
+    let k = c .before .before .before in
+    let f = c .before .enum-told .given .1 in
+    c .fault-path .ensures ∙ rw (f, le-leb _ _ (k .before .if1 .left)) (ap (pathRead _ _) (sym (path-length _ _ _ _ (fault-told _ f (k .read-ranged .ensures)))))
+
+returns-3 : tie.Need-returns-3
+unfolding pathRead
+returns-3 c =
+    let y = c .before .before .before in
+    let x = y .before .before in
+    let k = x .before .before in
+    let f = c .before .enum-told2 .given .1 in
+    let a = k .before .before .before .args in
+    let e = value-told _ (x .x .given .1) (k .read-ranged .ensures) in
+    let two : 2 ≤ x .x .given .0 .0 = omega (arith, ranged-low (a .least) (a .n) _ _ e) in
+    c .fault-path2 .ensures ∙ rw (f, le-leb _ _ (k .before .if1 .left)) (ap (pathRead _ _) (sym (path-first _ _ _ _ e two (fault-told _ f (y .read-vertex .ensures)))))
+
+read-rest-requires : tie.Need-read-rest-requires
+read-rest-requires c κs =
+    let x = c .before .before .before .before .before in
+    let k = x .before .before in
+    let a = k .before .before .before .args in
+    let e = value-told _ (x .x .given .1) (k .read-ranged .ensures) in
+    omega (arith, ranged-low (a .least) (a .n) _ _ e)
+
+returns-4 : tie.Need-returns-4
+returns-4 c =
+    let y = c .before .before in
+    let x = y .before .before .before .before in
+    let k = x .before .before in
+    let a = k .before .before .before .args in
+    let e = value-told _ (x .x .given .1) (k .read-ranged .ensures) in
+    let two : 2 ≤ x .x .given .0 .0 = omega (arith, ranged-low (a .least) (a .n) _ _ e) in
+    let h : a .n ≤ maxVertices = omega arith in
+    c .read-rest .ensures ∙ rw (le-leb _ _ h) (path-rest _ _ _ _ e two _ _ h (value-told _ (y .y .given .1) (y .before .before .read-vertex .ensures)))
+
+pub read-path-spec : {M : Type 1} → statement M
+read-path-spec = tie.close (tie.spec
+    (λ c κs. search needs) returns (λ c κs. search needs) (λ c. search needs) (λ c. search needs) (λ c κs. search needs) returns-2
+    (λ c κs. search needs) (λ c. search needs) (λ c. search needs) (λ c κs. search needs) returns-3 read-rest-requires returns-4)

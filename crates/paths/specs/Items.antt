@@ -1,0 +1,29 @@
+-- A number of a certificate that was read and tested, as the code hands it on.
+use Prim.Native.Nat.{ℕ}
+use mathlib.Core.List.{List}
+use mathlib.Core.Bool.{cond}
+use lib.Dec.{leb}
+use Rattle.record.specs.Read.{Read, Read.Got, Read.Refused, Reader}
+use Rattle.graph.specs.Plan.{maxVertices}
+use Rattle.graph.specs.Rows.{adjacentIn}
+use Rattle.connectivity.specs.Graph.{Graph}
+use Rattle.paths.specs.declared.Item.{Item}
+use Rattle.paths.specs.declared.Item.the-variants.{Value, Fault}
+
+-- document 01's number and place for what was read: the value and the place after it, or the fault
+unfoldable pub itemRead : Read ℕ → Item
+itemRead (Got v next) = Value v next
+itemRead (Refused r p) = Fault r p
+
+-- where reading goes on, whatever was read
+unfoldable pub endRead : {A : Type 0} → Read A → Item
+endRead (Got a next) = Value 0 next
+endRead (Refused r p) = Fault r p
+
+-- the graph of n vertices with these rows
+abbrev pub rowsGraph : ℕ → List ℕ → Graph
+rowsGraph n rows = record { n = n; adj = adjacentIn rows }
+
+-- a reader for graphs within the limit; beyond it everything is refused 9 at once
+abbrev pub limited : {A : Type 0} → ℕ → Reader A → Reader A
+limited n R s at = cond (leb n maxVertices) (R s at) (Refused 9 at)

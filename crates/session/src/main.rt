@@ -1,0 +1,149 @@
+// Replays a session script from standard input and prints a line for each call, the opening first.
+// A script is a plan record with its length before it, then calls: `s` or `p` with a part, its length before it, or `c`.
+// A length is two bytes, the lower first. A script that ends inside a call, or has another call, ends the output.
+ghost use mathlib.Core.Path.{_≡_};
+ghost use Rattle.session.specs.Script.{partAt};
+use build::Session;
+use build::Stepped;
+use libc::STDIN_FILENO;
+use libc::STDOUT_FILENO;
+use record::Answer;
+
+// Where a part begins and ends; or that the script ends before it does.
+pub enum Part {
+    Within(usize, usize),
+    Cut,
+}
+
+fn part_at(s: &[u8], at: usize) -> Part
+    ensures { λ r. ⌜ r ≡ partAt (now (s .entry)) at ⌝ }
+{
+    if s.len() <= at {
+        return Part::Cut;
+    }
+    let high = at + 1;
+    if s.len() <= high {
+        return Part::Cut;
+    }
+    let start = high + 1;
+    let size = s[at] as usize + 256 * s[high] as usize;
+    if s.len() - start < size {
+        return Part::Cut;
+    }
+    Part::Within(start, start + size)
+}
+
+fn print_refusal(who: &[u8], number: u8, place: usize) {
+    io::write_all(STDOUT_FILENO, who);
+    io::write_all(STDOUT_FILENO, b" refused ");
+    io::print_decimal(STDOUT_FILENO, number as u64);
+    io::write_all(STDOUT_FILENO, b" at ");
+    io::print_decimal(STDOUT_FILENO, place as u64);
+    io::write_all(STDOUT_FILENO, b"\n");
+}
+
+fn print_answer(answer: Answer) {
+    match answer {
+        Answer::Accepted => {
+            io::write_all(STDOUT_FILENO, b"accepted\n");
+        }
+        Answer::Grade(k) => {
+            io::write_all(STDOUT_FILENO, b"grade ");
+            io::print_decimal(STDOUT_FILENO, k as u64);
+            io::write_all(STDOUT_FILENO, b"\n");
+        }
+        Answer::PlanFault(number, place) => print_refusal(b"plan", number, place),
+        Answer::CertificateFault(number, place) => print_refusal(b"certificate", number, place),
+    }
+}
+
+// The answer to a start or path, with the number of bytes that were not read.
+fn print_step(answer: Answer, unread: usize) {
+    match answer {
+        Answer::Accepted => {
+            io::write_all(STDOUT_FILENO, b"accepted ");
+            io::print_decimal(STDOUT_FILENO, unread as u64);
+            io::write_all(STDOUT_FILENO, b"\n");
+        }
+        Answer::Grade(_) => print_answer(answer),
+        Answer::PlanFault(_, _) => print_answer(answer),
+        Answer::CertificateFault(_, _) => print_answer(answer),
+    }
+}
+
+fn unknown(call: u8) -> bool {
+    if call == b's' {
+        return false;
+    }
+    call != b'p'
+}
+
+fn step(session: Session, call: u8, part: &[u8]) -> Stepped {
+    if call == b's' {
+        return session.start(part);
+    }
+    session.path(part)
+}
+
+// One start or path: its answer is printed.
+fn take(session: Session, call: u8, part: &[u8]) -> Session {
+    let stepped = step(session, call, part);
+    let answer = stepped.answer;
+    let read = stepped.read;
+    let next = stepped.session;
+    if read <= part.len() {
+        print_step(answer, part.len() - read);
+        return next;
+    }
+    print_step(answer, 0);
+    next
+}
+
+fn run(s: &[u8], opened: Session, from: usize) {
+    let mut session = opened;
+    let mut at = from;
+    while at < s.len() {
+        let call = s[at];
+        at += 1;
+        if call == b'c' {
+            let closed = session.close();
+            let answer = closed.answer;
+            print_answer(answer);
+            continue;
+        }
+        if unknown(call) {
+            io::write_all(STDOUT_FILENO, b"unknown call\n");
+            return;
+        }
+        let part = part_at(s, at);
+        let Part::Within(start, end) = part else {
+            io::write_all(STDOUT_FILENO, b"script cut short\n");
+            return;
+        };
+        session = take(session, call, &s[start..end]);
+        at = end;
+    }
+}
+
+fn replay(s: &[u8]) {
+    let part = part_at(s, 0);
+    let Part::Within(start, end) = part else {
+        io::write_all(STDOUT_FILENO, b"script cut short\n");
+        return;
+    };
+    let opened = build::open(&s[start..end]);
+    let answer = opened.answer;
+    print_answer(answer);
+    let session = opened.session;
+    run(s, session, end);
+}
+
+fn main() {
+    let mut input = [0u8; 65537];
+    let n = io::read_full(STDIN_FILENO, &mut input);
+    if 65536 < n {
+        io::write_all(STDOUT_FILENO, b"input too long\n");
+        return;
+    }
+    replay(&input[..n]);
+}

@@ -1,0 +1,10 @@
+pub mod Tests
+pub mod Pointers
+pub mod Table
+pub mod Splits
+pub mod Shows
+pub mod Apart
+pub mod Taken
+pub mod Reading
+pub mod Start
+pub mod Kind3

@@ -1,0 +1,86 @@
+-- Tests and what they tell. Assumes nothing.
+use Prim.Native.Nat.{ℕ}
+use mathlib.Core.List.{List, [], _∷_}
+use mathlib.Core.Bool.{Bool, true, false, not, _&&_, _||_}
+use mathlib.Core.Path.{_≡_, refl, ap, _∙_}
+use mathlib.Core.Logic.{inl, inr, ⊎-elim, ⊎-map, _↔_}
+use lib.Dec.{eqb}
+use borrow.Author.Tests.{eqb-true, eq-eqb, not-true}
+use Rattle.connectivity.specs.Lists.{In, NoDup, member}
+use Rattle.connectivity.specs.Path.{Link, vertices, End}
+use Rattle.connectivity.specs.Build.{InBuild, IsBranch}
+use Rattle.connectivity.proofs.Lists.{and-true, or-true, true-or, bool?, clash, member-in, in-member, member-out}
+use Rattle.connectivity.proofs.Paths.{SamePair}
+use Rattle.certificates.specs.Tests.{anyLink, each, distinct, inBuild, isBranch}
+
+-- tests that hold together are the same
+pub same-test : (a b : Bool) → (a ≡ true → b ≡ true) → (b ≡ true → a ≡ true) → a ≡ b
+same-test true b f g = let z : b ≡ true = f refl in rw z
+same-test false true f g = g refl
+same-test false false f g = refl
+
+pub iff-test : {a b : Bool} {A : Type 0} → (a ≡ true) ↔ A → (b ≡ true) ↔ A → a ≡ b
+iff-test {a} {b} f g = same-test a b (λ e. g .1 (f .0 e)) (λ e. f .1 (g .0 e))
+
+pub false-of : {b : Bool} → ¬ (b ≡ true) → b ≡ false
+false-of {b} n = ⊎-elim (λ e. absurd (n e)) (λ e. e) (bool? b)
+
+pub both-true : {a b : Bool} → a ≡ true → b ≡ true → (a && b) ≡ true
+both-true e f = rw (e, f)
+
+pub left-true : {a : Bool} (b : Bool) → a ≡ true → (a || b) ≡ true
+left-true b e = rw e
+
+-- u, v are x, y, either way round
+abbrev pub samePair : ℕ → ℕ → ℕ → ℕ → Bool
+samePair u v x y = (eqb u x && eqb v y) || (eqb u y && eqb v x)
+
+pub pair-tells : (u v x y : ℕ) → (samePair u v x y ≡ true) ↔ SamePair u v x y
+pair-tells u v x y = (λ e. ⊎-map (two u v x y) (two u v y x) (or-true (eqb u x && eqb v y) (eqb u y && eqb v x) e), back)
+  where
+    two : (u v x y : ℕ) → eqb u x && eqb v y ≡ true → (u ≡ x) × (v ≡ y)
+    two u v x y e = let r = and-true (eqb u x) (eqb v y) e in (eqb-true u x (r .0), eqb-true v y (r .1))
+
+    back : SamePair u v x y → samePair u v x y ≡ true
+    back (inl e) = left-true (eqb u y && eqb v x) (both-true (eq-eqb u x (e .0)) (eq-eqb v y (e .1)))
+    back (inr e) = true-or (eqb u x && eqb v y) (eqb u y && eqb v x) (both-true (eq-eqb u y (e .0)) (eq-eqb v x (e .1)))
+
+-- some link passes
+pub any-link : (t : Link → Bool) (ls : List Link) → anyLink t ls ≡ true → (L : Link) × In L ls × (t L ≡ true)
+unfolding anyLink
+any-link t [] e = absurd (clash e refl)
+any-link t (L ∷ ls) e = ⊎-elim (λ k. (L, inl refl, k)) (λ k. let r = any-link t ls k in (r .0, inr (r .1), r .2)) (or-true (t L) (anyLink t ls) e)
+
+pub link-any : (t : Link → Bool) (ls : List Link) (L : Link) → In L ls → t L ≡ true → anyLink t ls ≡ true
+unfolding anyLink
+link-any t [] L h e = absurd h
+link-any t (M ∷ ls) L (inl k) e = left-true (anyLink t ls) (rw k at e)
+link-any t (M ∷ ls) L (inr h) e = true-or (t M) (anyLink t ls) (link-any t ls L h e)
+
+pub built-tells : (ls : List Link) (v : ℕ) → (inBuild ls v ≡ true) ↔ InBuild v ls
+built-tells ls v = (
+  λ e. let r = any-link (λ L. member v (vertices L)) ls e in (r .0, r .1, member-in v (vertices (r .0)) (r .2)),
+  λ r. link-any (λ L. member v (vertices L)) ls (r .0) (r .1) (in-member v (vertices (r .0)) (r .2)),
+)
+
+pub branch-tells : (ls : List Link) (v : ℕ) → (isBranch ls v ≡ true) ↔ IsBranch v ls
+branch-tells ls v = (
+  λ e. let r = any-link (λ L. eqb v (L .s) || eqb v (L .t)) ls e in (r .0, r .1, ⊎-map (eqb-true v (r .0 .s)) (eqb-true v (r .0 .t)) (or-true (eqb v (r .0 .s)) (eqb v (r .0 .t)) (r .2))),
+  λ r. link-any (λ L. eqb v (L .s) || eqb v (L .t)) ls (r .0) (r .1) (end (r .0) (r .2)),
+)
+  where
+    end : (L : Link) → End v L → (eqb v (L .s) || eqb v (L .t)) ≡ true
+    end L (inl e) = left-true (eqb v (L .t)) (eq-eqb v (L .s) e)
+    end L (inr e) = true-or (eqb v (L .s)) (eqb v (L .t)) (eq-eqb v (L .t) e)
+
+-- no vertex twice; no vertex of the list is old
+pub distinct-tells : (l : List ℕ) → distinct l ≡ true → NoDup l
+unfolding distinct
+distinct-tells [] e = tt
+distinct-tells (v ∷ l) e = let r = and-true (not (member v l)) (distinct l) e in (member-out v l (not-true (member v l) (r .0)), distinct-tells l (r .1))
+
+pub each-tells : (t : ℕ → Bool) (l : List ℕ) → each t l ≡ true → (w : ℕ) → In w l → t w ≡ true
+unfolding each
+each-tells t [] e w h = absurd h
+each-tells t (v ∷ l) e w (inl k) = ap t k ∙ and-true (t v) (each t l) e .0
+each-tells t (v ∷ l) e w (inr h) = each-tells t l (and-true (t v) (each t l) e .1) w h

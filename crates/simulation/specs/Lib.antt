@@ -1,0 +1,1 @@
+-- Nothing to believe here: the theorems stand in proofs/.
