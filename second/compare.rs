@@ -1,15 +1,17 @@
 // Compares the library, linked as a C static library, with the second implementation over generated cases.
-//   compare plans COUNT SEED          plan records: the answer, and the record written again
-//   compare certificates COUNT SEED   plans with certificates: the answer (compiled with --cfg checker)
+//   compare plans COUNT SEED              plan records: the answer, and the record written again
+//   compare certificates COUNT SEED       plans with certificates: the answer
+//   compare sessions COUNT SEED PROGRAM   scripts of session calls: the lines that the session program prints
 // Exit status 1 on any difference, or where a refusal or a grade never occurred.
-#![allow(dead_code, unexpected_cfgs)]
+#![allow(dead_code)]
 mod generate;
 mod reference;
 
-use generate::Generator;
+use generate::{Call, Generator, Script};
 use reference::{Answer, Random};
 use std::collections::BTreeMap;
-use std::process::exit;
+use std::io::Write;
+use std::process::{exit, Command, Stdio};
 
 /// The functions under test and their answers, which come as one word: case + 256 * number + 65536 * place.
 mod library {
@@ -18,7 +20,6 @@ mod library {
     mod foreign {
         extern "C" {
             pub fn fikzarn_plan(input: *const u8, len: usize, out: *mut u8, out_len: usize) -> u64;
-            #[cfg(checker)]
             pub fn fikzarn_check(plan: *const u8, plan_len: usize, cert: *const u8, cert_len: usize) -> u64;
         }
     }
@@ -28,7 +29,6 @@ mod library {
         unsafe { foreign::fikzarn_plan(record.as_ptr(), record.len(), out.as_mut_ptr(), out.len()) }
     }
 
-    #[cfg(checker)]
     pub fn check(plan: &[u8], certificate: &[u8]) -> u64 {
         unsafe { foreign::fikzarn_check(plan.as_ptr(), plan.len(), certificate.as_ptr(), certificate.len()) }
     }
@@ -63,10 +63,10 @@ fn main() {
     let number = |word: &str| word.parse::<u64>().expect("a number");
     let right = match words[..] {
         ["plans", count, seed] => plans(number(count), number(seed)),
-        #[cfg(checker)]
         ["certificates", count, seed] => certificates(number(count), number(seed)),
+        ["sessions", count, seed, program] => sessions(number(count), number(seed), program),
         _ => {
-            eprintln!("compare plans COUNT SEED | certificates COUNT SEED (compiled with --cfg checker)");
+            eprintln!("compare plans COUNT SEED | certificates COUNT SEED | sessions COUNT SEED PROGRAM");
             false
         }
     };
@@ -92,7 +92,11 @@ impl Tally {
             Answer::PlanFault(number, _) => ("plan refused", number),
             Answer::CertificateFault(number, _) => ("certificate refused", number),
         };
-        *self.outcomes.entry(key).or_default() += 1;
+        self.see(key);
+    }
+
+    fn see(&mut self, outcome: (&'static str, u8)) {
+        *self.outcomes.entry(outcome).or_default() += 1;
     }
 
     /// The first case that differs is printed whole, in decimal.
@@ -107,12 +111,21 @@ impl Tally {
     /// Prints the counts; right if nothing differs and every outcome that is due was seen.
     fn close(self, count: u64, due: Vec<(&'static str, u8)>) -> bool {
         for ((name, number), count) in &self.outcomes {
-            println!("  {name}{}: {count}", if *name == "accepted" { String::new() } else { format!(" {number}") });
+            println!("  {}: {count}", outcome(name, *number));
         }
         let missing: Vec<_> = due.into_iter().filter(|key| !self.outcomes.contains_key(key)).collect();
-        missing.iter().for_each(|(name, number)| println!("never seen: {name} {number}"));
+        missing.iter().for_each(|(name, number)| println!("never seen: {}", outcome(name, *number)));
         println!("{count} compared, {} differ", self.differ);
         self.differ == 0 && missing.is_empty()
+    }
+}
+
+/// An outcome in words; only grades and refusals have a number.
+fn outcome(name: &str, number: u8) -> String {
+    if number > 0 || name == "grade" {
+        format!("{name} {number}")
+    } else {
+        name.to_string()
     }
 }
 
@@ -160,7 +173,6 @@ fn plans(count: u64, seed: u64) -> bool {
     tally.close(count, due.collect())
 }
 
-#[cfg(checker)]
 fn certificates(count: u64, seed: u64) -> bool {
     let mut tally = Tally::new(seed);
     let mut generator = Generator::new(seed);
@@ -178,4 +190,117 @@ fn certificates(count: u64, seed: u64) -> bool {
     due.extend((1..8).map(|number| ("plan refused", number)));
     due.extend([1, 2, 7, 8, 9].into_iter().chain(20..30).map(|number| ("certificate refused", number)));
     tally.close(count, due)
+}
+
+// ---------------------------------------------------------------- sessions
+
+const MOST_SCRIPT: usize = 65536;
+const CUT: &str = "script cut short";
+const TOO_LONG: &str = "input too long";
+
+fn sessions(count: u64, seed: u64, program: &str) -> bool {
+    let mut tally = Tally::new(seed);
+    let mut generator = Generator::new(seed);
+    let mut random = Random::new(!seed);
+    for _ in 0..count {
+        let script = encode_script(&generator.script(), &mut random);
+        let expected = script_lines(&script, &mut tally);
+        let printed = output(program, &script);
+        if printed != expected {
+            let same = printed.lines().zip(expected.lines()).take_while(|(a, b)| a == b).count();
+            let line = |text: &str| text.lines().nth(same).unwrap_or("nothing").to_string();
+            let what = format!("line {}: expected {}, the program printed {}", same + 1, line(&expected), line(&printed));
+            tally.differs(&[("script", &script)], what);
+        }
+    }
+    let mut due = vec![("accepted", 0), ("grade", 3), (CUT, 0), (TOO_LONG, 0)];
+    due.extend((1..8).chain([29]).map(|number| ("plan refused", number)));
+    due.extend([1, 2, 9, 20].into_iter().chain(24..29).chain([31]).map(|number| ("certificate refused", number)));
+    tally.close(count, due)
+}
+
+/// The plan record, then each call as its letter and its part; before a record or part its length, two bytes, the lower first.
+/// Some scripts are cut. Of those that would be too long, most end with the last call that fits.
+fn encode_script(script: &Script, random: &mut Random) -> Vec<u8> {
+    let counted = |part: &[u8]| [&(part.len() as u16).to_le_bytes()[..], part].concat();
+    let too_long = random.chance(30);
+    let mut bytes = counted(&script.plan);
+    for call in &script.calls {
+        let call = match call {
+            Call::Start(part) => [vec![b's'], counted(part)].concat(),
+            Call::Path(part) => [vec![b'p'], counted(part)].concat(),
+            Call::Close => vec![b'c'],
+        };
+        if bytes.len() + call.len() > MOST_SCRIPT && !too_long {
+            break;
+        }
+        bytes.extend(call);
+    }
+    if random.chance(3) {
+        bytes.truncate(random.below(bytes.len()));
+    }
+    bytes
+}
+
+/// What the session program is to print: a line for each call, the opening first.
+fn script_lines(script: &[u8], tally: &mut Tally) -> String {
+    if script.len() > MOST_SCRIPT {
+        tally.see((TOO_LONG, 0));
+        return format!("{TOO_LONG}\n");
+    }
+    let (answers, cut) = script_answers(script);
+    let mut lines = String::new();
+    for (answer, unread) in answers {
+        tally.count(answer);
+        lines += &match (answer, unread) {
+            (Answer::Accepted, None) => "accepted\n".to_string(),
+            (Answer::Accepted, Some(unread)) => format!("accepted {unread}\n"),
+            (Answer::Grade(grade), _) => format!("grade {grade}\n"),
+            (Answer::PlanFault(number, place), _) => format!("plan refused {number} at {place}\n"),
+            (Answer::CertificateFault(number, place), _) => format!("certificate refused {number} at {place}\n"),
+        };
+    }
+    if cut {
+        tally.see((CUT, 0));
+        lines += &format!("{CUT}\n");
+    }
+    lines
+}
+
+/// The reference's answer to each call, a start's or path's with the number of unread bytes; and whether the script is cut short.
+fn script_answers(script: &[u8]) -> (Vec<(Answer, Option<usize>)>, bool) {
+    let mut rest = script;
+    let Some(plan) = next_part(&mut rest) else { return (Vec::new(), true) };
+    let (opened, mut session) = reference::open(plan);
+    let mut answers = vec![(opened, None)];
+    while let Some((&call, after)) = rest.split_first() {
+        rest = after;
+        let (answer, unread);
+        if call == b'c' {
+            (answer, session) = session.close();
+            answers.push((answer, None));
+            continue;
+        }
+        let Some(part) = next_part(&mut rest) else { return (answers, true) };
+        (answer, session, unread) = if call == b's' { session.start(part) } else { session.path(part) };
+        answers.push((answer, Some(unread)));
+    }
+    (answers, false)
+}
+
+/// Takes a length and as many bytes off the front, if they are there.
+fn next_part<'a>(rest: &mut &'a [u8]) -> Option<&'a [u8]> {
+    let (length, after) = rest.split_first_chunk::<2>()?;
+    let (part, after) = after.split_at_checked(u16::from_le_bytes(*length) as usize)?;
+    *rest = after;
+    Some(part)
+}
+
+/// What the program prints for an input.
+fn output(program: &str, input: &[u8]) -> String {
+    let mut child = Command::new(program).stdin(Stdio::piped()).stdout(Stdio::piped()).spawn().expect("the program");
+    // A program may end before it has read everything; then what it printed tells.
+    let _ = child.stdin.take().expect("a pipe").write_all(input);
+    let output = child.wait_with_output().expect("its output");
+    String::from_utf8_lossy(&output.stdout).into_owned()
 }

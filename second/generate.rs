@@ -176,7 +176,7 @@ pub fn any_plan(random: &mut Random) -> Plan {
     plan
 }
 
-fn random_edge(n: usize, random: &mut Random) -> (usize, usize) {
+pub fn random_edge(n: usize, random: &mut Random) -> (usize, usize) {
     let a = random.below(n);
     (a, (a + random.within(1, n - 1)) % n)
 }
@@ -190,7 +190,7 @@ fn random_tree(n: usize, random: &mut Random) -> Vec<(usize, usize)> {
     (1..n).map(|v| (if near { v - 1 - random.below(v.min(3)) } else { random.below(v) }, v)).collect()
 }
 
-fn cycle(n: usize) -> Vec<(usize, usize)> {
+pub fn cycle(n: usize) -> Vec<(usize, usize)> {
     (0..n).map(|v| (v, (v + 1) % n)).collect()
 }
 
@@ -234,13 +234,13 @@ fn family(n: usize, random: &mut Random) -> (usize, Vec<(usize, usize)>) {
     }
 }
 
-fn random_matching(n: usize, random: &mut Random) -> Vec<(usize, usize)> {
+pub fn random_matching(n: usize, random: &mut Random) -> Vec<(usize, usize)> {
     let mut order: Vec<usize> = (0..n).collect();
     random.shuffle(&mut order);
     order.chunks(2).filter(|pair| pair.len() == 2).map(|pair| (pair[0], pair[1])).collect()
 }
 
-fn prism(half: usize, twisted: bool) -> (usize, Vec<(usize, usize)>) {
+pub fn prism(half: usize, twisted: bool) -> (usize, Vec<(usize, usize)>) {
     let mut edges = Vec::new();
     for v in 0..half {
         let next = (v + 1) % half;

@@ -34,16 +34,23 @@ fn main() {
 
 // ---------------------------------------------------------------- recorded answers
 
-fn bytes_of(hex: &str) -> Vec<u8> {
-    let hex = if hex == "-" { "" } else { hex };
-    (0..hex.len() / 2).map(|i| u8::from_str_radix(&hex[2 * i..2 * i + 2], 16).expect("hex")).collect()
+/// Hex in pieces apart by blanks; `-` is no byte, `00*4092` is that byte 4092 times.
+fn bytes_of(text: &str) -> Vec<u8> {
+    let mut bytes = Vec::new();
+    for piece in text.split_whitespace().filter(|&piece| piece != "-") {
+        let (hex, times) = piece.split_once('*').unwrap_or((piece, "1"));
+        let byte = |i: usize| u8::from_str_radix(&hex[2 * i..2 * i + 2], 16).expect("hex");
+        let part: Vec<u8> = (0..hex.len() / 2).map(byte).collect();
+        bytes.extend(part.repeat(times.parse().expect("a count")));
+    }
+    bytes
 }
 
 /// Each line: standard input in hex, a tab, the printed line.
 fn program_vectors(file: &str) -> bool {
     let text = std::fs::read_to_string(file).expect("program vectors");
     let (mut count, mut differ) = (0, 0);
-    for line in text.lines() {
+    for line in text.lines().filter(|line| !line.starts_with('#')) {
         let (hex, expected) = line.split_once('\t').expect("a tab");
         let given = program_line(&bytes_of(hex));
         count += 1;
@@ -61,7 +68,7 @@ fn session_vectors(file: &str) -> bool {
     let text = std::fs::read_to_string(file).expect("session vectors");
     let mut session = open(&[]).1;
     let (mut count, mut differ) = (0, 0);
-    for line in text.lines().filter(|line| !line.is_empty()) {
+    for line in text.lines().filter(|line| !line.is_empty() && !line.starts_with('#')) {
         let (call, expected) = line.split_once(" = ").expect("an answer");
         let words: Vec<&str> = call.split(' ').collect();
         let part = bytes_of(words.get(1).unwrap_or(&""));
