@@ -1,4 +1,3 @@
-pub mod Cases
 pub mod Decide
 pub mod Sides
 pub mod Paths

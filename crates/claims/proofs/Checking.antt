@@ -11,16 +11,19 @@ use Rattle.record.specs.declared.Answer.the-variants.{Grade}
 use Rattle.record.proofs.Laws.{ended-there, ended-back}
 use Rattle.connectivity.specs.Graph.{Simple}
 use Rattle.connectivity.specs.Connectivity.{connectivity}
-use Rattle.connectivity.specs.Certificate.{Certificate, kind}
+use Rattle.connectivity.specs.Certificate.{Certificate, Certificate.separation, Certificate.tree, Certificate.ears, Certificate.build, kind, Rules}
 use Rattle.connectivity.proofs.Edges.{fromEdges-simple}
+use Rattle.connectivity.proofs.Closure.{connectivity-is}
 use Rattle.connectivity.proofs.Soundness.{kind-connectivity}
+use Rattle.connectivity.proofs.Main.{edges-once}
+use Rattle.connectivity.proofs.Additions.{bg-sequence}
 use Rattle.graph.specs.Plan.{Plan, Allowed, plan, planBytes}
 use Rattle.graph.proofs.Plans.{plan-law}
 use Rattle.graph.proofs.Adjacency.{edge-list}
 use Rattle.certificates.specs.Records.{certificate}
 use Rattle.certificates.proofs.Accepted.{accepted-there, accepted-back}
 use Rattle.checker.specs.Check.{planGraph, onCertificate, certificateAnswer, onPlan, checkOf}
-use Rattle.claims.specs.Certified.{IsPlan, Certified}
+use Rattle.claims.specs.Certified.{IsPlan, Certified, IsGrade, IsSequence}
 
 -- the graph of an allowed plan is simple, and small enough for numbers
 pub plan-simple : (p : Plan) → Allowed p → Simple (planGraph p)
@@ -69,7 +72,39 @@ pub demand-2 : (P C : List ℕ) (k : ℕ) → Bytes P → Bytes C → (checkOf P
 demand-2 P C k bp bc = (grade-certified P C k bp bc, certified-grade P C k)
 
 -- SOUNDNESS: an accepted grade is the plan's connectivity, whoever wrote the certificate.
-pub grade-sound : (P C : List ℕ) (k : ℕ) → Bytes P → Bytes C → checkOf P C ≡ Grade k → (p : Plan) × IsPlan P p × (k ≡ connectivity (planGraph p))
-grade-sound P C k bp bc e =
-    let c = grade-certified P C k bp bc e in
-    (c .plan, c .is-plan, sym (c .same-kind) ∙ kind-connectivity (planGraph (c .plan)) (plan-simple (c .plan) (c .is-plan .allowed)) (c .certificate) (c .rules))
+pub is-grade : (p : Plan) → Allowed p → (k : ℕ) → k ≡ connectivity (planGraph p) → IsGrade p k
+is-grade p a k e = record { figure = connectivity-is (planGraph p) (plan-simple p a) k e; computed = e }
+
+pub answer-sound : (p : Plan) → Allowed p → (c : List ℕ) (k : ℕ) → Bytes c → certificateAnswer p c ≡ Grade k → IsGrade p k
+unfolding certificateAnswer
+answer-sound p a c k bytes e =
+    let x = on-certificate (ended (certificate (planGraph p)) c 0) e in
+    let r = accepted-there (planGraph p) (plan-simple p a) (plan-few p a) c (x .0) (x .1) bytes (x .2) in
+    is-grade p a k (sym (x .3) ∙ kind-connectivity (planGraph p) (plan-simple p a) (x .0) (r .1))
+
+pub certified-sound : {P C : List ℕ} {k : ℕ} (c : Certified P C k) → IsGrade (c .plan) k
+certified-sound {k = k} c =
+    let a = c .is-plan .allowed in
+    is-grade (c .plan) a k (sym (c .same-kind) ∙ kind-connectivity (planGraph (c .plan)) (plan-simple (c .plan) a) (c .certificate) (c .rules))
+
+pub grade-sound : (P C : List ℕ) (k : ℕ) → Bytes P → Bytes C → checkOf P C ≡ Grade k → (p : Plan) × IsPlan P p × IsGrade p k
+grade-sound P C k bp bc e = let c = grade-certified P C k bp bc e in (c .plan, c .is-plan, certified-sound c)
+
+-- KIND 3: an accepted certificate uses every edge just once, and is a Barnette-Grünbaum sequence.
+pub grade-3-sequence : (P C : List ℕ) → Bytes P → Bytes C → checkOf P C ≡ Grade 3 → (p : Plan) × IsPlan P p × IsSequence p
+grade-3-sequence P C bp bc e = let c = grade-certified P C 3 bp bc e in (c .plan, c .is-plan, go (c .plan) (c .is-plan .allowed) (c .certificate) (c .same-kind) (c .rules))
+  where
+    go : (p : Plan) → Allowed p → (x : Certificate) → kind x ≡ 3 → Rules (planGraph p) x → IsSequence p
+    go p a (separation S) k r = absurd (omega arith)
+    go p a (tree c f ps S) k r = absurd (omega arith)
+    go p a (ears c d P es S) k r = absurd (omega arith)
+    go p a (build b c d e start further) k r = record {
+      a = b;
+      b = c;
+      c = d;
+      d = e;
+      start = start;
+      further = further;
+      once = edges-once (planGraph p) (plan-simple p a) b c d e start further r;
+      sequence = bg-sequence (planGraph p) (plan-simple p a) r;
+    }

@@ -1,4 +1,5 @@
-pub mod Barns
+pub mod Starred
 pub mod Checking
+pub mod Program
 pub mod Sessions
 pub mod Replay

@@ -39,9 +39,9 @@ use Rattle.simulation.proofs.Shows.{Shows}
 use Rattle.simulation.proofs.Start.{start-same, shows-start}
 use Rattle.simulation.proofs.Reading.{shows-path, shows-read}
 use Rattle.checker.specs.Check.{planGraph}
-use Rattle.claims.specs.Certified.{IsPlan}
+use Rattle.claims.specs.Certified.{IsPlan, IsGrade}
 use Rattle.claims.specs.Calls.{Call, Call.start, Call.path, Call.close, called, after, CallBytes}
-use Rattle.claims.proofs.Checking.{plan-simple, plan-few}
+use Rattle.claims.proofs.Checking.{plan-simple, plan-few, is-grade}
 
 -- EVERY SESSION VALUE: closing leaves it as it is, and so does a call that is refused, which reads nothing.
 pub close-same : (s : Session) → closeStep s .session ≡ s
@@ -148,11 +148,11 @@ module _ (p : Plan) (al : Allowed p) where
   start-building part x next e = record { graph = refl; ready = refl; started = refl; shows = shows-start (planGraph p) (al .most) part 0 e }
 
   -- 31: a path before the start, and a second start
-  early-path : (part : List ℕ) → pathStep (openedOn (graphOf p)) part ≡ refusedStep (openedOn (graphOf p)) 31 0
+  pub early-path : (part : List ℕ) → pathStep (openedOn (graphOf p)) part ≡ refusedStep (openedOn (graphOf p)) 31 0
   unfolding pathStep
   early-path part = refl
 
-  second-start : {s : Session} {links : List Path} → Building p s links → (part : List ℕ) → startStep s part ≡ refusedStep s 31 0
+  pub second-start : {s : Session} {links : List Path} → Building p s links → (part : List ℕ) → startStep s part ≡ refusedStep s 31 0
   unfolding startStep
   second-start h part = rw (h .ready)
 
@@ -255,18 +255,18 @@ module _ (p : Plan) (al : Allowed p) where
 -- CLOSING: take any opening and, from the session it gives, any list of calls; a closing that is accepted then answers the connectivity
 -- of the plan that the session was opened on.
 pub closing-sound : (P : List ℕ) → Bytes P → (calls : List Call) → CallBytes calls → (k : ℕ) → closeStep (after (opening P .session) calls) .answer ≡ Grade k
-    → (p : Plan) × IsPlan P p × (k ≡ connectivity (planGraph p))
+    → (p : Plan) × IsPlan P p × IsGrade p k
 unfolding opening
 closing-sound P bp calls bytes k e = on (opens (ended plan P 0))
   where
     never : closeStep (after noSession calls) .answer ≡ CertificateFault 31 0
     never = rw (never-opened calls, never-accepts close)
 
-    on : Opens (ended plan P 0) → (p : Plan) × IsPlan P p × (k ≡ connectivity (planGraph p))
+    on : Opens (ended plan P 0) → (p : Plan) × IsPlan P p × IsGrade p k
     on (refused r q f) =
         let z : _≡_ {A = ℕ} 0 1 = cc (ap (λ (x : Opened). closeStep (after (x .session) calls) .answer) f, never) in
         absurd (omega arith)
     on (accepted p next g enough f) =
         let r = ended-there plan-law bp g in
         let s : onOpening (ended plan P 0) .session ≡ openedOn (graphOf p) = ap (λ (x : Opened). x .session) f in
-        (p, record { allowed = r .1; bytes = r .0 }, given-close p (r .1) enough _ (given p (r .1) calls bytes _ (waiting s)) k e)
+        (p, record { allowed = r .1; bytes = r .0 }, is-grade p (r .1) k (given-close p (r .1) enough _ (given p (r .1) calls bytes _ (waiting s)) k e))

@@ -1,3 +1,3 @@
-pub mod Barns
+pub mod Starred
 pub mod Certified
 pub mod Calls

@@ -3,6 +3,9 @@ use libc::STDIN_FILENO;
 use libc::STDOUT_FILENO;
 use record::Answer;
 
+// the longest input, in bytes
+const LIMIT: usize = 4096;
+
 fn print_grade(n: u16, m: u16, grade: u8) {
     io::write_all(STDOUT_FILENO, b"boxes ");
     io::print_decimal(STDOUT_FILENO, n as u64);
@@ -23,9 +26,9 @@ fn print_refusal(who: &[u8], number: u8, place: usize) {
 }
 
 fn main() {
-    let mut input = [0u8; 4097];
+    let mut input = [0u8; LIMIT + 1];
     let n = io::read_full(STDIN_FILENO, &mut input);
-    if 4096 < n {
+    if LIMIT < n {
         io::write_all(STDOUT_FILENO, b"input too long\n");
         return;
     }

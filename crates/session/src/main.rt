@@ -9,6 +9,9 @@ use libc::STDIN_FILENO;
 use libc::STDOUT_FILENO;
 use record::Answer;
 
+// the longest script, in bytes
+const LIMIT: usize = 65536;
+
 // Where a part begins and ends; or that the script ends before it does.
 pub enum Part {
     Within(usize, usize),
@@ -139,9 +142,9 @@ fn replay(s: &[u8]) {
 }
 
 fn main() {
-    let mut input = [0u8; 65537];
+    let mut input = [0u8; LIMIT + 1];
     let n = io::read_full(STDIN_FILENO, &mut input);
-    if 65536 < n {
+    if LIMIT < n {
         io::write_all(STDOUT_FILENO, b"input too long\n");
         return;
     }

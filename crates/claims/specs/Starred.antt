@@ -6,13 +6,13 @@ use Rattle.record.specs.declared.Answer.{Answer}
 use Rattle.record.specs.declared.Answer.the-variants.{Grade, PlanFault, CertificateFault}
 use Rattle.checker.specs.Check.{checkOf}
 
-pub record Barn : Type 0 where
+pub record Example : Type 0 where
   pub plan : List ℕ
   pub certificate : List ℕ
   pub answer : Answer
 
-abbrev pub barn : List ℕ → List ℕ → Answer → Barn
-barn p c a = record { plan = p; certificate = c; answer = a }
+abbrev pub example : List ℕ → List ℕ → Answer → Example
+example p c a = record { plan = p; certificate = c; answer = a }
 
 -- all ten cables on five boxes
 abbrev pub complete5 : List ℕ
@@ -21,34 +21,38 @@ complete5 = 5 ∷ 10 ∷ 0 ∷ 1 ∷ 0 ∷ 2 ∷ 0 ∷ 3 ∷ 0 ∷ 4 ∷ 1 ∷ 2
 abbrev pub planB : List ℕ
 planB = 4 ∷ 5 ∷ 0 ∷ 1 ∷ 0 ∷ 2 ∷ 0 ∷ 3 ∷ 1 ∷ 2 ∷ 1 ∷ 3 ∷ []
 
-abbrev pub barns : List Barn
-barns =
-    -- A
-    barn (4 ∷ 6 ∷ 0 ∷ 1 ∷ 0 ∷ 2 ∷ 0 ∷ 3 ∷ 1 ∷ 2 ∷ 1 ∷ 3 ∷ 2 ∷ 3 ∷ [])
-    (3 ∷ 0 ∷ 1 ∷ 2 ∷ 3 ∷ 2 ∷ 0 ∷ 1 ∷ 2 ∷ 0 ∷ 2 ∷ 2 ∷ 0 ∷ 3 ∷ 2 ∷ 1 ∷ 2 ∷ 2 ∷ 1 ∷ 3 ∷ 2 ∷ 2 ∷ 3 ∷ []) (Grade 3) ∷
+-- barn A
+abbrev pub exampleA : Example
+exampleA =
+    example (4 ∷ 6 ∷ 0 ∷ 1 ∷ 0 ∷ 2 ∷ 0 ∷ 3 ∷ 1 ∷ 2 ∷ 1 ∷ 3 ∷ 2 ∷ 3 ∷ [])
+    (3 ∷ 0 ∷ 1 ∷ 2 ∷ 3 ∷ 2 ∷ 0 ∷ 1 ∷ 2 ∷ 0 ∷ 2 ∷ 2 ∷ 0 ∷ 3 ∷ 2 ∷ 1 ∷ 2 ∷ 2 ∷ 1 ∷ 3 ∷ 2 ∷ 2 ∷ 3 ∷ []) (Grade 3)
+
+abbrev pub starred : List Example
+starred =
+    exampleA ∷
     -- B
-    barn planB (2 ∷ 0 ∷ 1 ∷ 2 ∷ 3 ∷ 0 ∷ 1 ∷ 2 ∷ 3 ∷ 0 ∷ 3 ∷ 1 ∷ 1 ∷ 2 ∷ []) (Grade 2) ∷
+    example planB (2 ∷ 0 ∷ 1 ∷ 2 ∷ 3 ∷ 0 ∷ 1 ∷ 2 ∷ 3 ∷ 0 ∷ 3 ∷ 1 ∷ 1 ∷ 2 ∷ []) (Grade 2) ∷
     -- C: B with kind 3
-    barn planB (3 ∷ 0 ∷ 1 ∷ 2 ∷ 3 ∷ 0 ∷ 1 ∷ 2 ∷ 3 ∷ 0 ∷ 3 ∷ 1 ∷ 1 ∷ 2 ∷ []) (CertificateFault 29 0) ∷
+    example planB (3 ∷ 0 ∷ 1 ∷ 2 ∷ 3 ∷ 0 ∷ 1 ∷ 2 ∷ 3 ∷ 0 ∷ 3 ∷ 1 ∷ 1 ∷ 2 ∷ []) (CertificateFault 29 0) ∷
     -- D
-    barn (4 ∷ 3 ∷ 0 ∷ 1 ∷ 1 ∷ 2 ∷ 2 ∷ 3 ∷ []) (1 ∷ 1 ∷ 0 ∷ 1 ∷ 0 ∷ 2 ∷ 1 ∷ 3 ∷ 2 ∷ 1 ∷ 0 ∷ []) (Grade 1) ∷
+    example (4 ∷ 3 ∷ 0 ∷ 1 ∷ 1 ∷ 2 ∷ 2 ∷ 3 ∷ []) (1 ∷ 1 ∷ 0 ∷ 1 ∷ 0 ∷ 2 ∷ 1 ∷ 3 ∷ 2 ∷ 1 ∷ 0 ∷ []) (Grade 1) ∷
     -- E, F
-    barn (4 ∷ 0 ∷ []) (0 ∷ 1 ∷ 0 ∷ []) (Grade 0) ∷
-    barn (4 ∷ 0 ∷ []) (0 ∷ 0 ∷ []) (CertificateFault 22 1) ∷
+    example (4 ∷ 0 ∷ []) (0 ∷ 1 ∷ 0 ∷ []) (Grade 0) ∷
+    example (4 ∷ 0 ∷ []) (0 ∷ 0 ∷ []) (CertificateFault 22 1) ∷
     -- G, H
-    barn complete5
+    example complete5
     (3 ∷ 0 ∷ 1 ∷ 2 ∷ 3 ∷ 3 ∷ 0 ∷ 4 ∷ 1 ∷ 2 ∷ 0 ∷ 2 ∷ 2 ∷ 0 ∷ 3 ∷ 2 ∷ 1 ∷ 2 ∷ 2 ∷ 1 ∷ 3 ∷ 2 ∷ 2 ∷ 3 ∷ 2 ∷ 4 ∷ 2 ∷ 2 ∷ 4 ∷ 3 ∷ 2 ∷ 0 ∷ 1 ∷ []) (Grade 3) ∷
-    barn complete5
+    example complete5
     (3 ∷ 0 ∷ 1 ∷ 2 ∷ 3 ∷ 3 ∷ 0 ∷ 4 ∷ 1 ∷ 2 ∷ 0 ∷ 2 ∷ 2 ∷ 0 ∷ 3 ∷ 2 ∷ 1 ∷ 2 ∷ 2 ∷ 1 ∷ 3 ∷ 2 ∷ 2 ∷ 3 ∷ 2 ∷ 0 ∷ 1 ∷ []) (CertificateFault 27 24) ∷
     -- I
-    barn (5 ∷ 7 ∷ 0 ∷ 2 ∷ 0 ∷ 3 ∷ 0 ∷ 4 ∷ 1 ∷ 2 ∷ 1 ∷ 3 ∷ 1 ∷ 4 ∷ 2 ∷ 3 ∷ [])
+    example (5 ∷ 7 ∷ 0 ∷ 2 ∷ 0 ∷ 3 ∷ 0 ∷ 4 ∷ 1 ∷ 2 ∷ 1 ∷ 3 ∷ 1 ∷ 4 ∷ 2 ∷ 3 ∷ [])
     (3 ∷ 0 ∷ 1 ∷ 2 ∷ 3 ∷ 3 ∷ 0 ∷ 4 ∷ 1 ∷ 2 ∷ 0 ∷ 2 ∷ 2 ∷ 0 ∷ 3 ∷ 2 ∷ 1 ∷ 2 ∷ 2 ∷ 1 ∷ 3 ∷ 2 ∷ 2 ∷ 3 ∷ []) (CertificateFault 28 24) ∷
     -- the starred plans
-    barn [] [] (PlanFault 1 0) ∷
-    barn (132 ∷ 0 ∷ []) [] (PlanFault 2 0) ∷
-    barn (4 ∷ 2 ∷ 0 ∷ 1 ∷ 0 ∷ 1 ∷ []) [] (PlanFault 6 4) ∷ []
+    example [] [] (PlanFault 1 0) ∷
+    example (132 ∷ 0 ∷ []) [] (PlanFault 2 0) ∷
+    example (4 ∷ 2 ∷ 0 ∷ 1 ∷ 0 ∷ 1 ∷ []) [] (PlanFault 6 4) ∷ []
 
 -- the checker answers each as document 01 says
-abbrev pub AllAnswered : List Barn → Type 0
+abbrev pub AllAnswered : List Example → Type 0
 AllAnswered [] = Unit {0}
 AllAnswered (b ∷ l) = (checkOf (b .plan) (b .certificate) ≡ b .answer) × AllAnswered l
