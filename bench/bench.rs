@@ -10,69 +10,92 @@ use std::process::exit;
 
 extern "C" {
     fn fikzarn_check(plan: *const u8, plan_len: usize, cert: *const u8, cert_len: usize) -> u64;
+    fn fikzarn_certify(plan: *const u8, plan_len: usize, out: *mut u8, out_len: usize) -> u64;
     fn bench_search(first: *const u32, neighbours: *const u32, n: u32, root: u32, distance: *mut u32) -> u32;
     fn bench_clock() -> u64;
 }
 
 const SEED: u64 = 20261115;
-/// Graphs of each family, and how often the two are timed on each.
+/// Graphs of each family, and how often the three are timed on each.
 const GRAPHS: usize = 16;
 const ROUNDS: usize = 50;
 /// Calls in one timing, so that the clock's own steps don't show.
 const SEARCHES: u32 = 500;
-const CHECKS: u32 = 10;
-/// The library's word for grade 3.
-const GRADE_3: u64 = 1 + 256 * 3;
+const CALLS: u32 = 10;
+/// The buffer that the certifier is lent.
+const SPACE: usize = 1536;
 
 fn main() {
     let mut random = Random::new(SEED);
-    println!("graph                vertices edges   certificate    search       check   check in searches  middle half");
-    for (name, make) in FAMILIES {
-        row(name, (0..GRAPHS).map(|_| Case::new(&three_connected(make, &mut random), &mut random)).collect());
+    println!("                                           search | check                           | certify");
+    println!("graph               vertices edges grade       us | bytes       us  searches    half | bytes       us  searches    half");
+    for (name, grade, make) in FAMILIES {
+        for n in [16, 32, 64, MOST_VERTICES] {
+            row(name, (0..GRAPHS).map(|_| Case::new(&drawn(make, n, grade, &mut random), grade, &mut random)).collect());
+        }
     }
 }
 
-type Family = fn(&mut Random) -> Plan;
+/// Makes a graph with that many vertices.
+type Family = fn(usize, &mut Random) -> Plan;
 
-const FAMILIES: [(&str, Family); 4] =
-    [("random 3-connected", dense), ("wheel", wheel), ("prism", |_| prism()), ("random cubic", cubic)];
+const FAMILIES: [(&str, u8, Family); 5] = [
+    ("random 3-connected", 3, dense),
+    ("wheel", 3, wheel),
+    ("prism", 3, prism),
+    ("random cubic", 3, cubic),
+    ("planted pair", 2, planted_pair),
+];
 
-/// As many edges as a plan may have.
-fn dense(random: &mut Random) -> Plan {
-    let mut plan = Plan::new(MOST_VERTICES, generate::cycle(MOST_VERTICES));
-    while plan.edges.len() < MOST_EDGES {
-        let edge = generate::random_edge(MOST_VERTICES, random);
-        plan = Plan::new(MOST_VERTICES, plan.edges.iter().copied().chain([edge]));
+/// A cycle through all vertices, and random edges up to four for each vertex: at 128 as many as a plan may have.
+fn dense(n: usize, random: &mut Random) -> Plan {
+    filled(n, 4 * n, random)
+}
+
+fn filled(n: usize, m: usize, random: &mut Random) -> Plan {
+    let mut plan = Plan::new(n, generate::cycle(n));
+    while plan.edges.len() < m {
+        let edge = generate::random_edge(n, random);
+        plan = Plan::new(n, plan.edges.iter().copied().chain([edge]));
     }
     plan
 }
 
-fn wheel(_: &mut Random) -> Plan {
-    let hub = MOST_VERTICES - 1;
-    Plan::new(MOST_VERTICES, generate::cycle(hub).into_iter().chain((0..hub).map(|v| (v, hub))))
+fn wheel(n: usize, _: &mut Random) -> Plan {
+    let hub = n - 1;
+    Plan::new(n, generate::cycle(hub).into_iter().chain((0..hub).map(|v| (v, hub))))
 }
 
-fn prism() -> Plan {
-    let (n, edges) = generate::prism(MOST_VERTICES / 2, false);
+fn prism(n: usize, _: &mut Random) -> Plan {
+    let (n, edges) = generate::prism(n / 2, false);
     Plan::new(n, edges)
 }
 
 /// A cycle and a perfect matching, drawn again until no edge stands in both.
-fn cubic(random: &mut Random) -> Plan {
+fn cubic(n: usize, random: &mut Random) -> Plan {
     loop {
-        let edges = [generate::cycle(MOST_VERTICES), generate::random_matching(MOST_VERTICES, random)].concat();
-        let plan = Plan::new(MOST_VERTICES, edges);
-        if 2 * plan.edges.len() == 3 * MOST_VERTICES {
+        let plan = Plan::new(n, [generate::cycle(n), generate::random_matching(n, random)].concat());
+        if 2 * plan.edges.len() == 3 * n {
             return plan;
         }
     }
 }
 
-/// A graph of the family, numbered at random, drawn again until it is 3-connected.
-fn three_connected(make: Family, random: &mut Random) -> Plan {
+/// Two dense halves with two vertices in common.
+fn planted_pair(n: usize, random: &mut Random) -> Plan {
+    let half = n / 2;
+    let mut edges = Vec::new();
+    for piece in [(0..half).collect::<Vec<usize>>(), [0, 1].into_iter().chain(half..n).collect()] {
+        edges.extend(filled(piece.len(), 4 * half - 8, random).edges.iter().map(|&(a, b)| (piece[a], piece[b])));
+    }
+    Plan::new(n, edges)
+}
+
+/// A graph of the family, numbered at random, drawn again until it has that connectivity.
+fn drawn(make: Family, n: usize, grade: u8, random: &mut Random) -> Plan {
     loop {
-        let plan = make(random);
-        if connectivity_by_low_points(&plan) == 3 {
+        let plan = make(n, random);
+        if connectivity_by_low_points(&plan) == grade {
             let mut labels: Vec<usize> = (0..plan.n).collect();
             random.shuffle(&mut labels);
             return Plan::new(plan.n, plan.edges.iter().map(|&(a, b)| (labels[a], labels[b])));
@@ -80,10 +103,13 @@ fn three_connected(make: Family, random: &mut Random) -> Plan {
     }
 }
 
-/// A graph as the check has it, plan record and certificate, and as the search has it, adjacency lists.
+/// A graph as check and certify have it, plan record and certificate, and as the search has it, adjacency lists.
 struct Case {
     plan: Vec<u8>,
     certificate: Vec<u8>,
+    /// The length of the library's certificate.
+    made: usize,
+    grade: u8,
     n: usize,
     m: usize,
     first: Vec<u32>,
@@ -91,20 +117,26 @@ struct Case {
 }
 
 impl Case {
-    fn new(plan: &Plan, random: &mut Random) -> Case {
+    fn new(plan: &Plan, grade: u8, random: &mut Random) -> Case {
         let lists = plan.neighbours();
         let ends = lists.iter().scan(0, |end, list| {
             *end += list.len() as u32;
             Some(*end)
         });
-        Case {
+        let mut case = Case {
             plan: encode_plan(plan),
             certificate: encode_certificate(&certify_with(plan, random)),
+            made: 0,
+            grade,
             n: plan.n,
             m: plan.edges.len(),
             first: [0].into_iter().chain(ends).collect(),
             neighbours: lists.concat().into_iter().map(|v| v as u32).collect(),
-        }
+        };
+        let mut out = [0; SPACE];
+        case.made = case.certify(&mut out);
+        case.check(&out[..case.made]);
+        case
     }
 
     fn search(&self, distance: &mut [u32]) {
@@ -113,10 +145,20 @@ impl Case {
         demand(reached == n, "the search reaches every vertex");
     }
 
-    fn check(&self) {
-        let (plan, certificate) = (&self.plan, &self.certificate);
-        let word = unsafe { fikzarn_check(plan.as_ptr(), plan.len(), certificate.as_ptr(), certificate.len()) };
-        demand(word == GRADE_3, "the check answers grade 3");
+    fn check(&self, certificate: &[u8]) {
+        let word = unsafe { fikzarn_check(self.plan.as_ptr(), self.plan.len(), certificate.as_ptr(), certificate.len()) };
+        demand(word == self.graded(), "the check answers the grade");
+    }
+
+    fn certify(&self, out: &mut [u8]) -> usize {
+        let word = unsafe { fikzarn_certify(self.plan.as_ptr(), self.plan.len(), out.as_mut_ptr(), out.len()) };
+        demand(word % (1 << 16) == self.graded(), "the certifier answers the grade");
+        (word >> 16) as usize
+    }
+
+    /// The library's word for the grade; the certifier's has the length above it.
+    fn graded(&self) -> u64 {
+        1 + 256 * self.grade as u64
     }
 }
 
@@ -135,31 +177,45 @@ fn microseconds(times: u32, mut call: impl FnMut()) -> f64 {
     (end - start) as f64 / 1000.0 / times as f64
 }
 
-/// Search and check are timed in turns, so that both meet the same load; a ratio is of two neighbouring timings.
+/// The timings of one function on all cases, and each over the search beside it.
+#[derive(Default)]
+struct Times {
+    each: Vec<f64>,
+    ratios: Vec<f64>,
+}
+
+impl Times {
+    fn add(&mut self, time: f64, search: f64) {
+        self.each.push(time);
+        self.ratios.push(time / search);
+    }
+
+    fn told(&mut self, bytes: Vec<usize>) -> String {
+        let mut bytes: Vec<f64> = bytes.into_iter().map(|length| length as f64).collect();
+        let half = format!("{:.0}-{:.0}", part(&mut self.ratios, 1), part(&mut self.ratios, 3));
+        let ratio = part(&mut self.ratios, 2);
+        format!("| {:>5.0} {:>8.2} {ratio:>9.1} {half:>7}", part(&mut bytes, 2), part(&mut self.each, 2))
+    }
+}
+
+/// Search, check and certify are timed in turns, so that they meet the same load; a ratio is of neighbouring timings.
 fn row(name: &str, cases: Vec<Case>) {
     let mut distance = [0; MOST_VERTICES];
-    let (mut searches, mut checks, mut ratios) = (Vec::new(), Vec::new(), Vec::new());
+    let mut out = [0; SPACE];
+    let (mut searches, mut checks, mut certifies) = (Vec::new(), Times::default(), Times::default());
     for _ in 0..ROUNDS {
         for case in &cases {
             let search = microseconds(SEARCHES, || case.search(&mut distance));
-            let check = microseconds(CHECKS, || case.check());
             searches.push(search);
-            checks.push(check);
-            ratios.push(check / search);
+            checks.add(microseconds(CALLS, || case.check(&case.certificate)), search);
+            let certify = || demand(case.certify(&mut out) == case.made, "the certifier answers the same length");
+            certifies.add(microseconds(CALLS, certify), search);
         }
     }
-    let mut sizes: Vec<f64> = cases.iter().map(|case| case.certificate.len() as f64).collect();
-    println!(
-        "{name:<20} {:>8} {:>5} {:>7.0} bytes {:>6.2} us {:>8.2} us {:>19.1}  {:.1} to {:.1}",
-        cases[0].n,
-        cases[0].m,
-        part(&mut sizes, 2),
-        part(&mut searches, 2),
-        part(&mut checks, 2),
-        part(&mut ratios, 2),
-        part(&mut ratios, 1),
-        part(&mut ratios, 3),
-    );
+    let Case { n, m, grade, .. } = cases[0];
+    let check = checks.told(cases.iter().map(|case| case.certificate.len()).collect());
+    let certify = certifies.told(cases.iter().map(|case| case.made).collect());
+    println!("{name:<20} {n:>7} {m:>5} {grade:>5} {:>8.2} {check} {certify}", part(&mut searches, 2));
 }
 
 /// The value that `quarters` quarters of the list stand below; 2 is the median.

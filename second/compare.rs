@@ -2,8 +2,10 @@
 //   compare plans COUNT SEED              plan records: the answer, and the record written again
 //   compare certificates COUNT SEED       plans with certificates: the answer
 //   compare sessions COUNT SEED PROGRAM   scripts of session calls: the lines that the session program prints
+//   compare certify COUNT SEED            certificates that the library makes, for every small plan and COUNT larger ones
 // Exit status 1 on any difference, or where a refusal or a grade never occurred.
 #![allow(dead_code)]
+mod certify;
 mod generate;
 mod reference;
 
@@ -21,6 +23,7 @@ mod library {
         extern "C" {
             pub fn fikzarn_plan(input: *const u8, len: usize, out: *mut u8, out_len: usize) -> u64;
             pub fn fikzarn_check(plan: *const u8, plan_len: usize, cert: *const u8, cert_len: usize) -> u64;
+            pub fn fikzarn_certify(plan: *const u8, plan_len: usize, out: *mut u8, out_len: usize) -> u64;
         }
     }
 
@@ -31,6 +34,15 @@ mod library {
 
     pub fn check(plan: &[u8], certificate: &[u8]) -> u64 {
         unsafe { foreign::fikzarn_check(plan.as_ptr(), plan.len(), certificate.as_ptr(), certificate.len()) }
+    }
+
+    /// Writes a certificate of the plan into `out`. Beside a grade the word has the length, times 2 to the power of 32.
+    pub fn certify(plan: &[u8], out: &mut [u8]) -> (u64, usize) {
+        let word = unsafe { foreign::fikzarn_certify(plan.as_ptr(), plan.len(), out.as_mut_ptr(), out.len()) };
+        match word % 256 {
+            1 => (word % (1 << 16), (word >> 16) as usize),
+            _ => (word, 0),
+        }
     }
 
     /// The word for an answer.
@@ -65,8 +77,9 @@ fn main() {
         ["plans", count, seed] => plans(number(count), number(seed)),
         ["certificates", count, seed] => certificates(number(count), number(seed)),
         ["sessions", count, seed, program] => sessions(number(count), number(seed), program),
+        ["certify", count, seed] => certify::certify(number(count), number(seed)),
         _ => {
-            eprintln!("compare plans COUNT SEED | certificates COUNT SEED | sessions COUNT SEED PROGRAM");
+            eprintln!("compare plans COUNT SEED | certificates COUNT SEED | sessions COUNT SEED PROGRAM | certify COUNT SEED");
             false
         }
     };

@@ -155,7 +155,7 @@ fn vertex_count(random: &mut Random) -> usize {
 /// A plan of one of the families, numbered at random, sometimes with a few edges changed.
 pub fn any_plan(random: &mut Random) -> Plan {
     let n = vertex_count(random);
-    let (n, mut edges) = family(n, random);
+    let (n, mut edges) = family(random.below(16), n, random);
     if random.chance(25) {
         for _ in 0..random.within(1, 3) {
             if random.chance(50) || edges.is_empty() {
@@ -165,6 +165,28 @@ pub fn any_plan(random: &mut Random) -> Plan {
             }
         }
     }
+    numbered(n, &edges, random)
+}
+
+/// A plan with more than 6 vertices, one family after the other: 16 of `family` and four more.
+pub fn larger_plan(turn: usize, random: &mut Random) -> Plan {
+    let n = match random.below(4) {
+        0 => random.within(7, 16),
+        1 => random.within(17, 64),
+        2 => random.within(65, 127),
+        _ => MOST_VERTICES,
+    };
+    let (n, edges) = match turn % 20 {
+        16 => (n, three_tree(n, random)),
+        // Disconnected, or with a vertex or two planted that separate.
+        17..=19 => (n, two_pieces(n, turn % 20 - 17, random)),
+        which => family(which, n, random),
+    };
+    numbered(n, &edges, random)
+}
+
+/// The plan, mostly numbered at random; edges beyond the limit are left out.
+fn numbered(n: usize, edges: &[(usize, usize)], random: &mut Random) -> Plan {
     let mut labels: Vec<usize> = (0..n).collect();
     if random.chance(80) {
         random.shuffle(&mut labels);
@@ -174,6 +196,16 @@ pub fn any_plan(random: &mut Random) -> Plan {
         plan.edges.remove(random.below(plan.edges.len()));
     }
     plan
+}
+
+/// How many plans on 4, 5, 6 and 7 vertices have the figures 0, 1, 2 and 3.
+pub const FIGURES: [[usize; 4]; 4] =
+    [[26, 28, 9, 1], [296, 490, 212, 26], [6064, 15336, 9600, 1768], [230896, 851368, 789792, 225096]];
+
+/// Every plan on n vertices.
+pub fn every_plan(n: usize) -> impl Iterator<Item = Plan> {
+    let pairs = complete(n);
+    (0..1u32 << pairs.len()).map(move |set| Plan::new(n, (0..pairs.len()).filter(|i| set >> i & 1 == 1).map(|i| pairs[i])))
 }
 
 pub fn random_edge(n: usize, random: &mut Random) -> (usize, usize) {
@@ -198,9 +230,9 @@ fn complete(n: usize) -> Vec<(usize, usize)> {
     (0..n).flat_map(|b| (0..b).map(move |a| (a, b))).collect()
 }
 
-fn family(n: usize, random: &mut Random) -> (usize, Vec<(usize, usize)>) {
+fn family(which: usize, n: usize, random: &mut Random) -> (usize, Vec<(usize, usize)>) {
     let pairs = n * (n - 1) / 2;
-    match random.below(16) {
+    match which {
         // Random, from empty to full.
         0 => (n, random_edges(n, random.within(0, pairs.min(MOST_EDGES)), random)),
         // Sparse: about as many edges as vertices.
@@ -293,6 +325,29 @@ fn pieces(n: usize, random: &mut Random) -> (usize, Vec<(usize, usize)>) {
         made += size;
     }
     (n, edges)
+}
+
+/// Four vertices with every edge, then each vertex joined to three that are joined to each other.
+fn three_tree(n: usize, random: &mut Random) -> Vec<(usize, usize)> {
+    let mut edges = complete(4);
+    let mut triangles = vec![[0, 1, 2], [0, 1, 3], [0, 2, 3], [1, 2, 3]];
+    for v in 4..n {
+        let [a, b, c] = *random.pick(&triangles);
+        edges.extend([(a, v), (b, v), (c, v)]);
+        triangles.extend([[a, b, v], [a, c, v], [b, c, v]]);
+    }
+    edges
+}
+
+/// Two pieces with the vertices below `shared` in common, each a cycle and random edges.
+fn two_pieces(n: usize, shared: usize, random: &mut Random) -> Vec<(usize, usize)> {
+    let first = random.within(shared + 2, n - 2);
+    let mut edges = Vec::new();
+    for piece in [(0..first).collect::<Vec<usize>>(), (0..shared).chain(first..n).collect()] {
+        let within = [cycle(piece.len()), random_edges(piece.len(), random.below(4 * piece.len()), random)].concat();
+        edges.extend(within.iter().map(|&(a, b)| (piece[a], piece[b])));
+    }
+    edges
 }
 
 // ---------------------------------------------------------------- damage to bytes and numbers

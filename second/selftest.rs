@@ -8,7 +8,7 @@
 mod generate;
 mod reference;
 
-use generate::{any_plan, Call, Generator, Script};
+use generate::{any_plan, every_plan, Call, Generator, Script, FIGURES};
 use reference::*;
 use std::collections::BTreeMap;
 use std::process::exit;
@@ -163,14 +163,11 @@ fn barns() -> bool {
 
 /// Every plan on 4 to `most` vertices, counted by connectivity.
 fn figures(most: usize) -> bool {
-    let expected = [[26, 28, 9, 1], [296, 490, 212, 26], [6064, 15336, 9600, 1768], [230896, 851368, 789792, 225096]];
     let mut right = true;
     for n in 4..=most {
-        let expected = expected[n - 4];
-        let pairs: Vec<(usize, usize)> = (0..n).flat_map(|b| (0..b).map(move |a| (a, b))).collect();
+        let expected = FIGURES[n - 4];
         let mut counts = [0; 4];
-        for set in 0..1u32 << pairs.len() {
-            let plan = Plan::new(n, (0..pairs.len()).filter(|i| set >> i & 1 == 1).map(|i| pairs[i]));
+        for plan in every_plan(n) {
             let figure = connectivity(&plan);
             counts[figure as usize] += 1;
             right &= figure == connectivity_by_low_points(&plan);

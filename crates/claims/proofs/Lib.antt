@@ -1,4 +1,5 @@
 pub mod Starred
+pub mod Demands
 pub mod Checking
 pub mod Program
 pub mod Sessions

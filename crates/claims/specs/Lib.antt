@@ -1,3 +1,4 @@
 pub mod Starred
 pub mod Certified
 pub mod Calls
+pub mod Demands

@@ -14,7 +14,7 @@ use Rattle.connectivity.specs.Graph.{Graph, Simple, Adj, edges, edgeCoun
 use Rattle.connectivity.specs.Connectivity.{connectivity}
 use Rattle.connectivity.specs.Path.{Link, vertices, link, usedEdges, edge, pathEdges}
 use Rattle.connectivity.specs.Build.{IsBranch, final}
-use Rattle.connectivity.specs.Certificate.{Separation, Tree, Cycle, Ear, Ears, inside, Certificate, Rules, build, tree, separation, ears, kind}
+use Rattle.connectivity.specs.Certificate.{Separation, Tree, Cycle, Ear, Ears, inside, Certificate, Rules, BuildRules, build, tree, separation, ears, kind}
 use Rattle.connectivity.proofs.Lists.{ascending-below, select-in, in-below, clash, in-select, below-in, scan, in?, true?, either, in-member, member-in, out-member, at-most, in-single, at-least, nodup-append, in-append, beside, and-not?, in-two-swap}
 use Rattle.connectivity.proofs.Paths.{nodup-inner, inner-in, two-vertices, edge-sorted, in-used, consecutive-path, edge-comm, builtVertices, length-path}
 use Rattle.connectivity.proofs.Edges.{edge-high, edge-differ, path-low, edges-in}
@@ -28,20 +28,20 @@ use Rattle.connectivity.proofs.FirstLinks.{cycle-through, Around, Other
 use Rattle.connectivity.proofs.RecordedSteps.{build-of, BuildOf, branch-end, build-used}
 
 -- A CLOSED SET IS A SIDE.
-pub separated-side : (g : Graph) (X : List ℕ) → Separated g X → (S : List ℕ) × Separation g X S
-separated-side g X t = (
-  select (t .side) (below (g .n)),
-  record {
-    ascending = ascending-below (t .side) (g .n);
-    remaining = λ u h. let r = select-in (t .side) (below (g .n)) u h in (in-below (g .n) u (r .0), λ k. clash (r .1) (t .out u k));
-    some-side = (t .w, into (t .w) (t .w-low) (t .w-in));
-    some-rest = (t .v, (t .v-left, λ h. clash (select-in (t .side) (below (g .n)) (t .v) h .1) (t .v-out)));
-    no-edge = λ u v h r k. r .1 (into v (r .0 .0) (t .closed u v (select-in (t .side) (below (g .n)) u h .1) k (r .0 .1)));
-  },
-)
+pub side-separation : (g : Graph) (X : List ℕ) (t : Separated g X) → Separation g X (select (t .side) (below (g .n)))
+side-separation g X t = record {
+  ascending = ascending-below (t .side) (g .n);
+  remaining = λ u h. let r = select-in (t .side) (below (g .n)) u h in (in-below (g .n) u (r .0), λ k. clash (r .1) (t .out u k));
+  some-side = (t .w, into (t .w) (t .w-low) (t .w-in));
+  some-rest = (t .v, (t .v-left, λ h. clash (select-in (t .side) (below (g .n)) (t .v) h .1) (t .v-out)));
+  no-edge = λ u v h r k. r .1 (into v (r .0 .0) (t .closed u v (select-in (t .side) (below (g .n)) u h .1) k (r .0 .1)));
+}
   where
     into : (u : ℕ) → u < g .n → t .side u ≡ true → In u (select (t .side) (below (g .n)))
     into u h e = in-select (t .side) (below (g .n)) u (below-in (g .n) u h) e
+
+pub separated-side : (g : Graph) (X : List ℕ) → Separated g X → (S : List ℕ) × Separation g X S
+separated-side g X t = (select (t .side) (below (g .n)), side-separation g X t)
 
 module _ (g : Graph) (p : Simple g) where
   -- an edge out of T, or none
@@ -147,10 +147,10 @@ module _ (g : Graph) (p : Simple g) where
   abbrev Covers : List ℕ → Type 0
   Covers B = (es : List Link) × Ears g B es × ((z : ℕ) → z < g .n → In z (inside B es))
 
-  ear-fair : (B : List ℕ) (P : Link) → Ear g B P → Fair B → Fair (P .inner ++ B)
+  pub ear-fair : (B : List ℕ) (P : Link) → Ear g B P → Fair B → Fair (P .inner ++ B)
   ear-fair B P e t = (nodup-append (P .inner) B (nodup-inner P (e .is-path .nodup)) (t .0) (e .new), λ w h. ⊎-elim (λ k. path-low g p P (e .is-path) w (inner-in w P k)) (t .1 w) (in-append w (P .inner) B h))
 
-  ear-grows : (B : List ℕ) (P : Link) → Ear g B P → length B < length (P .inner ++ B)
+  pub ear-grows : (B : List ℕ) (P : Link) → Ear g B P → length B < length (P .inner ++ B)
   ear-grows B P e = omega (arith, e .long, length-append (P .inner) B, length-append (P .inner) (P .t ∷ []))
 
   ears-run : (fuel : ℕ) (B : List ℕ) → 2 ≤ length B → Fair B → g .n < length B + fuel → Covers B ⊎ CutVertex g
@@ -179,7 +179,7 @@ module _ (g : Graph) (p : Simple g) where
     pub all-in : (z : ℕ) → z < g .n → In z (inside (vertices first) later)
     pub count : suc (length later) ≤ g .n - 2
 
-  ears-size : (B : List ℕ) (es : List Link) → Fair B → Ears g B es → Fair (inside B es) × (length B + length es ≤ length (inside B es))
+  pub ears-size : (B : List ℕ) (es : List Link) → Fair B → Ears g B es → Fair (inside B es) × (length B + length es ≤ length (inside B es))
   ears-size B [] t y = (t, omega arith)
   ears-size B (P ∷ es) t y = let r = ears-size (P .inner ++ B) es (ear-fair B P (y .0) t) (y .1) in (r .0, omega (arith, ear-grows B P (y .0)))
 
@@ -199,27 +199,23 @@ module _ (g : Graph) (p : Simple g) where
   abbrev pub Certified : Type 0
   Certified = (x : Certificate) × Rules g x
 
-  pub finished-build : (ls : List Link) → Recorded (Adj g) ls → Finished g ls → Certified
-  finished-build ls val fin =
-      let b = build-of (Adj g) ls val in
+  pub finished-rules : (ls : List Link) → Recorded (Adj g) ls → Finished g ls → (b : BuildOf (Adj g) ls) → BuildRules g (b .subdivision .p) (b .subdivision .q) (b .subdivision .r) (b .subdivision .s) (b .start) (b .further)
+  finished-rules ls val fin b =
       let x = b .subdivision in
-      let n = build-count g p (b .start) (b .further) x (b .steps) (branch b) (used b) in (
-        build (x .p) (x .q) (x .r) (x .s) (b .start) (b .further),
-        record {
-          first = record {
-            pq = x .pq;
-            qr = x .qr;
-            rs = x .rs;
-            low = start-low g p (theFour x) (b .start) (x .paths) (x .s) (omega arith) (inr (inr (inr (inl refl))));
-            shape = x .paths .shape;
-            starts = nodup-starts (Adj g) (theFour x) (b .start) (start-path (Adj g) (theFour x) (b .start) (x .paths)) (x .paths .nodup);
-          };
-          enough = omega (arith, n);
-          count = omega (arith, n);
-          steps = b .steps;
-          all-branch = branch b;
-        },
-      )
+      let n = build-count g p (b .start) (b .further) x (b .steps) (branch b) (used b) in record {
+        first = record {
+          pq = x .pq;
+          qr = x .qr;
+          rs = x .rs;
+          low = start-low g p (theFour x) (b .start) (x .paths) (x .s) (omega arith) (inr (inr (inr (inl refl))));
+          shape = x .paths .shape;
+          starts = nodup-starts (Adj g) (theFour x) (b .start) (start-path (Adj g) (theFour x) (b .start) (x .paths)) (x .paths .nodup);
+        };
+        enough = omega (arith, n);
+        count = omega (arith, n);
+        steps = b .steps;
+        all-branch = branch b;
+      }
     where
       branch : (b : BuildOf (Adj g) ls) → (z : ℕ) → z < g .n → IsBranch z (final (b .start) (b .further))
       branch b z h = subst (λ (k : List Link). IsBranch z k) (sym (b .links)) (branch-end (Adj g) ls (recorded-path (Adj g) ls val) z (fin .all-branch z h))
@@ -232,6 +228,9 @@ module _ (g : Graph) (p : Simple g) where
 
       used : (b : BuildOf (Adj g) ls) → (e : ℕ × ℕ) → In e (edges g) → In e (usedEdges (final (b .start) (b .further)))
       used b e h = subst (λ (k : List (ℕ × ℕ)). In e k) (sym (build-used (Adj g) ls b)) (edge-used e h)
+
+  pub finished-build : (ls : List Link) → Recorded (Adj g) ls → Finished g ls → Certified
+  finished-build ls val fin = let b = build-of (Adj g) ls val in let x = b .subdivision in (build (x .p) (x .q) (x .r) (x .s) (b .start) (b .further), finished-rules ls val fin b)
 
   -- the record uses at most all edges, and every step uses more
   pub recorded-most : (ls : List Link) → Recorded (Adj g) ls → length (usedEdges ls) ≤ edgeCount g

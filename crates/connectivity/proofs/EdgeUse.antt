@@ -18,7 +18,7 @@ use Rattle.connectivity.proofs.Invariant.{Invariant, taken-invariant}
 use Rattle.connectivity.proofs.Start.{Subdivision, theFour, start-invariant, end-start, four-branch, start-ends, clear-start, inner-sole, start-path}
 
 -- splitting keeps the edges, in order
-edges-cut : (s : ℕ) (p : List ℕ) (x : ℕ) (q : List ℕ) (t : ℕ) → edgesAlong s (p ++ (x ∷ q)) t ≡ edgesAlong s p x ++ edgesAlong x q t
+pub edges-cut : (s : ℕ) (p : List ℕ) (x : ℕ) (q : List ℕ) (t : ℕ) → edgesAlong s (p ++ (x ∷ q)) t ≡ edgesAlong s p x ++ edgesAlong x q t
 edges-cut s [] x q t = refl
 edges-cut s (a ∷ p) x q t = ap (λ (k : List (ℕ × ℕ)). edge s a ∷ k) (edges-cut a p x q t)
 
@@ -229,7 +229,7 @@ module _ (E : ℕ → ℕ → Type 0) (links : List Link) (k : ℕ) (t : Tally E
           inner-not-end (b .0) (path (b .0) (b .1)) w (rw (t .inner-once (r .0) (b .0) (r .1) (b .1) w (r .2) (end-vertex w (b .0) (b .2))) at (r .2)) (b .2)
 
 -- The edges that the start and the further paths use are those of the links at the end.
-used-append : (ls ms : List Link) → usedEdges (ls ++ ms) ≡ usedEdges ls ++ usedEdges ms
+pub used-append : (ls ms : List Link) → usedEdges (ls ++ ms) ≡ usedEdges ls ++ usedEdges ms
 used-append [] ms = refl
 used-append (L ∷ ls) ms = ap (λ (k : List (ℕ × ℕ)). pathEdges L ++ k) (used-append ls ms) ∙ sym (append-assoc (pathEdges L) (usedEdges ls) (usedEdges ms))
 

@@ -87,10 +87,10 @@ module _ (g : Graph) (p : Simple g) (B : List ℕ) (ls : List Link) (x : StartPa
           nd .0 (rw (e .0, e .1) (in-ends ns (r .0) (r .1))))
 
   -- such a list is there
-  abbrev Oriented : ℕ → ℕ → Type 0
+  abbrev pub Oriented : ℕ → ℕ → Type 0
   Oriented u v = (M : Link) × (M .s ≡ u) × (M .t ≡ v) × OneOf ls M
 
-  oriented : (u v : ℕ) → In u B → In v B → u ≢ v → Oriented u v
+  pub oriented : (u v : ℕ) → In u B → In v B → u ≢ v → Oriented u v
   oriented u v hu hv ne = let r = start-joined (Adj g) B ls x u v hu hv ne in ⊎-elim (λ (e : (u ≡ r .0 .s) × (v ≡ r .0 .t)). (r .0, sym (e .0), sym (e .1), (r .0, r .1, inl refl)))
       (λ (e : (u ≡ r .0 .t) × (v ≡ r .0 .s)). (reversed (r .0), sym (e .0), sym (e .1), (r .0, r .1, inr refl))) (r .2)
 
@@ -177,47 +177,85 @@ recorded-start : (g : Graph) → ((ms : List Link) × Subdivision (Adj g) ms) �
 recorded-start g ([], x) = absurd (omega (arith, ap length (x .paths .shape)))
 recorded-start g (M ∷ ms, x) = begun (M ∷ ms) (inl x)
 
+-- a path l from s inside one link to t inside another: six links between a, s, t, b
+abbrev pub sixBetween : (a b : ℕ) (p₁ : List ℕ) (s : ℕ) (p₂ q₁ : List ℕ) (t : ℕ) (q₂ r l : List ℕ) → List Link
+sixBetween a b p₁ s p₂ q₁ t q₂ r l = link a p₁ s ∷ (link a q₁ t ∷ (link a r b ∷ (link s l t ∷ (link s p₂ b ∷ (link t q₂ b ∷ [])))))
+
+pub six-paths : (E : ℕ → ℕ → Type 0) (a b : ℕ) (p₁ : List ℕ) (s : ℕ) (p₂ q₁ : List ℕ) (t : ℕ) (q₂ r l : List ℕ) → Along E a (p₁ ++ (s ∷ p₂)) b → Along E a (q₁ ++ (t ∷ q₂)) b → Along E a r b → Along E s l t
+    → NoDup (l ++ ((p₁ ++ (s ∷ p₂)) ++ ((q₁ ++ (t ∷ q₂)) ++ (r ++ (a ∷ (b ∷ [])))))) → StartPaths E (four a s t b) (sixBetween a b p₁ s p₂ q₁ t q₂ r l)
+six-paths E a b p₁ s p₂ q₁ t q₂ r l ap aq ar al nd = record { shape = refl; along = along; nodup = nodup-count ℕ-discrete (innerVertices six ++ four a s t b) old nd into (simp length-append (omega arith)) }
+  where
+    six : List Link
+    six = sixBetween a b p₁ s p₂ q₁ t q₂ r l
+
+    old : List ℕ
+    old = l ++ ((p₁ ++ (s ∷ p₂)) ++ ((q₁ ++ (t ∷ q₂)) ++ (r ++ (a ∷ (b ∷ [])))))
+
+    along : (M : Link) → In M six → Along E (M .s) (M .inner) (M .t)
+    along M (inl e) = rw e (along-cut E a p₁ s p₂ b ap .0)
+    along M (inr (inl e)) = rw e (along-cut E a q₁ t q₂ b aq .0)
+    along M (inr (inr (inl e))) = rw e ar
+    along M (inr (inr (inr (inl e)))) = rw e al
+    along M (inr (inr (inr (inr (inl e))))) = rw e (along-cut E a p₁ s p₂ b ap .1)
+    along M (inr (inr (inr (inr (inr (inl e)))))) = rw e (along-cut E a q₁ t q₂ b aq .1)
+    along M (inr (inr (inr (inr (inr (inr h)))))) = absurd h
+
+    into : (w : ℕ) → In w old → In w (innerVertices six ++ four a s t b)
+    into w h = ⊎-elim (inner (link s l t) (inr (inr (inr (inl refl)))))
+        (λ k. ⊎-elim at-p (λ j. ⊎-elim at-q at-r (in-append w (q₁ ++ (t ∷ q₂)) (r ++ (a ∷ (b ∷ []))) j)) (in-append w (p₁ ++ (s ∷ p₂)) ((q₁ ++ (t ∷ q₂)) ++ (r ++ (a ∷ (b ∷ [])))) k))
+        (in-append w l ((p₁ ++ (s ∷ p₂)) ++ ((q₁ ++ (t ∷ q₂)) ++ (r ++ (a ∷ (b ∷ []))))) h)
+      where
+        inner : (M : Link) → In M six → In w (M .inner) → In w (innerVertices six ++ four a s t b)
+        inner M h k = in-left w (innerVertices six) (four a s t b) (in-inner M six w h k)
+
+        branch : In w (four a s t b) → In w (innerVertices six ++ four a s t b)
+        branch h = in-right w (innerVertices six) (four a s t b) h
+
+        at-p : In w (p₁ ++ (s ∷ p₂)) → In w (innerVertices six ++ four a s t b)
+        at-p h = ⊎-elim (inner (link a p₁ s) (inl refl)) (λ k. ⊎-elim (λ e. branch (inr (inl e))) (inner (link s p₂ b) (inr (inr (inr (inr (inl refl)))))) k) (in-append w p₁ (s ∷ p₂) h)
+
+        at-q : In w (q₁ ++ (t ∷ q₂)) → In w (innerVertices six ++ four a s t b)
+        at-q h = ⊎-elim (inner (link a q₁ t) (inr (inl refl))) (λ k. ⊎-elim (λ e. branch (inr (inr (inl e)))) (inner (link t q₂ b) (inr (inr (inr (inr (inr (inl refl))))))) k) (in-append w q₁ (t ∷ q₂) h)
+
+        at-r : In w (r ++ (a ∷ (b ∷ []))) → In w (innerVertices six ++ four a s t b)
+        at-r h = ⊎-elim (inner (link a r b) (inr (inr (inl refl)))) (λ k. ⊎-elim (λ e. branch (inl e)) (λ j. branch (inr (inr (inr j)))) k) (in-append w r (a ∷ (b ∷ [])) h)
+
+-- a cycle through a, given by the path P without a, and a path Q from a neighbour of a to the cycle: the three links
+pub three-nodup : (a : ℕ) (P Q : Link) → NoDup (vertices P) → ¬ In a (vertices P) → NoDup (vertices Q) → ¬ In a (Q .s ∷ Q .inner) → ((w : ℕ) → In w (Q .s ∷ Q .inner) → ¬ In w (vertices P))
+    → (u v : List ℕ) → vertices P ≡ u ++ (Q .t ∷ v) → NoDup ((Q .s ∷ Q .inner) ++ (u ++ (rev v ++ (a ∷ (Q .t ∷ [])))))
+three-nodup a P Q nP na nQ aQ off u v e = nodup-count ℕ-discrete new ((Q .s ∷ Q .inner) ++ (a ∷ (u ++ (Q .t ∷ v)))) old into (simp (length-append, length-rev) (omega arith))
+  where
+    new : List ℕ
+    new = (Q .s ∷ Q .inner) ++ (u ++ (rev v ++ (a ∷ (Q .t ∷ []))))
+
+    on-P : (w : ℕ) → In w (u ++ (Q .t ∷ v)) → In w (vertices P)
+    on-P w h = subst (λ (k : List ℕ). In w k) (sym e) h
+
+    old : NoDup ((Q .s ∷ Q .inner) ++ (a ∷ (u ++ (Q .t ∷ v))))
+    old = nodup-append (Q .s ∷ Q .inner) (a ∷ (u ++ (Q .t ∷ v))) (nodup-left (Q .s ∷ Q .inner) (Q .t ∷ []) nQ)
+        ((λ h. na (on-P a h)), subst (λ (k : List ℕ). NoDup k) e nP) (λ w h k. ⊎-elim (λ i. aQ (rw i at h)) (λ j. off w h (on-P w j)) k)
+
+    ends : (w : ℕ) → In w (a ∷ (Q .t ∷ [])) → In w new
+    ends w h = in-right w (Q .s ∷ Q .inner) (u ++ (rev v ++ (a ∷ (Q .t ∷ [])))) (in-right w u (rev v ++ (a ∷ (Q .t ∷ []))) (in-right w (rev v) (a ∷ (Q .t ∷ [])) h))
+
+    halves : (w : ℕ) → In w u ⊎ In w (rev v) → In w new
+    halves w h = in-right w (Q .s ∷ Q .inner) (u ++ (rev v ++ (a ∷ (Q .t ∷ [])))) (⊎-elim (in-left w u (rev v ++ (a ∷ (Q .t ∷ [])))) (λ k. in-right w u (rev v ++ (a ∷ (Q .t ∷ []))) (in-left w (rev v) (a ∷ (Q .t ∷ [])) k)) h)
+
+    into : (w : ℕ) → In w ((Q .s ∷ Q .inner) ++ (a ∷ (u ++ (Q .t ∷ v)))) → In w new
+    into w h = ⊎-elim (in-left w (Q .s ∷ Q .inner) (u ++ (rev v ++ (a ∷ (Q .t ∷ [])))))
+        (λ k. ⊎-elim (λ i. ends w (inl i)) (λ j. ⊎-elim (λ i. halves w (inl i)) (λ i. ⊎-elim (λ m. ends w (inr (inl m))) (λ m. halves w (inr (in-rev w v m))) i) (in-append w u (Q .t ∷ v) j)) k)
+        (in-append w (Q .s ∷ Q .inner) (a ∷ (u ++ (Q .t ∷ v))) h)
+
+pub two-arcs : (E : ℕ → ℕ → Type 0) → ((u v : ℕ) → E u v → E v u) → (a : ℕ) (P : Link) → E a (P .s) → Along E (P .s) (P .inner) (P .t) → E a (P .t) → (b : ℕ) (u v : List ℕ) → vertices P ≡ u ++ (b ∷ v) → Along E a u b × Along E a (rev v) b
+two-arcs E esym a P ks path kt b u v e =
+    let round : Along E a (vertices P) a = along-join E a (P .s ∷ P .inner) (P .t) [] a (ks, path) (esym a (P .t) kt) in
+    let cut = along-cut E a u b v a (subst (λ (k : List ℕ). Along E a k a) e round) in
+    (cut .0, along-rev E esym b v a (cut .1))
+
 module _ (g : Graph) (p : Simple g) where
-  -- a path l from s inside one link to t inside another: six links between a, s, t, b
   four-links : (a b : ℕ) (p₁ : List ℕ) (s : ℕ) (p₂ q₁ : List ℕ) (t : ℕ) (q₂ r l : List ℕ) → Along (Adj g) a (p₁ ++ (s ∷ p₂)) b → Along (Adj g) a (q₁ ++ (t ∷ q₂)) b → Along (Adj g) a r b → Along (Adj g) s l t
       → NoDup (l ++ ((p₁ ++ (s ∷ p₂)) ++ ((q₁ ++ (t ∷ q₂)) ++ (r ++ (a ∷ (b ∷ [])))))) → Begin g
-  four-links a b p₁ s p₂ q₁ t q₂ r l ap aq ar al nd = recorded-start g
-      (sort-start g p (four a s t b) six (record { shape = refl; along = along; nodup = nodup-count ℕ-discrete (innerVertices six ++ four a s t b) old nd into (simp length-append (omega arith)) }) refl)
-    where
-      six : List Link
-      six = link a p₁ s ∷ (link a q₁ t ∷ (link a r b ∷ (link s l t ∷ (link s p₂ b ∷ (link t q₂ b ∷ [])))))
-
-      old : List ℕ
-      old = l ++ ((p₁ ++ (s ∷ p₂)) ++ ((q₁ ++ (t ∷ q₂)) ++ (r ++ (a ∷ (b ∷ [])))))
-
-      along : (M : Link) → In M six → Along (Adj g) (M .s) (M .inner) (M .t)
-      along M (inl e) = rw e (along-cut (Adj g) a p₁ s p₂ b ap .0)
-      along M (inr (inl e)) = rw e (along-cut (Adj g) a q₁ t q₂ b aq .0)
-      along M (inr (inr (inl e))) = rw e ar
-      along M (inr (inr (inr (inl e)))) = rw e al
-      along M (inr (inr (inr (inr (inl e))))) = rw e (along-cut (Adj g) a p₁ s p₂ b ap .1)
-      along M (inr (inr (inr (inr (inr (inl e)))))) = rw e (along-cut (Adj g) a q₁ t q₂ b aq .1)
-      along M (inr (inr (inr (inr (inr (inr h)))))) = absurd h
-
-      into : (w : ℕ) → In w old → In w (innerVertices six ++ four a s t b)
-      into w h = ⊎-elim (inner (link s l t) (inr (inr (inr (inl refl)))))
-          (λ k. ⊎-elim at-p (λ j. ⊎-elim at-q at-r (in-append w (q₁ ++ (t ∷ q₂)) (r ++ (a ∷ (b ∷ []))) j)) (in-append w (p₁ ++ (s ∷ p₂)) ((q₁ ++ (t ∷ q₂)) ++ (r ++ (a ∷ (b ∷ [])))) k))
-          (in-append w l ((p₁ ++ (s ∷ p₂)) ++ ((q₁ ++ (t ∷ q₂)) ++ (r ++ (a ∷ (b ∷ []))))) h)
-        where
-          inner : (M : Link) → In M six → In w (M .inner) → In w (innerVertices six ++ four a s t b)
-          inner M h k = in-left w (innerVertices six) (four a s t b) (in-inner M six w h k)
-
-          branch : In w (four a s t b) → In w (innerVertices six ++ four a s t b)
-          branch h = in-right w (innerVertices six) (four a s t b) h
-
-          at-p : In w (p₁ ++ (s ∷ p₂)) → In w (innerVertices six ++ four a s t b)
-          at-p h = ⊎-elim (inner (link a p₁ s) (inl refl)) (λ k. ⊎-elim (λ e. branch (inr (inl e))) (inner (link s p₂ b) (inr (inr (inr (inr (inl refl)))))) k) (in-append w p₁ (s ∷ p₂) h)
-
-          at-q : In w (q₁ ++ (t ∷ q₂)) → In w (innerVertices six ++ four a s t b)
-          at-q h = ⊎-elim (inner (link a q₁ t) (inr (inl refl))) (λ k. ⊎-elim (λ e. branch (inr (inr (inl e)))) (inner (link t q₂ b) (inr (inr (inr (inr (inr (inl refl))))))) k) (in-append w q₁ (t ∷ q₂) h)
-
-          at-r : In w (r ++ (a ∷ (b ∷ []))) → In w (innerVertices six ++ four a s t b)
-          at-r h = ⊎-elim (inner (link a r b) (inr (inr (inl refl)))) (λ k. ⊎-elim (λ e. branch (inl e)) (λ j. branch (inr (inr (inr j)))) k) (in-append w r (a ∷ (b ∷ [])) h)
+  four-links a b p₁ s p₂ q₁ t q₂ r l ap aq ar al nd = recorded-start g (sort-start g p (four a s t b) (sixBetween a b p₁ s p₂ q₁ t q₂ r l) (six-paths (Adj g) a b p₁ s p₂ q₁ t q₂ r l ap aq ar al nd) refl)
 
   -- FROM THREE LINKS TO FOUR BRANCH VERTICES
   module _ (th : ThreeLinks g) where
@@ -300,8 +338,7 @@ module _ (g : Graph) (p : Simple g) where
     module _ (P : Link) (path : IsPath (Adj g) P) (ks : Adj g a (P .s)) (kt : Adj g a (P .t)) (na : ¬ In a (vertices P)) (z : ℕ) (kz : Adj g a z) (nz : ¬ In z (vertices P)) where
       three-links : (Q : Link) → IsPath (Adj g) Q → Adj g a (Q .s) → ¬ In a (Q .s ∷ Q .inner) → ((w : ℕ) → In w (Q .s ∷ Q .inner) → ¬ In w (vertices P)) → (u v : List ℕ) → vertices P ≡ u ++ (Q .t ∷ v) → ThreeLinks g
       three-links Q pathQ kQ aQ off u v e =
-          let round : Along (Adj g) a (vertices P) a = along-join (Adj g) a (P .s ∷ P .inner) (P .t) [] a (ks, path .along) (p .symmetric a (P .t) kt) in
-          let cut = along-cut (Adj g) a u (Q .t) v a (subst (λ (k : List ℕ). Along (Adj g) a k a) e round) in
+          let arcs = two-arcs (Adj g) (p .symmetric) a P ks (path .along) kt (Q .t) u v e in
           let y = witness (ℕ-discrete (P .s) (Q .t)) in
           record {
             a = a;
@@ -310,36 +347,15 @@ module _ (g : Graph) (p : Simple g) where
             q = u;
             r = rev v;
             along-p = (kQ, pathQ .along);
-            along-q = cut .0;
-            along-r = along-rev (Adj g) (p .symmetric) (Q .t) v a (cut .1);
-            nodup = nodup-count ℕ-discrete ((Q .s ∷ Q .inner) ++ (u ++ (rev v ++ (a ∷ (Q .t ∷ []))))) ((Q .s ∷ Q .inner) ++ (a ∷ (u ++ (Q .t ∷ v)))) old into (simp (length-append, length-rev) (omega arith));
+            along-q = arcs .0;
+            along-r = arcs .1;
+            nodup = three-nodup a P Q (path .nodup) na (pathQ .nodup) aQ off u v e;
             x = Q .s;
             x-in = inl refl;
             y = y .0;
             y-in = y .1;
           }
         where
-          new : List ℕ
-          new = (Q .s ∷ Q .inner) ++ (u ++ (rev v ++ (a ∷ (Q .t ∷ []))))
-
-          on-P : (w : ℕ) → In w (u ++ (Q .t ∷ v)) → In w (vertices P)
-          on-P w h = subst (λ (k : List ℕ). In w k) (sym e) h
-
-          old : NoDup ((Q .s ∷ Q .inner) ++ (a ∷ (u ++ (Q .t ∷ v))))
-          old = nodup-append (Q .s ∷ Q .inner) (a ∷ (u ++ (Q .t ∷ v))) (nodup-left (Q .s ∷ Q .inner) (Q .t ∷ []) (pathQ .nodup))
-              ((λ h. na (on-P a h)), subst (λ (k : List ℕ). NoDup k) e (path .nodup)) (λ w h k. ⊎-elim (λ i. aQ (rw i at h)) (λ j. off w h (on-P w j)) k)
-
-          ends : (w : ℕ) → In w (a ∷ (Q .t ∷ [])) → In w new
-          ends w h = in-right w (Q .s ∷ Q .inner) (u ++ (rev v ++ (a ∷ (Q .t ∷ [])))) (in-right w u (rev v ++ (a ∷ (Q .t ∷ []))) (in-right w (rev v) (a ∷ (Q .t ∷ [])) h))
-
-          halves : (w : ℕ) → In w u ⊎ In w (rev v) → In w new
-          halves w h = in-right w (Q .s ∷ Q .inner) (u ++ (rev v ++ (a ∷ (Q .t ∷ [])))) (⊎-elim (in-left w u (rev v ++ (a ∷ (Q .t ∷ [])))) (λ k. in-right w u (rev v ++ (a ∷ (Q .t ∷ []))) (in-left w (rev v) (a ∷ (Q .t ∷ [])) k)) h)
-
-          into : (w : ℕ) → In w ((Q .s ∷ Q .inner) ++ (a ∷ (u ++ (Q .t ∷ v)))) → In w new
-          into w h = ⊎-elim (in-left w (Q .s ∷ Q .inner) (u ++ (rev v ++ (a ∷ (Q .t ∷ [])))))
-              (λ k. ⊎-elim (λ i. ends w (inl i)) (λ j. ⊎-elim (λ i. halves w (inl i)) (λ i. ⊎-elim (λ m. ends w (inr (inl m))) (λ m. halves w (inr (in-rev w v m))) i) (in-append w u (Q .t ∷ v) j)) k)
-              (in-append w (Q .s ∷ Q .inner) (a ∷ (u ++ (Q .t ∷ v))) h)
-
           half : (w : ℕ) → In w (vertices P) → w ≢ Q .t → In w (u ++ rev v)
           half w h ne = ⊎-elim (in-left w u (rev v)) (λ k. ⊎-elim (λ i. absurd (ne i)) (λ m. in-right w u (rev v) (in-rev w v m)) k) (in-append w u (Q .t ∷ v) (subst (λ (k : List ℕ). In w k) e h))
 

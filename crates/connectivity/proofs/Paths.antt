@@ -40,7 +40,7 @@ init-end : (b : ℕ) (l : List ℕ) (t : ℕ) → initOf b (l ++ (t ∷ [])) ≡
 init-end b [] t = refl
 init-end b (a ∷ l) t = ap (λ (k : List ℕ). b ∷ k) (init-end a l t)
 
-last-end : (b : ℕ) (l : List ℕ) (t : ℕ) → lastOf b (l ++ (t ∷ [])) ≡ t
+pub last-end : (b : ℕ) (l : List ℕ) (t : ℕ) → lastOf b (l ++ (t ∷ [])) ≡ t
 last-end b [] t = refl
 last-end b (a ∷ l) t = last-end a l t
 

@@ -19,7 +19,7 @@ use Rattle.connectivity.proofs.Lists.{isYes, no-false, clash, yes-true,
 use Rattle.connectivity.proofs.Order.{Separates, Between, between-join, between-right}
 use Rattle.connectivity.proofs.Paths.{Consecutive, builtVertices, branchVertices, Neighbours, between-or-consecutive, built-in, branch-built, in-built, inner-in, end-or-inner, ends-differ, inner-of, in-branch, nodup-inner, along-rev, lastOf, last-of, along-last}
 use Rattle.connectivity.proofs.Edges.{path-low, edge-high}
-use Rattle.connectivity.proofs.Search.{Closed, Searched, search, detour-path, detour-new}
+use Rattle.connectivity.proofs.Search.{Found, Closed, Searched, search, detour-path, detour-new}
 use Rattle.connectivity.proofs.Recorded.{Extends, Apart, Recorded, recorded-path, recorded-sole, branch-beside}
 
 -- A CLOSED SET IS A SEPARATION: outside X no edge leaves it.
@@ -178,17 +178,20 @@ module _ (g : Graph) (p : Simple g) (ls : List Link) (val : Recorded (Adj g) ls)
         late : In y v → (z : ℕ) × In z (branchVertices ls) × Separates z x y (vertices L)
         late h = (K .t, ht, inl (subst (λ (k : List ℕ). Between x (K .t) y k) (sym cut) (between-right x (K .t) y u (vertices K ++ v) (inr (subst (λ (k : List ℕ). Between x (K .t) y k) (sym (append-assoc (K .inner) (K .t ∷ []) v)) (between-join x (K .t) y (K .inner) (K .t ∷ v) hx (inl (refl, h))))))))
 
-    pub link-step : (w : ℕ) → In w (K .inner) → Searched g (λ z. In z (K .inner)) OffLink (λ z. In z linkEndsOf) → Next g ls
-    link-step w hw (inl f) = extended (f .path) (record {
+    pub link-extends : (f : Found g (λ z. In z (K .inner)) OffLink (λ z. In z linkEndsOf)) → Extends (Adj g) ls (f .path)
+    link-extends f = record {
       is-path = f .is-path;
       from = in-built L ls (f .path .s) hL (on-path (f .path .s) (inner-in (f .path .s) K (f .seed)));
       upto = f .goal .0;
       new = λ z h k. f .off z h .1 (k, λ j. ⊎-elim (λ e. f .off z h .2 (⊎-map (λ i. i) inl e)) (f .off z h .0) (end-or-inner K z j));
       apart = λ M hM x y. same M x y (recorded-sole (Adj g) ls val M L hM hL (f .path .s) x (on-path (f .path .s) (inner-in (f .path .s) K (f .seed))) (hm (f .path .s) (f .seed)));
-    })
+    }
       where
         same : (M : Link) → In (f .path .s) (vertices M) → In (f .path .t) (vertices M) → M ≡ L → (z : ℕ) × In z (branchVertices ls) × Separates z (f .path .s) (f .path .t) (vertices M)
         same M x y e = rw e (inside-outside (f .path .s) (f .path .t) (f .seed) (f .goal .1) (rw e at y))
+
+    pub link-step : (w : ℕ) → In w (K .inner) → Searched g (λ z. In z (K .inner)) OffLink (λ z. In z linkEndsOf) → Next g ls
+    link-step w hw (inl f) = extended (f .path) (link-extends f)
     link-step w hw (inr c) =
         let z = branch-beside (Adj g) ls val linkEndsOf (omega arith) in
         separated-by (record {
@@ -230,7 +233,7 @@ module _ (g : Graph) (p : Simple g) (ls : List Link) (val : Recorded (Adj g) ls)
 
   -- (b) and (c): every vertex of the build is a branch vertex
   module _ (all-branch : (z : ℕ) → In z (builtVertices ls) → In z (branchVertices ls)) where
-    told : (x y : ℕ) → x ≢ y → ((M : Link) → In M ls → Apart (branchVertices ls) (vertices M) x y) ⊎ ((M : Link) × In M ls × Neighbours M x y)
+    pub told : (x y : ℕ) → x ≢ y → ((M : Link) → In M ls → Apart (branchVertices ls) (vertices M) x y) ⊎ ((M : Link) × In M ls × Neighbours M x y)
     told x y ne = apart-or-consecutive (branchVertices ls) x y ne ls (λ M h z k. all-branch z (in-built M ls z h k))
 
     -- a path outside the build, from x to y: it extends the build or is put in between x and y

@@ -64,7 +64,7 @@ abbrev pub recordOf : List Link → List Link → List Link
 recordOf ls [] = ls
 recordOf ls (P ∷ ps) = recordOf (P ∷ ls) ps
 
-record-snoc : (ls ps : List Link) (P : Link) → recordOf ls (ps ++ (P ∷ [])) ≡ P ∷ recordOf ls ps
+pub record-snoc : (ls ps : List Link) (P : Link) → recordOf ls (ps ++ (P ∷ [])) ≡ P ∷ recordOf ls ps
 record-snoc ls [] P = refl
 record-snoc ls (Q ∷ ps) P = record-snoc (Q ∷ ls) ps P
 
@@ -165,6 +165,7 @@ module _ (E : ℕ → ℕ → Type 0) where
     pub further : List Link
     pub steps : Steps E start further
     pub links : final start further ≡ linksOf ls
+    pub gives : recordOf start further ≡ ls
 
   pub build-of : (ls : List Link) → Recorded E ls → BuildOf ls
   build-of ls val =
@@ -178,6 +179,7 @@ module _ (E : ℕ → ℕ → Type 0) where
         further = r .further;
         steps = subst (λ (k : List Link). Steps E k (r .further)) e (s .0);
         links = ap (λ (k : List Link). final k (r .further)) (sym e) ∙ s .1 ∙ ap linksOf (r .gives);
+        gives = r .gives;
       }
 
   pub build-used : (ls : List Link) (b : BuildOf ls) → usedEdges (final (b .start) (b .further)) ≡ usedEdges ls

@@ -6,7 +6,8 @@ use Rattle.record.specs.declared.Answer.{Answer}
 use Rattle.record.specs.declared.Answer.the-variants.{Accepted, Grade, PlanFault, CertificateFault}
 use Rattle.graph.specs.Code.{wholePlan, withPlan}
 use Rattle.graph.specs.declared.PlanRead.{PlanRead}
-use Rattle.fikzarn.specs.Words.{answerWord, rewritten, planRewritten}
+use Rattle.script.specs.Replay.{answerWord}
+use Rattle.fikzarn.specs.Words.{rewritten, planRewritten}
 
 module _ (s out : List ℕ) (r : PlanRead) (e : r ≡ wholePlan s) {w : ℕ} (f : w ≡ answerWord (r .answer)) where
   word-told : w ≡ answerWord (wholePlan s .answer)

@@ -1,19 +1,11 @@
--- An answer as one word, for callers in other languages.
-use Prim.Native.Nat.{ℕ, _+_, _*_, _%_}
+-- What the functions for callers in other languages answer.
+use Prim.Native.Nat.{ℕ}
 use mathlib.Core.List.{List}
 use Rattle.record.specs.declared.Answer.{Answer}
 use Rattle.record.specs.declared.Answer.the-variants.{Accepted, Grade, PlanFault, CertificateFault}
 use Rattle.graph.specs.Code.{wholePlan, withPlan}
-
--- the case in the lowest byte, document 01's number or the grade in the next, the place in the six above
-abbrev pub word : ℕ → ℕ → ℕ → ℕ
-word kind number place = kind + 256 * number + 65536 * (place % 281474976710656)
-
-abbrev pub answerWord : Answer → ℕ
-answerWord Accepted = word 0 0 0
-answerWord (Grade k) = word 1 k 0
-answerWord (PlanFault r p) = word 2 r p
-answerWord (CertificateFault r p) = word 3 r p
+use Rattle.certifier.specs.declared.Made.{Made}
+use Rattle.script.specs.Replay.{word, answerWord, Reply}
 
 -- the buffer after a plan was read: where the plan is accepted and has room, its record written again; else as it was
 abbrev pub rewritten : Answer → List ℕ → List ℕ → List ℕ
@@ -24,3 +16,21 @@ rewritten (CertificateFault r p) buffer written = buffer
 
 abbrev pub planRewritten : List ℕ → List ℕ → List ℕ
 planRewritten s buffer = rewritten (wholePlan s .answer) buffer (withPlan buffer (wholePlan s .graph))
+
+-- the maker's answer as one word: a grade has the certificate's length in the place
+abbrev pub gradeWord : Answer → ℕ → ℕ
+gradeWord Accepted length = answerWord Accepted
+gradeWord (Grade k) length = word 1 k length
+gradeWord (PlanFault r p) length = answerWord (PlanFault r p)
+gradeWord (CertificateFault r p) length = answerWord (CertificateFault r p)
+
+abbrev pub madeWord : Made → ℕ
+madeWord m = gradeWord (m .answer) (m .length)
+
+-- a replay as one word: how the script ended, and the number of answers in the place
+abbrev pub replayWord : Reply → ℕ
+replayWord r = word (r .status) 0 (r .count)
+
+-- the edition of the format
+abbrev pub edition : ℕ
+edition = 0

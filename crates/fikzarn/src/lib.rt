@@ -1,28 +1,14 @@
 // The functions for callers in other languages: numbers and byte slices, one word for an answer.
 ghost use mathlib.Core.Path.{_≡_};
-ghost use Prim.Native.Nat.{_<_};
+ghost use Rattle.graph.specs.Plan.{minVertices, maxVertices, maxEdges};
 ghost use Rattle.graph.specs.Code.{wholePlan};
 ghost use Rattle.checker.specs.Check.{checkOf};
-ghost use Rattle.fikzarn.specs.Words.{word, answerWord, planRewritten};
+ghost use Rattle.certifier.specs.Made.{madeFrom, filledFrom, roomAsked};
+ghost use Rattle.script.specs.Replay.{answerWord, replayOf};
+ghost use Rattle.fikzarn.specs.Words.{planRewritten, madeWord, replayWord, edition};
+use certifier::Made;
+use graph::Graph;
 use record::Answer;
-
-fn word_of(kind: u64, number: u8, place: usize) -> u64
-    requires { ⌜ kind < 4 ⌝ }
-    ensures { λ r. ⌜ r ≡ word kind number place ⌝ }
-{
-    kind + 256 * number as u64 + 65536 * (place as u64 % 281474976710656)
-}
-
-fn answer_word(a: Answer) -> u64
-    ensures { λ r. ⌜ r ≡ answerWord a ⌝ }
-{
-    match a {
-        Answer::Accepted => word_of(0, 0, 0),
-        Answer::Grade(k) => word_of(1, k, 0),
-        Answer::PlanFault(r, p) => word_of(2, r, p),
-        Answer::CertificateFault(r, p) => word_of(3, r, p),
-    }
-}
 
 // Reads a whole plan record. Where it is accepted and has room, writes it again at the start of out; else out stays as it was.
 #[no_mangle]
@@ -35,11 +21,11 @@ pub extern "C" fn fikzarn_plan(input: &[u8], out: &mut [u8]) -> u64
     match answer {
         Answer::Accepted => {
             graph::write_plan(found, out);
-            answer_word(answer)
+            script::answer_word(answer)
         }
-        Answer::Grade(_) => answer_word(answer),
-        Answer::PlanFault(_, _) => answer_word(answer),
-        Answer::CertificateFault(_, _) => answer_word(answer),
+        Answer::Grade(_) => script::answer_word(answer),
+        Answer::PlanFault(_, _) => script::answer_word(answer),
+        Answer::CertificateFault(_, _) => script::answer_word(answer),
     }
 }
 
@@ -49,5 +35,70 @@ pub extern "C" fn fikzarn_check(plan: &[u8], certificate: &[u8]) -> u64
     ensures { λ r. ⌜ r ≡ answerWord (checkOf (now (plan .entry)) (now (certificate .entry))) ⌝ }
 {
     let answer = checker::check(plan, certificate);
-    answer_word(answer)
+    script::answer_word(answer)
+}
+
+// Makes a certificate: at the start of out, every other byte stays; the answer's word, with the certificate's length in the place.
+#[no_mangle]
+pub extern "C" fn fikzarn_certify(plan: &[u8], out: &mut [u8]) -> u64
+    ensures { λ r. ⌜ r ≡ madeWord (madeFrom (now (plan .entry)) (now (out .entry))) ⌝ }
+    ensures { λ r. ⌜ now (out .exit) ≡ filledFrom (now (plan .entry)) (now (out .entry)) ⌝ }
+{
+    let made = certifier::certify(plan, out);
+    let answer = made.answer;
+    let length = made.length;
+    match answer {
+        Answer::Grade(k) => 1 + 256 * k as u64 + 65536 * (length as u64 % 281474976710656),
+        Answer::Accepted => script::answer_word(answer),
+        Answer::PlanFault(_, _) => script::answer_word(answer),
+        Answer::CertificateFault(_, _) => script::answer_word(answer),
+    }
+}
+
+// Replays a session script: the answers' words at the start of out, eight bytes each, the lowest first; every other byte stays.
+// Answers how the script ended and, from the third byte on, how many answers were written.
+#[no_mangle]
+pub extern "C" fn fikzarn_session(script: &[u8], out: &mut [u8]) -> u64
+    ensures { λ r. ⌜ r ≡ replayWord (replayOf (now (script .entry)) (now (out .entry))) ⌝ }
+    ensures { λ r. ⌜ now (out .exit) ≡ replayOf (now (script .entry)) (now (out .entry)) .buffer ⌝ }
+{
+    let replayed = script::replay(script, out);
+    replayed.status as u64 + 65536 * (replayed.count as u64 % 281474976710656)
+}
+
+// The edition of the format.
+#[no_mangle]
+pub extern "C" fn fikzarn_edition() -> u64
+    ensures { λ r. ⌜ r ≡ edition ⌝ }
+{
+    0
+}
+
+#[no_mangle]
+pub extern "C" fn fikzarn_min_boxes() -> u64
+    ensures { λ r. ⌜ r ≡ minVertices ⌝ }
+{
+    Graph::MIN_VERTICES as u64
+}
+
+#[no_mangle]
+pub extern "C" fn fikzarn_max_boxes() -> u64
+    ensures { λ r. ⌜ r ≡ maxVertices ⌝ }
+{
+    Graph::MAX_VERTICES as u64
+}
+
+#[no_mangle]
+pub extern "C" fn fikzarn_max_cables() -> u64
+    ensures { λ r. ⌜ r ≡ maxEdges ⌝ }
+{
+    Graph::MAX_EDGES as u64
+}
+
+// The bytes that a buffer for a certificate must have.
+#[no_mangle]
+pub extern "C" fn fikzarn_certificate_room() -> u64
+    ensures { λ r. ⌜ r ≡ roomAsked ⌝ }
+{
+    Made::ROOM as u64
 }

@@ -40,7 +40,7 @@ bits [] x = false
 bits (e ∷ es) x = eqb x (e .0 * rowBits + e .1) || (eqb x (e .1 * rowBits + e .0) || bits es x)
 
 -- an edge more sets two bits
-has-both : (rows : List ℕ) (e : ℕ × ℕ) → length rows ≡ rowWords → e .0 < maxVertices → e .1 < maxVertices → (x : ℕ)
+pub has-both : (rows : List ℕ) (e : ℕ × ℕ) → length rows ≡ rowWords → e .0 < maxVertices → e .1 < maxVertices → (x : ℕ)
     → has (joined rows e) x ≡ has rows x || (eqb x (e .0 * rowBits + e .1) || eqb x (e .1 * rowBits + e .0))
 has-both rows e l h k x =
     let i : e .0 * rowBits + e .1 < 64 * length rows = omega arith in
@@ -62,7 +62,7 @@ has-joined (e ∷ es) rows h l x =
     ∙ ap (λ (b : Bool). has rows x || b) (or-assoc (eqb x (e .0 * rowBits + e .1)) (eqb x (e .1 * rowBits + e .0)) (bits es x))
 
 -- a bit says which pair it stands for
-same-bit : (u v : ℕ) (e : ℕ × ℕ) → v < rowBits → e .1 < rowBits → eqb (u * rowBits + v) (e .0 * rowBits + e .1) ≡ isPair e u v
+pub same-bit : (u v : ℕ) (e : ℕ × ℕ) → v < rowBits → e .1 < rowBits → eqb (u * rowBits + v) (e .0 * rowBits + e .1) ≡ isPair e u v
 same-bit u v e h k = go (eqb (e .0) u) refl (eqb (e .1) v) refl
   where
     go : (p : Bool) → eqb (e .0) u ≡ p → (q : Bool) → eqb (e .1) v ≡ q → eqb (u * rowBits + v) (e .0 * rowBits + e .1) ≡ p && q

@@ -1,40 +1,15 @@
 // Replays a session script from standard input and prints a line for each call, the opening first.
 // A script is a plan record with its length before it, then calls: `s` or `p` with a part, its length before it, or `c`.
 // A length is two bytes, the lower first. A script that ends inside a call, or has another call, ends the output.
-ghost use mathlib.Core.Path.{_≡_};
-ghost use Rattle.session.specs.Script.{partAt};
 use build::Session;
 use build::Stepped;
 use libc::STDIN_FILENO;
 use libc::STDOUT_FILENO;
 use record::Answer;
+use script::Part;
 
 // the longest script, in bytes
 const LIMIT: usize = 65536;
-
-// Where a part begins and ends; or that the script ends before it does.
-pub enum Part {
-    Within(usize, usize),
-    Cut,
-}
-
-fn part_at(s: &[u8], at: usize) -> Part
-    ensures { λ r. ⌜ r ≡ partAt (now (s .entry)) at ⌝ }
-{
-    if s.len() <= at {
-        return Part::Cut;
-    }
-    let high = at + 1;
-    if s.len() <= high {
-        return Part::Cut;
-    }
-    let start = high + 1;
-    let size = s[at] as usize + 256 * s[high] as usize;
-    if s.len() - start < size {
-        return Part::Cut;
-    }
-    Part::Within(start, start + size)
-}
 
 fn print_refusal(who: &[u8], number: u8, place: usize) {
     io::write_all(STDOUT_FILENO, who);
@@ -118,7 +93,7 @@ fn run(s: &[u8], opened: Session, from: usize) {
             io::write_all(STDOUT_FILENO, b"unknown call\n");
             return;
         }
-        let part = part_at(s, at);
+        let part = script::part_at(s, at);
         let Part::Within(start, end) = part else {
             io::write_all(STDOUT_FILENO, b"script cut short\n");
             return;
@@ -129,7 +104,7 @@ fn run(s: &[u8], opened: Session, from: usize) {
 }
 
 fn replay(s: &[u8]) {
-    let part = part_at(s, 0);
+    let part = script::part_at(s, 0);
     let Part::Within(start, end) = part else {
         io::write_all(STDOUT_FILENO, b"script cut short\n");
         return;

@@ -1,14 +1,15 @@
 -- The bits of a number: what the operations do to them, and that they determine it. Assumes nothing.
 use mathlib.Core.Path.{_≡_, refl, sym, _∙_}
-use mathlib.Core.Bool.{Bool, false, cond, not, _&&_, _||_, true≢false, false≢true}
-use Prim.Native.Nat.{ℕ, zero, suc, _+_, _/_, _%_, _^_, _<_}
+use mathlib.Core.Bool.{Bool, true, false, cond, not, _&&_, _||_, true≢false, false≢true}
+use mathlib.Core.Logic.{_⊎_, inl, inr, ⊎-elim}
+use Prim.Native.Nat.{ℕ, zero, suc, _+_, _/_, _%_, _^_, _<_, _≤_}
 use native.Mathlib.Nat.{mod-lt, zero-div, div-one, add-comm, add-assoc, pow-suc, mul-mod-left}
 use native.Mathlib.Numerals.{add-one}
 use native.Mathlib.Omega.{arith}
 use lib.Dec.{eqb, lit<, eqb·zero-suc, eqb·suc-zero, eqb·suc-suc}
 use lib.Pow.{shr-shr, shr-lt, shl-shr}
 use lib.Bits.{bitOr, bitAnd, or-shr, and-shr, xor-shr, or-mod, and-mod, xor-mod}
-use lib.Count.{ones, ones-step}
+use lib.Count.{ones, ones-step, trailingZeros, under}
 use Rattle.vertexset.specs.Set.{less, tally}
 
 -- bit k of w is 1
@@ -88,3 +89,31 @@ ones-tally (suc n) w h =
       div-one w,
       ← lowest,
     )
+
+-- ---- the lowest bit that is 1
+
+-- an even number has one zero more than its half, an odd one none
+trailing-step : (n w : ℕ) → ((w % 2 ≡ 0) × (trailingZeros (suc n) w ≡ suc (trailingZeros n (w / 2)))) ⊎ ((w % 2 ≡ 1) × (trailingZeros (suc n) w ≡ 0))
+unfolding trailingZeros
+trailing-step n w =
+    let t = trailingZeros n (w / 2) in
+    by-bit (λ p. ((p ≡ 0) × (under p t ≡ suc t)) ⊎ ((p ≡ 1) × (under p t ≡ 0))) (inl (refl, refl)) (inr (refl, refl)) w
+
+pub trailing-below : (n w k : ℕ) → k < trailingZeros n w → on w k ≡ false
+unfolding trailingZeros
+trailing-below zero w k h = absurd (omega arith)
+trailing-below (suc n) w zero h = ⊎-elim (λ e. rw (div-one w, e .0)) (λ o. absurd (omega arith)) (trailing-step n w)
+trailing-below (suc n) w (suc k) h =
+    ⊎-elim (λ e. on-half w k ∙ trailing-below n (w / 2) k (omega arith)) (λ o. absurd (omega arith)) (trailing-step n w)
+
+pub trailing-at : (n w : ℕ) → trailingZeros n w < n → on w (trailingZeros n w) ≡ true
+trailing-at zero w h = absurd (omega arith)
+trailing-at (suc n) w h =
+    ⊎-elim (λ e. rw (e .1) (on-half w (trailingZeros n (w / 2)) ∙ trailing-at n (w / 2) (omega arith))) (λ o. rw (o .1, div-one w, o .0)) (trailing-step n w)
+
+-- a number below 2 ^ m that is not 0 has such a bit below m
+pub trailing-low : (m n w : ℕ) → m ≤ n → w < 2 ^ m → ¬ (w ≡ 0) → trailingZeros n w < m
+trailing-low zero n w l h z = absurd (z (omega arith))
+trailing-low (suc m) zero w l h z = absurd (omega arith)
+trailing-low (suc m) (suc n) w l h z =
+    ⊎-elim (λ e. omega (arith, trailing-low m n (w / 2) (omega arith) (half-lt m w h) (λ y. z (omega arith)))) (λ o. omega arith) (trailing-step n w)

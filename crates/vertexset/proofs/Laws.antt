@@ -74,7 +74,7 @@ has-minus xs ys h x = rw (getD-zip less refl xs ys h) (on-less _ _ (x % 64))
 
 -- ---- a set is known by its members
 
-at-word : (ws : List ℕ) (i k : ℕ) → k < 64 → has ws (i * 64 + k) ≡ on (getD ws i 0) k
+pub at-word : (ws : List ℕ) (i k : ℕ) → k < 64 → has ws (i * 64 + k) ≡ on (getD ws i 0) k
 at-word ws i k h = rw (digits-div i h, digits-mod i h)
 
 pub same-members : (xs ys : List ℕ) → length xs ≡ length ys → Words xs → Words ys → ((x : ℕ) → x < 64 * length xs → has xs x ≡ has ys x) → xs ≡ ys

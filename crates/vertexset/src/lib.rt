@@ -90,12 +90,15 @@ impl VertexSet {
     pub fn next_from(self, v: u16) -> u16
         ensures { λ r. ⌜ r ≡ next (self .words) v ⌝ }
     {
-        let mut at = v;
-        while at < VertexSet::CAPACITY {
-            if self.contains(at) {
-                return at;
+        let mut i = v / 64;
+        let mut k = v % 64;
+        while i < VertexSet::WORDS as u16 {
+            let rest = self.words[i as usize] >> k;
+            if rest != 0 {
+                return 64 * i + k + u64::trailing_zeros(rest) as u16;
             }
-            at += 1;
+            i += 1;
+            k = 0;
         }
         VertexSet::CAPACITY
     }

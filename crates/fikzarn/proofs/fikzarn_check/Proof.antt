@@ -1,7 +1,7 @@
 -- `fikzarn::fikzarn_check` meets its contract. Assumes nothing.
 use mathlib.Core.Path.{ap, _∙_}
 use borrow.Author.Needs.{needs}
-use Rattle.fikzarn.specs.Words.{answerWord}
+use Rattle.script.specs.Replay.{answerWord}
 use Rattle.fikzarn.proofs.fikzarn_check.Statement.{statement}
 use Rattle.fikzarn.proofs.fikzarn_check.Tie as tie
 

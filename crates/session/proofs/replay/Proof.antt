@@ -1,7 +1,7 @@
 -- `session::replay` is safe and ends. Assumes nothing.
 use borrow.Author.Needs.{needs}
 use native.Mathlib.Omega.{arith}
-use Rattle.session.proofs.Parts.{part-within}
+use Rattle.script.proofs.Parts.{part-within}
 use Rattle.session.proofs.replay.Statement.{statement}
 use Rattle.session.proofs.replay.Tie as tie
 

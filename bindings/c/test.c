@@ -1,0 +1,161 @@
+/* Tests every function of include/fikzarn.h. tests/bindings compiles it:
+ *   cc -std=c11 -Wall -Wextra -Werror -Iinclude bindings/c/test.c target/staticlib/libfikzarn.a -o target/bindings/test-c */
+#include "fikzarn.h"
+
+#include <stdio.h>
+#include <string.h>
+
+static unsigned tested, failed;
+
+#define IS(given, expected) is(#given, __LINE__, given, expected)
+
+static void is(const char *what, int line, uint64_t given, uint64_t expected) {
+    tested++;
+    if (given == expected)
+        return;
+    failed++;
+    printf("test.c:%d: %s is %#llx, expected %#llx\n", line, what, (unsigned long long)given, (unsigned long long)expected);
+}
+
+static uint64_t word(uint64_t answer, uint64_t number, uint64_t place) {
+    return answer + 256 * number + 65536 * place;
+}
+
+/* How many bytes from `from` on are still `fill`; all of them, where it is right. */
+static size_t kept(const uint8_t *bytes, size_t from, size_t length, uint8_t fill) {
+    size_t count = 0;
+    for (size_t i = from; i < length; i++)
+        count += bytes[i] == fill;
+    return count;
+}
+
+/* Document 01's barns: four boxes with all cables (A), without the cable 2 3 (B), none (E); five with all cables (G, H). */
+static const uint8_t FOUR[] = {4, 6, 0, 1, 0, 2, 0, 3, 1, 2, 1, 3, 2, 3};
+static const uint8_t FOUR_BUILD[] = {3, 0, 1, 2, 3, 2, 0, 1, 2, 0, 2, 2, 0, 3, 2, 1, 2, 2, 1, 3, 2, 2, 3};
+static const uint8_t SQUARE[] = {4, 5, 0, 1, 0, 2, 0, 3, 1, 2, 1, 3};
+static const uint8_t SQUARE_EARS[] = {2, 0, 1, 2, 3, 0, 1, 2, 3, 0, 3, 1, 1, 2};
+static const uint8_t APART[] = {4, 0};
+static const uint8_t APART_SIDE[] = {0, 1, 0};
+static const uint8_t FIVE[] = {5, 10, 0, 1, 0, 2, 0, 3, 0, 4, 1, 2, 1, 3, 1, 4, 2, 3, 2, 4, 3, 4};
+static const uint8_t FIVE_BUILD[] = {3, 0, 1, 2, 3, 3, 0, 4, 1, 2, 0, 2, 2, 0, 3, 2, 1, 2, 2, 1, 3, 2, 2, 3,
+                                     2, 4, 2, 2, 4, 3, 2, 0, 1};
+static const uint8_t FIVE_HELD[] = {3, 0, 1, 2, 3, 3, 0, 4, 1, 2, 0, 2, 2, 0, 3, 2, 1, 2, 2, 1, 3, 2, 2, 3, 2, 0, 1};
+static const uint8_t TWICE[] = {4, 2, 0, 1, 0, 1};
+
+static void limits(void) {
+    IS(fikzarn_edition(), 0);
+    IS(fikzarn_min_boxes(), 4);
+    IS(fikzarn_max_boxes(), 128);
+    IS(fikzarn_max_cables(), 512);
+    IS(fikzarn_certificate_room(), FIKZARN_CERTIFICATE_ROOM);
+}
+
+static void checks(void) {
+    uint64_t held = fikzarn_check(FIVE, sizeof FIVE, FIVE_HELD, sizeof FIVE_HELD);
+    IS(fikzarn_case(held), FIKZARN_CERTIFICATE_FAULT);
+    IS(fikzarn_number(held), 27);
+    IS(fikzarn_place(held), 24);
+    IS(fikzarn_check(FIVE, sizeof FIVE, FIVE_BUILD, sizeof FIVE_BUILD), word(FIKZARN_GRADE, 3, 0));
+    IS(fikzarn_check(FOUR, sizeof FOUR, FOUR_BUILD, sizeof FOUR_BUILD), word(FIKZARN_GRADE, 3, 0));
+    IS(fikzarn_check(SQUARE, sizeof SQUARE, SQUARE_EARS, sizeof SQUARE_EARS), word(FIKZARN_GRADE, 2, 0));
+    IS(fikzarn_check(APART, sizeof APART, APART_SIDE, sizeof APART_SIDE), word(FIKZARN_GRADE, 0, 0));
+    IS(fikzarn_check(TWICE, sizeof TWICE, APART_SIDE, sizeof APART_SIDE), word(FIKZARN_PLAN_FAULT, 6, 4));
+    /* No bytes at all, at an address that is not null. */
+    IS(fikzarn_check(FOUR, 0, FOUR, 0), word(FIKZARN_PLAN_FAULT, 1, 0));
+    IS(fikzarn_check(FOUR, sizeof FOUR, FOUR, 0), word(FIKZARN_CERTIFICATE_FAULT, 1, 0));
+}
+
+static void plans(void) {
+    uint8_t out[32];
+    memset(out, 170, sizeof out);
+    IS(fikzarn_plan(FOUR, sizeof FOUR, out, sizeof FOUR - 1), word(FIKZARN_ACCEPTED, 0, 0));
+    IS(kept(out, 0, sizeof out, 170), sizeof out);
+    IS(fikzarn_plan(TWICE, sizeof TWICE, out, sizeof out), word(FIKZARN_PLAN_FAULT, 6, 4));
+    IS(kept(out, 0, sizeof out, 170), sizeof out);
+    IS(fikzarn_plan(FOUR, sizeof FOUR, out, sizeof out), word(FIKZARN_ACCEPTED, 0, 0));
+    IS((uint64_t)memcmp(out, FOUR, sizeof FOUR), 0);
+    IS(kept(out, sizeof FOUR, sizeof out, 170), sizeof out - sizeof FOUR);
+}
+
+static void certified(const uint8_t *plan, size_t length, unsigned grade) {
+    uint8_t out[FIKZARN_CERTIFICATE_ROOM + 8];
+    memset(out, 170, sizeof out);
+    uint64_t made = fikzarn_certify(plan, length, out, sizeof out - 8);
+    uint64_t size = fikzarn_place(made);
+    IS(made, word(FIKZARN_GRADE, grade, size));
+    IS(size <= FIKZARN_CERTIFICATE_ROOM, 1);
+    if (size > FIKZARN_CERTIFICATE_ROOM)
+        return;
+    IS(fikzarn_check(plan, length, out, (size_t)size), word(FIKZARN_GRADE, grade, 0));
+    IS(kept(out, (size_t)size, sizeof out, 170), sizeof out - size);
+}
+
+static void certificates(void) {
+    certified(FOUR, sizeof FOUR, 3);
+    certified(FIVE, sizeof FIVE, 3);
+    certified(SQUARE, sizeof SQUARE, 2);
+    certified((const uint8_t[]){4, 3, 0, 1, 1, 2, 2, 3}, 8, 1);
+    certified(APART, sizeof APART, 0);
+    uint8_t out[FIKZARN_CERTIFICATE_ROOM];
+    memset(out, 170, sizeof out);
+    IS(fikzarn_certify(FOUR, sizeof FOUR, out, sizeof out - 1), word(FIKZARN_PLAN_FAULT, 30, 0));
+    IS(fikzarn_certify(TWICE, sizeof TWICE, out, 0), word(FIKZARN_PLAN_FAULT, 6, 4));
+    IS(fikzarn_certify(TWICE, sizeof TWICE, out, sizeof out), word(FIKZARN_PLAN_FAULT, 6, 4));
+    IS(kept(out, 0, sizeof out, 170), sizeof out);
+}
+
+static size_t part(uint8_t *script, size_t at, const uint8_t *bytes, size_t length) {
+    script[at] = (uint8_t)length;
+    script[at + 1] = (uint8_t)(length >> 8);
+    memcpy(script + at + 2, bytes, length);
+    return at + 2 + length;
+}
+
+/* Barn G as a script: opened, started, closed too early, three paths, closed. */
+static size_t five_script(uint8_t *script) {
+    size_t at = part(script, 0, FIVE, sizeof FIVE);
+    script[at] = 's';
+    at = part(script, at + 1, FIVE_BUILD + 1, 23);
+    script[at++] = 'c';
+    for (size_t from = 24; from < sizeof FIVE_BUILD; from += 3) {
+        script[at] = 'p';
+        at = part(script, at + 1, FIVE_BUILD + from, 3);
+    }
+    script[at++] = 'c';
+    return at;
+}
+
+static void sessions(void) {
+    uint8_t script[128], out[64];
+    size_t length = five_script(script);
+    const uint64_t early = word(FIKZARN_CERTIFICATE_FAULT, 31, 0);
+    const uint64_t answers[] = {0, 0, early, 0, 0, 0, word(FIKZARN_GRADE, 3, 0)};
+    memset(out, 170, sizeof out);
+    IS(fikzarn_session(script, length, out, sizeof out), FIKZARN_REPLAYED + 65536 * 7);
+    for (size_t i = 0; i < 7; i++)
+        IS(fikzarn_answer(out, i), answers[i]);
+    IS(kept(out, 56, sizeof out, 170), 8);
+    memset(out, 170, sizeof out);
+    IS(fikzarn_session(script, length, out, 31), FIKZARN_NO_ROOM + 65536 * 3);
+    IS(fikzarn_answer(out, 2), early);
+    IS(kept(out, 24, sizeof out, 170), sizeof out - 24);
+    IS(fikzarn_session(script, length, out, 0), FIKZARN_NO_ROOM);
+    IS(fikzarn_session(script, length, out, 56), FIKZARN_REPLAYED + 65536 * 7);
+    script[length] = 'x';
+    IS(fikzarn_session(script, length + 1, out, sizeof out), FIKZARN_UNKNOWN_CALL + 65536 * 7);
+    IS(fikzarn_session(script, length + 1, out, 56), FIKZARN_UNKNOWN_CALL + 65536 * 7);
+    script[length] = 'p';
+    IS(fikzarn_session(script, length + 1, out, sizeof out), FIKZARN_CUT + 65536 * 7);
+    IS(fikzarn_session(script, length + 1, out, 56), FIKZARN_CUT + 65536 * 7);
+    IS(fikzarn_session(script, 1, out, 0), FIKZARN_CUT);
+}
+
+int main(void) {
+    limits();
+    checks();
+    plans();
+    certificates();
+    sessions();
+    printf("C: %u compared, %u differ\n", tested, failed);
+    return failed != 0;
+}

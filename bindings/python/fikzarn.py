@@ -1,0 +1,157 @@
+"""Grades of plans of cabled boxes: the calls of the proved library, over ctypes.
+
+Records are bytes, as docs/USERS.md lays them out. The shared object is the one that the environment variable FIKZARN_LIBRARY names,
+or else libfikzarn.so beside this file, or else the one that scripts/library builds in the repository. A call keeps nothing, so
+threads may call at once.
+
+    >>> plan = bytes([4, 5, 0, 1, 0, 2, 0, 3, 1, 2, 1, 3])
+    >>> made = certify(plan)
+    >>> made.answer.number
+    2
+    >>> print(check(plan, made.record))
+    grade 2
+"""
+import ctypes
+import enum
+import os
+import pathlib
+from typing import NamedTuple
+
+
+class Case(enum.IntEnum):
+    ACCEPTED = 0
+    GRADE = 1
+    PLAN_FAULT = 2
+    CERTIFICATE_FAULT = 3
+
+
+class Answer(NamedTuple):
+    """What a call answers: its case; the grade, or the refusal's number; and the refusal's offset in its record."""
+
+    case: Case
+    number: int
+    place: int
+
+    def __str__(self):
+        """As the programs print it."""
+        if self.case == Case.ACCEPTED:
+            return "accepted"
+        if self.case == Case.GRADE:
+            return f"grade {self.number}"
+        record = "plan" if self.case == Case.PLAN_FAULT else "certificate"
+        return f"{record} refused {self.number} at {self.place}"
+
+
+class Written(NamedTuple):
+    """An answer, and the record that was written beside it; no bytes where none was."""
+
+    answer: Answer
+    record: bytes
+
+
+class End(enum.IntEnum):
+    """How the replay of a script ended: every call was made; the script ends inside the next call; the next call is none of `s`,
+    `p`, `c`; or it is whole, but there was no room for its answer."""
+
+    REPLAYED = 0
+    CUT = 1
+    UNKNOWN_CALL = 2
+    NO_ROOM = 3
+
+
+class Replay(NamedTuple):
+    """How it ended, and the answer to each call that was made, the opening first."""
+
+    end: End
+    answers: list
+
+
+def _path():
+    here = pathlib.Path(__file__).resolve().parent
+    beside, built = here / "libfikzarn.so", here / "../../target/bindings/libfikzarn.so"
+    return os.environ.get("FIKZARN_LIBRARY") or str(beside if beside.exists() else built)
+
+
+def _loaded():
+    library = ctypes.CDLL(_path())
+    lent = [ctypes.c_char_p, ctypes.c_size_t]
+    for arguments, names in ((lent + lent, "plan check certify session"), ([], "edition min_boxes max_boxes max_cables certificate_room")):
+        for name in names.split():
+            function = getattr(library, "fikzarn_" + name)
+            function.argtypes, function.restype = arguments, ctypes.c_uint64
+    return library
+
+
+_library = _loaded()
+
+
+def _answer(word):
+    return Answer(Case(word % 256), word // 256 % 256, word // 65536)
+
+
+def _buffer(room):
+    """At least one byte long, so that its address is not null."""
+    return (ctypes.c_char * max(room, 1))()
+
+
+def plan(record, room=None):
+    """Reads a whole plan record: accepted, or a plan fault. An accepted record is written again from the plan that was read, where
+    `room` bytes, by default as many as the record has, are enough for it."""
+    record = bytes(record)
+    room = len(record) if room is None else room
+    out = _buffer(room)
+    answer = _answer(_library.fikzarn_plan(record, len(record), out, room))
+    written = answer.case == Case.ACCEPTED and len(record) <= room
+    return Written(answer, out.raw[: len(record)] if written else b"")
+
+
+def check(plan, certificate):
+    """Checks a certificate record beside a plan record: a grade, a plan fault, or else a certificate fault."""
+    plan, certificate = bytes(plan), bytes(certificate)
+    return _answer(_library.fikzarn_check(plan, len(plan), certificate, len(certificate)))
+
+
+def certify(plan, room=None):
+    """Makes a certificate that `check` accepts with the grade answered. `room` is its buffer in bytes: by default as many as any
+    certificate needs; with fewer the answer is 30 at 0. A plan fault comes first."""
+    plan = bytes(plan)
+    room = certificate_room() if room is None else room
+    out = _buffer(room)
+    answer = _answer(_library.fikzarn_certify(plan, len(plan), out, room))
+    if answer.case != Case.GRADE:
+        return Written(answer, b"")
+    # Beside a grade the word's place is the certificate's length.
+    return Written(answer._replace(place=0), out.raw[: answer.place])
+
+
+def session(script, room=None):
+    """Replays a session script: a plan record, then calls, `s` or `p` with a part, or `c`; the record and each part have their length
+    before them, two bytes, the lower first. `room` is the answers' buffer in bytes, eight an answer: by default enough for all."""
+    script = bytes(script)
+    room = 8 * len(script) if room is None else room
+    out = _buffer(room)
+    word = _library.fikzarn_session(script, len(script), out, room)
+    words = [int.from_bytes(out.raw[at : at + 8], "little") for at in range(0, 8 * (word // 65536), 8)]
+    return Replay(End(word % 65536), [_answer(word) for word in words])
+
+
+def edition():
+    """Which edition of the records the library reads."""
+    return _library.fikzarn_edition()
+
+
+def min_boxes():
+    return _library.fikzarn_min_boxes()
+
+
+def max_boxes():
+    return _library.fikzarn_max_boxes()
+
+
+def max_cables():
+    return _library.fikzarn_max_cables()
+
+
+def certificate_room():
+    """How many bytes have room for the certificate of any plan."""
+    return _library.fikzarn_certificate_room()

@@ -1,0 +1,73 @@
+"""Tests every call of fikzarn.py, and the example at its top. tests/bindings runs it beside a shared object."""
+import doctest
+import unittest
+
+import fikzarn
+from fikzarn import Answer, Case, End
+
+# Document 01's barn G: five boxes, each cabled to every other, and its certificate.
+FIVE = bytes([5, 10, 0, 1, 0, 2, 0, 3, 0, 4, 1, 2, 1, 3, 1, 4, 2, 3, 2, 4, 3, 4])
+FIVE_BUILD = bytes([3, 0, 1, 2, 3, 3, 0, 4, 1, 2, 0, 2, 2, 0, 3, 2, 1, 2, 2, 1, 3, 2, 2, 3, 2, 4, 2, 2, 4, 3, 2, 0, 1])
+TWICE = bytes([4, 2, 0, 1, 0, 1])
+REFUSED = Answer(Case.PLAN_FAULT, 6, 4)
+ACCEPTED = Answer(Case.ACCEPTED, 0, 0)
+SMALLER = {2: [4, 5, 0, 1, 0, 2, 0, 3, 1, 2, 1, 3], 1: [4, 3, 0, 1, 1, 2, 2, 3], 0: [4, 0]}
+
+
+def counted(part):
+    return len(part).to_bytes(2, "little") + part
+
+
+def script():
+    """Barn G: opened, started, closed too early, three paths, closed."""
+    paths = b"".join(b"p" + counted(FIVE_BUILD[at : at + 3]) for at in (24, 27, 30))
+    return counted(FIVE) + b"s" + counted(FIVE_BUILD[1:24]) + b"c" + paths + b"c"
+
+
+class Calls(unittest.TestCase):
+    def test_limits(self):
+        limits = [fikzarn.edition(), fikzarn.min_boxes(), fikzarn.max_boxes(), fikzarn.max_cables(), fikzarn.certificate_room()]
+        self.assertEqual(limits, [0, 4, 128, 512, 1536])
+
+    def test_check(self):
+        self.assertEqual(fikzarn.check(FIVE, FIVE_BUILD), Answer(Case.GRADE, 3, 0))
+        held = fikzarn.check(FIVE, FIVE_BUILD[:24] + bytes([2, 0, 1]))
+        self.assertEqual(held, Answer(Case.CERTIFICATE_FAULT, 27, 24))
+        self.assertEqual(fikzarn.check(TWICE, FIVE_BUILD), REFUSED)
+        self.assertEqual(fikzarn.check(b"", bytearray()), Answer(Case.PLAN_FAULT, 1, 0))
+
+    def test_words(self):
+        words = [str(answer) for answer in (ACCEPTED, Answer(Case.GRADE, 3, 0), REFUSED, Answer(Case.CERTIFICATE_FAULT, 27, 24))]
+        self.assertEqual(words, ["accepted", "grade 3", "plan refused 6 at 4", "certificate refused 27 at 24"])
+
+    def test_plan(self):
+        self.assertEqual(fikzarn.plan(FIVE), (ACCEPTED, FIVE))
+        self.assertEqual(fikzarn.plan(FIVE, room=40), (ACCEPTED, FIVE))
+        self.assertEqual(fikzarn.plan(FIVE, room=21), (ACCEPTED, b""))
+        self.assertEqual(fikzarn.plan(TWICE), (REFUSED, b""))
+
+    def test_certify(self):
+        for grade, plan in {3: FIVE, **SMALLER}.items():
+            made = fikzarn.certify(plan)
+            self.assertEqual(made.answer, Answer(Case.GRADE, grade, 0))
+            self.assertEqual(fikzarn.check(plan, made.record), made.answer)
+        self.assertEqual(fikzarn.certify(FIVE, room=1535), (Answer(Case.PLAN_FAULT, 30, 0), b""))
+        self.assertEqual(fikzarn.certify(TWICE, room=0), (REFUSED, b""))
+
+    def test_session(self):
+        early = Answer(Case.CERTIFICATE_FAULT, 31, 0)
+        answers = [ACCEPTED, ACCEPTED, early, ACCEPTED, ACCEPTED, ACCEPTED, Answer(Case.GRADE, 3, 0)]
+        self.assertEqual(fikzarn.session(script()), (End.REPLAYED, answers))
+        self.assertEqual(fikzarn.session(script(), room=31), (End.NO_ROOM, answers[:3]))
+        self.assertEqual(fikzarn.session(script() + b"x"), (End.UNKNOWN_CALL, answers))
+        self.assertEqual(fikzarn.session(script() + b"p"), (End.CUT, answers))
+        self.assertEqual(fikzarn.session(b""), (End.CUT, []))
+
+
+def load_tests(loader, tests, pattern):
+    tests.addTests(doctest.DocTestSuite(fikzarn))
+    return tests
+
+
+if __name__ == "__main__":
+    unittest.main()

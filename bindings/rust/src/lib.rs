@@ -1,0 +1,217 @@
+//! Grades of plans of cabled boxes: safe calls of the proved library `libfikzarn.a`.
+//!
+//! A plan record lists boxes and cables, a certificate record shows the plan's grade; docs/USERS.md lays both out byte by byte. A call
+//! ends for all bytes and keeps nothing, so calls may run at once in any threads. A function here panics only where the archive
+//! that was linked is not Fikzarn's.
+//!
+//! ```
+//! use fikzarn::{certify, check, Answer, CERTIFICATE_ROOM};
+//!
+//! // Four boxes, and cables 0 1, 0 2, 0 3, 1 2, 1 3: losing 0 and 1 parts 2 from 3.
+//! let plan = [4, 5, 0, 1, 0, 2, 0, 3, 1, 2, 1, 3];
+//! let mut room = [0; CERTIFICATE_ROOM];
+//! let made = certify(&plan, &mut room)?;
+//! assert_eq!(made.grade, 2);
+//! assert_eq!(check(&plan, made.certificate), Answer::Grade(2));
+//! # Ok::<(), Answer>(())
+//! ```
+#![no_std]
+#![warn(missing_docs)]
+
+use core::fmt;
+
+mod foreign {
+    extern "C" {
+        pub fn fikzarn_plan(plan: *const u8, plan_len: usize, out: *mut u8, out_len: usize) -> u64;
+        pub fn fikzarn_check(plan: *const u8, plan_len: usize, certificate: *const u8, certificate_len: usize) -> u64;
+        pub fn fikzarn_certify(plan: *const u8, plan_len: usize, out: *mut u8, out_len: usize) -> u64;
+        pub fn fikzarn_session(script: *const u8, script_len: usize, out: *mut u8, out_len: usize) -> u64;
+        pub fn fikzarn_edition() -> u64;
+        pub fn fikzarn_min_boxes() -> u64;
+        pub fn fikzarn_max_boxes() -> u64;
+        pub fn fikzarn_max_cables() -> u64;
+        pub fn fikzarn_certificate_room() -> u64;
+    }
+}
+
+/// What a call answers. It prints as the programs print it.
+///
+/// ```
+/// let answer = fikzarn::check(&[4, 0], &[0, 0]);
+/// assert_eq!(answer, fikzarn::Answer::CertificateFault(22, 1));
+/// assert_eq!(answer.to_string(), "certificate refused 22 at 1");
+/// ```
+#[derive(Clone, Copy, Debug, PartialEq, Eq, Hash)]
+pub enum Answer {
+    /// Accepted, without a grade: a plan alone, an opening, a start or a path.
+    Accepted,
+    /// Accepted, with the grade, 0 to 3.
+    Grade(u8),
+    /// The plan is refused: the refusal's number, and the offset in the plan's bytes.
+    PlanFault(u8, usize),
+    /// The certificate, start or path is refused: the refusal's number, and the offset in its bytes.
+    CertificateFault(u8, usize),
+}
+
+impl Answer {
+    fn of(word: u64) -> Answer {
+        let (number, place) = ((word >> 8) as u8, (word >> 16) as usize);
+        match word & 255 {
+            0 => Answer::Accepted,
+            1 => Answer::Grade(number),
+            2 => Answer::PlanFault(number, place),
+            3 => Answer::CertificateFault(number, place),
+            _ => unreachable!("{word} is no answer"),
+        }
+    }
+}
+
+impl fmt::Display for Answer {
+    fn fmt(&self, f: &mut fmt::Formatter) -> fmt::Result {
+        match self {
+            Answer::Accepted => write!(f, "accepted"),
+            Answer::Grade(grade) => write!(f, "grade {grade}"),
+            Answer::PlanFault(number, place) => write!(f, "plan refused {number} at {place}"),
+            Answer::CertificateFault(number, place) => write!(f, "certificate refused {number} at {place}"),
+        }
+    }
+}
+
+/// Reads a whole plan record. Where it is accepted and `out` has room for it, `out` begins with the record, written again from
+/// the plan that was read; every other byte, or else every byte, keeps its value.
+///
+/// ```
+/// use fikzarn::{plan, Answer};
+///
+/// let mut out = [7; 5];
+/// assert_eq!(plan(&[4, 1, 0, 3], &mut out), Answer::Accepted);
+/// assert_eq!(out, [4, 1, 0, 3, 7]);
+/// assert_eq!(plan(&[4, 2, 0, 1, 0, 1], &mut out), Answer::PlanFault(6, 4));
+/// ```
+pub fn plan(plan: &[u8], out: &mut [u8]) -> Answer {
+    Answer::of(unsafe { foreign::fikzarn_plan(plan.as_ptr(), plan.len(), out.as_mut_ptr(), out.len()) })
+}
+
+/// Checks a certificate record beside a plan record.
+///
+/// ```
+/// use fikzarn::{check, Answer};
+///
+/// // Four boxes and no cable: box 0 is parted from the others with nothing lost.
+/// assert_eq!(check(&[4, 0], &[0, 1, 0]), Answer::Grade(0));
+/// ```
+pub fn check(plan: &[u8], certificate: &[u8]) -> Answer {
+    Answer::of(unsafe { foreign::fikzarn_check(plan.as_ptr(), plan.len(), certificate.as_ptr(), certificate.len()) })
+}
+
+/// A buffer of this many bytes has room for the certificate of any plan.
+pub const CERTIFICATE_ROOM: usize = 1536;
+
+/// What [`certify`] made.
+#[derive(Clone, Copy, Debug, PartialEq, Eq)]
+pub struct Certified<'a> {
+    /// The plan's grade, 0 to 3.
+    pub grade: u8,
+    /// A certificate that [`check`] accepts with that grade: the first bytes of the buffer.
+    pub certificate: &'a [u8],
+}
+
+/// Makes a certificate at the start of `out`; the bytes behind it keep their values. Refused, with no byte changed, where the plan
+/// is, or else with 30 at 0 where `out` is below [`CERTIFICATE_ROOM`] bytes.
+///
+/// ```
+/// use fikzarn::{certify, Answer, CERTIFICATE_ROOM};
+///
+/// let mut room = [0; CERTIFICATE_ROOM];
+/// assert_eq!(certify(&[4, 3, 0, 1, 1, 2, 2, 3], &mut room)?.grade, 1);
+/// assert_eq!(certify(&[4, 0], &mut [0; 64]), Err(Answer::PlanFault(30, 0)));
+/// # Ok::<(), Answer>(())
+/// ```
+pub fn certify<'a>(plan: &[u8], out: &'a mut [u8]) -> Result<Certified<'a>, Answer> {
+    let word = unsafe { foreign::fikzarn_certify(plan.as_ptr(), plan.len(), out.as_mut_ptr(), out.len()) };
+    match Answer::of(word) {
+        Answer::Grade(grade) => Ok(Certified { grade, certificate: &out[..(word >> 16) as usize] }),
+        refused => Err(refused),
+    }
+}
+
+/// How the replay of a script ended.
+#[derive(Clone, Copy, Debug, PartialEq, Eq, Hash)]
+pub enum End {
+    /// Every call was made.
+    Replayed,
+    /// The script ends inside the next call.
+    Cut,
+    /// The next call is none of `s`, `p`, `c`.
+    UnknownCall,
+    /// The next call is whole, but the buffer has no room for its answer.
+    NoRoom,
+}
+
+/// What [`session`] made.
+#[derive(Clone, Copy, Debug, PartialEq, Eq)]
+pub struct Replay<'a> {
+    /// How it ended.
+    pub end: End,
+    words: &'a [u8],
+}
+
+impl<'a> Replay<'a> {
+    /// The answer to each call that was made, the opening first.
+    pub fn answers(&self) -> impl ExactSizeIterator<Item = Answer> + 'a {
+        self.words.chunks_exact(8).map(|bytes| Answer::of(bytes.iter().rev().fold(0, |word, &byte| word << 8 | byte as u64)))
+    }
+}
+
+/// Replays a session script: a plan record, then calls, `s` or `p` with a part, or `c`; the record and each part have their length
+/// before them, two bytes, the lower first. `out` takes eight bytes for each answer, so eight times the script's length is always
+/// enough; the bytes behind the answers keep their values.
+///
+/// ```
+/// use fikzarn::{session, Answer, End};
+///
+/// // Four boxes, each cabled to every other: opened, started, closed.
+/// let plan = [4, 6, 0, 1, 0, 2, 0, 3, 1, 2, 1, 3, 2, 3];
+/// let start = [0, 1, 2, 3, 2, 0, 1, 2, 0, 2, 2, 0, 3, 2, 1, 2, 2, 1, 3, 2, 2, 3];
+/// let script = [&[14, 0][..], &plan, b"s", &[22, 0], &start, b"c"].concat();
+/// let mut out = [0; 24];
+/// let replay = session(&script, &mut out);
+/// assert_eq!(replay.end, End::Replayed);
+/// assert!(replay.answers().eq([Answer::Accepted, Answer::Accepted, Answer::Grade(3)]));
+/// ```
+pub fn session<'a>(script: &[u8], out: &'a mut [u8]) -> Replay<'a> {
+    let word = unsafe { foreign::fikzarn_session(script.as_ptr(), script.len(), out.as_mut_ptr(), out.len()) };
+    let end = match word & 65535 {
+        0 => End::Replayed,
+        1 => End::Cut,
+        2 => End::UnknownCall,
+        3 => End::NoRoom,
+        _ => unreachable!("{word} is no end of a replay"),
+    };
+    Replay { end, words: &out[..8 * (word >> 16) as usize] }
+}
+
+/// Which edition of the records the library reads.
+pub fn edition() -> u64 {
+    unsafe { foreign::fikzarn_edition() }
+}
+
+/// The least number of boxes in a plan.
+pub fn min_boxes() -> u64 {
+    unsafe { foreign::fikzarn_min_boxes() }
+}
+
+/// The largest number of boxes in a plan.
+pub fn max_boxes() -> u64 {
+    unsafe { foreign::fikzarn_max_boxes() }
+}
+
+/// The largest number of cables in a plan.
+pub fn max_cables() -> u64 {
+    unsafe { foreign::fikzarn_max_cables() }
+}
+
+/// [`CERTIFICATE_ROOM`], as the library has it.
+pub fn certificate_room() -> u64 {
+    unsafe { foreign::fikzarn_certificate_room() }
+}

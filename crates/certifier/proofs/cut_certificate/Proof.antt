@@ -1,0 +1,54 @@
+-- `certifier::cut_certificate` meets its contract. Assumes nothing.
+use mathlib.Core.Path.{ap, _∙_}
+use borrow.Author.Needs.{needs}
+use Rattle.certifier.specs.Code.{numbersOf}
+use Rattle.certifier.proofs.Certifying.{none-short, found-short, few-removed, ears-fail, ears-stand}
+use Rattle.certifier.proofs.cut_certificate.Statement.{statement}
+use Rattle.certifier.proofs.cut_certificate.Tie as tie
+
+cut-numbers-requires : tie.Need-cut-numbers-requires
+cut-numbers-requires c κs = (c .before .before .before .before .pre, none-short (c .no-ears .result) (c .no-ears .ensures))
+
+returns : tie.Need-returns
+returns c =
+    let e = c .before in
+    let n = e .before .before in
+    let a = n .before .before .args in
+    c .cut-numbers .ensures ∙ ap numbersOf (few-removed (a .tree) (a .rows .now) (a .full) (a .c) (n .size .ensures) (e .before .if1 .taken) (e .no-ears .result) (e .no-ears .ensures))
+
+cut-numbers-requires-2 : tie.Need-cut-numbers-requires-2
+cut-numbers-requires-2 c κs =
+    let e = c .before .before .before in
+    let s = e .before .before .before .before in
+    (s .pre, found-short (s .args .rows .now) (s .args .full) (e .find-ears .result) (e .find-ears .ensures))
+
+returns-2 : tie.Need-returns-2
+returns-2 c =
+    let e = c .before .before .before .before in
+    let n = e .before .before in
+    let a = n .before .before .args in
+    c .cut-numbers2 .ensures
+    ∙ ap numbersOf
+    (ears-fail (a .tree) (a .rows .now) (a .full) (a .c) (n .size .ensures) (e .before .if1 .left) (e .find-ears .result) (e .find-ears .ensures) (c .before .before .is-cut .ensures) (c .before .if2 .taken))
+
+cut-numbers-requires-3 : tie.Need-cut-numbers-requires-3
+cut-numbers-requires-3 c κs =
+    let e = c .before .before .before in
+    let s = e .before .before .before .before in
+    (s .pre, found-short (s .args .rows .now) (s .args .full) (e .find-ears .result) (e .find-ears .ensures))
+
+returns-3 : tie.Need-returns-3
+returns-3 c =
+    let e = c .before .before .before .before in
+    let n = e .before .before in
+    let a = n .before .before .args in
+    c .cut-numbers3 .ensures
+    ∙ ap numbersOf
+    (ears-stand (a .tree) (a .rows .now) (a .full) (a .c) (n .size .ensures) (e .before .if1 .left) (e .find-ears .result) (e .find-ears .ensures) (c .before .before .is-cut .ensures) (c .before .if2 .left))
+
+pub cut-certificate-spec : {M : Type 1} → statement M
+cut-certificate-spec =
+    tie.close
+    (tie.spec
+    (λ c κs. search needs) (λ c κs. search needs) cut-numbers-requires returns (λ c κs. search needs) (λ c κs. search needs)
+    cut-numbers-requires-2 returns-2 cut-numbers-requires-3 returns-3)

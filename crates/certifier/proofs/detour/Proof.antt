@@ -1,0 +1,33 @@
+-- `certifier::detour` meets its contract. Assumes nothing.
+use mathlib.Core.Path.{ap, _∙_}
+use borrow.Author.Needs.{needs}
+use Rattle.certifier.specs.Code.{foundOf}
+use Rattle.certifier.proofs.Answered.{detour-found, detour-none}
+use Rattle.certifier.proofs.detour.Statement.{statement}
+use Rattle.certifier.proofs.detour.Tie as tie
+
+returns : tie.Need-returns
+returns c =
+    let e = c .before .before .before .before .before .before in
+    let a = e .before .before .args in
+    c .find-on .ensures
+    ∙ ap foundOf
+    (detour-found (a .rows .now) (a .full) (a .set) (e .before .minus .result) (e .way-out .result .inside) (e .way-out .result .outside)
+    (e .before .minus .ensures) (e .way-out .ensures .0) (e .way-out .ensures .1) _ _ _ (c .before .before .before .before .if1 .taken)
+    (c .before .before .before .single .ensures) (c .before .before .single2 .ensures) (c .before .minus2 .ensures))
+
+returns-2 : tie.Need-returns-2
+returns-2 c =
+    let e = c .before .before .before .before in
+    let a = e .before .before .args in
+    rw (c .before .no-path .ensures, c .empty .ensures)
+    (ap foundOf
+    (detour-none (a .rows .now) (a .full) (a .set) (e .before .minus .result) (e .way-out .result .inside) (e .way-out .result .outside)
+    (e .before .minus .ensures) (e .way-out .ensures .0) (e .way-out .ensures .1) (c .before .before .if1 .left)))
+
+pub detour-spec : {M : Type 1} → statement M
+detour-spec =
+    tie.close
+    (tie.spec
+    (λ c κs. search needs) (λ c κs. search needs) (λ c κs. search needs) (λ c κs. search needs) (λ c κs. search needs) (λ c κs. search needs)
+    returns (λ c κs. search needs) (λ c κs. search needs) returns-2)

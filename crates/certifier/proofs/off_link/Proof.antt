@@ -1,0 +1,26 @@
+-- `certifier::off_link` meets its contract. Assumes nothing.
+use mathlib.Core.Path.{ap, _∙_}
+use borrow.Author.Needs.{needs}
+use Rattle.certifier.specs.Code.{foundOf}
+use Rattle.certifier.proofs.Stepping.{off-found}
+use Rattle.certifier.proofs.off_link.Statement.{statement}
+use Rattle.certifier.proofs.off_link.Tie as tie
+
+returns : tie.Need-returns
+returns c =
+    let w = c .before .before .before in
+    let p = w .before .before .before in
+    let n = p .before .before .before in
+    let a = n .before .before .args in
+    c .find .ensures
+    ∙ ap foundOf
+    (off-found (a .rows .now) (a .list .now) (a .built) (a .i) (a .j) (n .before2 .ensures) (p .before .before .number-at .ensures) (p .before .number-at2 .ensures)
+    (p .pair .ensures) (w .before .before .empty .ensures) (w .with-all .ensures) (c .before .before .minus .ensures) (c .before .minus2 .ensures))
+
+pub off-link-spec : {M : Type 1} → statement M
+off-link-spec =
+    tie.close
+    (tie.spec
+    (λ c κs. search needs) (λ c κs. search needs) (λ c κs. search needs) (λ c κs. search needs) (λ c κs. search needs)
+    (λ c. search needs) (λ c. search needs) (λ c. search needs) (λ c. search needs)
+    (λ c κs. search needs) (λ c κs. search needs) (λ c κs. search needs) (λ c κs. search needs) returns)

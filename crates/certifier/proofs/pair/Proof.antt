@@ -1,0 +1,11 @@
+-- `certifier::pair` meets its contract. Assumes nothing.
+use borrow.Author.Needs.{needs}
+use Rattle.certifier.proofs.pair.Statement.{statement}
+use Rattle.certifier.proofs.pair.Tie as tie
+
+returns : tie.Need-returns
+returns c = rw (c .insert .ensures, c .before .single .ensures)
+
+pub pair-spec : {M : Type 1} → statement M
+pair-spec = tie.close (tie.spec
+    (λ c κs. search needs) (λ c κs. search needs) returns)

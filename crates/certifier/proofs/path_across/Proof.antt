@@ -1,0 +1,28 @@
+-- `certifier::path_across` meets its contract. Assumes nothing.
+use mathlib.Core.Path.{ap, _∙_}
+use borrow.Author.Needs.{needs}
+use Rattle.certifier.specs.Code.{foundOf}
+use Rattle.certifier.proofs.Answered.{across-found}
+use Rattle.certifier.proofs.path_across.Statement.{statement}
+use Rattle.certifier.proofs.path_across.Tie as tie
+
+returns : tie.Need-returns
+returns c =
+    let w = c .before .before in
+    let m = w .before .before in
+    let p = m .before .before .before in
+    let n = p .before in
+    let a = n .before .before .before .args in
+    c .find .ensures
+    ∙ ap foundOf
+    (across-found (a .rows .now) (a .around .now) (a .third .now) (p .pair .result) (m .minus .result) (c .before .minus2 .result)
+    (m .before .with-all .result) (w .with-all2 .result) (w .before .empty2 .result) (m .before .before .empty .result) (n .number-at .result)
+    (n .number-at .ensures) (p .pair .ensures) (m .before .before .empty .ensures) (m .before .with-all .ensures) (m .minus .ensures)
+    (w .before .empty2 .ensures) (w .with-all2 .ensures) (c .before .minus2 .ensures))
+
+pub path-across-spec : {M : Type 1} → statement M
+path-across-spec =
+    tie.close
+    (tie.spec
+    (λ c κs. search needs) (λ c κs. search needs) (λ c κs. search needs) (λ c κs. search needs) (λ c κs. search needs) (λ c κs. search needs)
+    (λ c κs. search needs) (λ c κs. search needs) (λ c κs. search needs) returns)

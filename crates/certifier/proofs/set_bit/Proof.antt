@@ -1,0 +1,20 @@
+-- `certifier::set_bit` meets its contract. Assumes nothing.
+use Prim.Native.Nat.{_%_}
+use native.Mathlib.Omega.{arith}
+use native.Mathlib.Nat.{one-mul}
+use lib.Dec.{lit<}
+use lib.Pow.{shl-exact}
+use borrow.Author.Needs.{needs}
+use Rattle.graph.proofs.Rows.{word-of, bit-of}
+use Rattle.certifier.proofs.set_bit.Statement.{statement}
+use Rattle.certifier.proofs.set_bit.Tie as tie
+
+returns : tie.Need-returns
+returns c =
+    let a = c .before .args in
+    rw (word-of (a .u) (a .v), bit-of (a .u) (a .v), shl-exact {a = 1} 1 (a .v % 64) 64 (lit< tt) (omega arith), one-mul)
+
+pub set-bit-spec : {M : Type 1} → statement M
+set-bit-spec = tie.close (tie.spec
+    (λ c. search needs) (λ c. search needs) (λ c. search needs) (λ c. search needs) (λ c. search needs)
+    (λ c. search needs) (λ c. search needs) (λ c. search needs) (λ c. search needs) returns)

@@ -1,0 +1,27 @@
+-- `certifier::third_path` meets its contract. Assumes nothing.
+use mathlib.Core.Path.{ap, _∙_}
+use borrow.Author.Needs.{needs}
+use Rattle.certifier.specs.Code.{foundOf}
+use Rattle.certifier.proofs.Answered.{third-found}
+use Rattle.certifier.proofs.third_path.Statement.{statement}
+use Rattle.certifier.proofs.third_path.Tie as tie
+
+returns : tie.Need-returns
+returns c =
+    let s = c .before .before .before in
+    let m = s .before .before in
+    let w = m .before .before in
+    let a = w .before .before .before .args in
+    c .find-on .ensures
+    ∙ ap foundOf
+    (third-found (a .rows .now) (a .around .now) (w .with-all .result) (m .before .row .result) (m .minus .result) (s .single .result)
+    (c .before .before .single2 .result) (c .before .minus2 .result) (w .before .empty .result) (s .before .next-from .result)
+    (w .before .empty .ensures) (w .with-all .ensures) (m .before .row .ensures) (m .minus .ensures) (s .before .next-from .ensures)
+    (s .single .ensures) (c .before .before .single2 .ensures) (c .before .minus2 .ensures))
+
+pub third-path-spec : {M : Type 1} → statement M
+third-path-spec =
+    tie.close
+    (tie.spec
+    (λ c κs. search needs) (λ c κs. search needs) (λ c κs. search needs) (λ c κs. search needs) (λ c κs. search needs) (λ c κs. search needs)
+    (λ c κs. search needs) (λ c κs. search needs) (λ c κs. search needs) returns)

@@ -1,0 +1,33 @@
+-- `certifier::with_all` meets its contract: the rest of the list, taken in from here, gives the whole. Assumes nothing.
+use Prim.Native.Nat.{_-_}
+use mathlib.Core.Path.{_≡_, refl, sym, _∙_}
+use borrow.Author.Needs.{needs}
+use lib.ListN.{length, drop}
+use Rattle.making.specs.Sets.{withAll}
+use Rattle.certifier.proofs.Lists.{all-turn, all-end}
+use Rattle.certifier.proofs.with_all.Statement.{statement}
+use Rattle.certifier.proofs.with_all.Tie as tie
+
+abbrev Inv-loop : tie.InvT-loop
+Inv-loop list all₀ i₀ all i = withAll all (drop i list) ≡ withAll all₀ list
+
+abbrev μ-loop : tie.MeasureT-loop
+μ-loop list all₀ i₀ all i = length list - i
+
+loop-holds : tie.Need-loop-holds Inv-loop μ-loop
+loop-holds c = refl
+
+loop-again : tie.Need-loop-again Inv-loop μ-loop
+loop-again c =
+    let l = c .before .before .before .loop in
+    rw (c .insert .ensures) (sym (all-turn (l .all) _ (l .i) (c .before .before .loop-test .taken)) ∙ l .inv)
+
+returns : tie.Need-returns Inv-loop μ-loop
+returns c = let l = c .before .loop in sym (all-end (l .all) _ (l .i) (c .loop-test .left)) ∙ l .inv
+
+pub with-all-spec : {M : Type 1} → statement M
+with-all-spec =
+    tie.close
+    (tie.spec
+    Inv-loop μ-loop loop-holds (λ c. search needs) (λ c. search needs) (λ c κs. search needs) (λ c. search needs) (λ c. search needs)
+    loop-again returns)

@@ -1,0 +1,48 @@
+// Makes a certificate: a plan record from standard input; the plan followed by its certificate out, or why the plan is refused.
+use certifier::Made;
+use libc::STDIN_FILENO;
+use libc::STDOUT_FILENO;
+use record::Answer;
+
+// the longest input, in bytes
+const LIMIT: usize = 4096;
+
+fn print_refusal(number: u8, place: usize) {
+    io::write_all(STDOUT_FILENO, b"plan refused ");
+    io::print_decimal(STDOUT_FILENO, number as u64);
+    io::write_all(STDOUT_FILENO, b" at ");
+    io::print_decimal(STDOUT_FILENO, place as u64);
+    io::write_all(STDOUT_FILENO, b"\n");
+}
+
+fn print_front(s: &[u8], n: usize) {
+    if n <= s.len() {
+        io::write_all(STDOUT_FILENO, &s[0..n]);
+    }
+}
+
+// The plan and the certificate at the start of a buffer; or the refusal.
+fn print_made<'a>(plan: &'a [u8], out: &'a [u8], made: Made) {
+    let answer = made.answer;
+    match answer {
+        Answer::Grade(_) => {
+            io::write_all(STDOUT_FILENO, plan);
+            print_front(out, made.length);
+        }
+        Answer::PlanFault(number, place) => print_refusal(number, place),
+        Answer::CertificateFault(number, place) => print_refusal(number, place),
+        Answer::Accepted => {}
+    }
+}
+
+fn main() {
+    let mut input = [0u8; LIMIT + 1];
+    let n = io::read_full(STDIN_FILENO, &mut input);
+    if LIMIT < n {
+        io::write_all(STDOUT_FILENO, b"input too long\n");
+        return;
+    }
+    let mut out = [0u8; Made::ROOM];
+    let made = certifier::certify(&input[..n], &mut out);
+    print_made(&input[..n], &out, made);
+}

@@ -1,0 +1,171 @@
+-- THE DEMANDS, proved. Assumes nothing.
+use Prim.Native.Nat.{ℕ, _≤_, _<_, _+_}
+use mathlib.Core.List.{List, [], _∷_, _++_}
+use mathlib.Core.Bool.{Bool, true, false, cond}
+use mathlib.Core.Path.{_≡_, refl, sym, ap, _∙_, subst}
+use mathlib.Core.Logic.{_↔_}
+use native.Mathlib.Omega.{arith}
+use lib.Dec.{ltb}
+use lib.ListN.{length, drop}
+use borrow.Author.Tests.{lt-ltb, le-ltb, ltb-true, ltb-false}
+use Rattle.record.specs.Read.{Read, Read.Got, Read.Refused, Bytes, ended}
+use Rattle.record.specs.Write.{overwritten}
+use Rattle.record.specs.declared.Answer.{Answer}
+use Rattle.record.specs.declared.Answer.the-variants.{Accepted, Grade, PlanFault, CertificateFault}
+use Rattle.record.proofs.Laws.{ended-there}
+use Rattle.connectivity.specs.Graph.{Graph}
+use Rattle.connectivity.specs.Connectivity.{connectivity}
+use Rattle.connectivity.specs.Certificate.{Rules}
+use Rattle.graph.specs.Plan.{Plan, Allowed, plan, planBytes}
+use Rattle.graph.specs.Rows.{graphOf}
+use Rattle.graph.specs.Code.{wholePlan, planRead}
+use Rattle.graph.specs.declared.Graph.{Graph as RowGraph}
+use Rattle.graph.specs.declared.PlanRead.{PlanRead}
+use Rattle.graph.proofs.Plans.{plan-law, accepted, accepts, injective}
+use Rattle.graph.proofs.Adjacency.{network-listed}
+use Rattle.making.proofs.PlanLaws.{plan-drawn, plan-edges}
+use Rattle.making.proofs.CertificateLaws as making
+use Rattle.making.proofs.CertificateLaws.{certified}
+use Rattle.checker.specs.Check.{planGraph, checkOf}
+use Rattle.certifier.specs.declared.Made.{Made}
+use Rattle.certifier.specs.Made.{roomAsked, made, madeOn, madeBy, madeFrom, filledBy, filledFrom, certificateOf, gradeMade}
+use Rattle.claims.specs.Certified.{IsPlan, IsGrade}
+use Rattle.claims.specs.Demands.{Demand2, PlanAccepted, AcceptedGrade, AcceptedGrade.checked, AcceptedGrade.made-for, AcceptedGrade.closed-on, GradeIsFigure, SameGrades, Writes, MakerWrites, SameCertificate, MakerRefuses, RefusedKeeps}
+use Rattle.claims.proofs.Checking.{demand-2, certified-grade, certified-sound, grade-sound}
+use Rattle.claims.proofs.Sessions.{closing-sound}
+
+-- DEMAND 2
+pub demand2 : Demand2
+demand2 = demand-2
+
+pub plan-accepted : PlanAccepted
+plan-accepted P bp = (λ e. let r = accepted P bp e in (r .0, record { allowed = r .1; bytes = r .2 }), λ q. rw (q .1 .bytes) (ap (λ (x : PlanRead). x .answer) (accepts (q .0) (q .1 .allowed))))
+
+-- THE MAKER'S CERTIFICATE of an allowed plan keeps every rule, so the checker accepts it.
+module _ (p : Plan) (a : Allowed p) where
+  its : making.Certified (graphOf p .rows) (graphOf p .n)
+  its = certified (graphOf p .rows) (graphOf p .n) (plan-drawn p a) (plan-edges p a)
+
+  its-rules : Rules (planGraph p) (its .certificate)
+  its-rules = subst (λ (g : Graph). Rules g (its .certificate)) (network-listed p a) (its .rules)
+
+  pub made-accepted : checkOf (planBytes p) (certificateOf (graphOf p)) ≡ Grade (gradeMade (graphOf p))
+  made-accepted = certified-grade (planBytes p) (certificateOf (graphOf p)) (gradeMade (graphOf p))
+      (record { plan = p; is-plan = record { allowed = a; bytes = refl }; certificate = its .certificate; bytes = its .bytes; same-kind = sym (its .grade); rules = its-rules })
+
+  pub made-figure : IsGrade p (gradeMade (graphOf p))
+  made-figure = certified-sound {P = planBytes p} {C = certificateOf (graphOf p)} {k = gradeMade (graphOf p)}
+      (record { plan = p; is-plan = record { allowed = a; bytes = refl }; certificate = its .certificate; bytes = its .bytes; same-kind = sym (its .grade); rules = its-rules })
+
+  pub made-short : length (certificateOf (graphOf p)) ≤ roomAsked
+  made-short = its .short
+
+-- what the maker gives to a plan that was read
+made-on : (P buffer : List ℕ) (x : Read Plan) → ended plan P 0 ≡ x → madeFrom P buffer ≡ madeBy buffer (planRead x .answer) (planRead x .graph)
+made-on P buffer x e = ap (λ (r : Read Plan). madeBy buffer (planRead r .answer) (planRead r .graph)) e
+
+filled-on : (P buffer : List ℕ) (x : Read Plan) → ended plan P 0 ≡ x → filledFrom P buffer ≡ filledBy buffer (planRead x .answer) (planRead x .graph)
+filled-on P buffer x e = ap (λ (r : Read Plan). filledBy buffer (planRead r .answer) (planRead r .graph)) e
+
+-- a grade that the maker answers is the kind of that certificate
+made-grade : (P : List ℕ) → Bytes P → (buffer : List ℕ) (k : ℕ) → madeFrom P buffer .answer ≡ Grade k → (p : Plan) × IsPlan P p × IsGrade p k
+unfolding madeBy planRead
+made-grade P bp buffer k e = go (ended plan P 0) refl (ap (λ (m : Made). m .answer) (sym (made-on P buffer (ended plan P 0) refl)) ∙ e)
+  where
+    go : (x : Read Plan) → ended plan P 0 ≡ x → madeBy buffer (planRead x .answer) (planRead x .graph) .answer ≡ Grade k → (p : Plan) × IsPlan P p × IsGrade p k
+    go (Refused r q) f h = let z : _≡_ {A = ℕ} 0 1 = cc in absurd (omega arith)
+    go (Got p next) f h = test (ltb (length buffer) roomAsked) h
+      where
+        test : (b : Bool) → cond b (made (PlanFault 30 0) 0) (made (Grade (gradeMade (graphOf p))) (length (certificateOf (graphOf p)))) .answer ≡ Grade k → (p : Plan) × IsPlan P p × IsGrade p k
+        test true h = let z : _≡_ {A = ℕ} 0 1 = cc in absurd (omega arith)
+        test false h =
+            let r = ended-there plan-law bp f in
+            let same : gradeMade (graphOf p) ≡ k = cc in
+            (p, record { allowed = r .1; bytes = r .0 }, subst (λ (j : ℕ). IsGrade p j) same (made-figure p (r .1)))
+
+-- DEMAND 3: every accepted grade is the plan's figure
+pub grade-is-figure : GradeIsFigure
+grade-is-figure P bp k (checked C bc e) = grade-sound P C k bp bc e
+grade-is-figure P bp k (made-for buffer e) = made-grade P bp buffer k e
+grade-is-figure P bp k (closed-on calls bc e) = closing-sound P bp calls bc k e
+
+-- a record is the record of one plan
+one-plan : {P : List ℕ} (p q : Plan) → IsPlan P p → IsPlan P q → p ≡ q
+one-plan p q a b = injective p q (a .allowed) (b .allowed) (sym (a .bytes) ∙ b .bytes)
+
+figure-of : (P : List ℕ) → Bytes P → (p : Plan) → IsPlan P p → (k : ℕ) → AcceptedGrade P k → k ≡ connectivity (planGraph p)
+figure-of P bp p a k g = let r = grade-is-figure P bp k g in r .2 .computed ∙ ap (λ (q : Plan). connectivity (planGraph q)) (one-plan (r .0) p (r .1) a)
+
+pub same-grades : SameGrades
+same-grades P Q bp bq p q a b j k g h =
+    let e = figure-of P bp p a j g in
+    let f = figure-of Q bq q b k h in
+    (λ i. sym e ∙ i ∙ f, λ i. e ∙ i ∙ sym f)
+
+-- and the maker always writes one
+made-at : (p : Plan) → Allowed p → (buffer : List ℕ) → roomAsked ≤ length buffer → madeFrom (planBytes p) buffer ≡ made (Grade (gradeMade (graphOf p))) (length (certificateOf (graphOf p)))
+unfolding madeBy
+made-at p a buffer h = rw (accepts p a, le-ltb (length buffer) roomAsked h)
+
+over-start : (buffer bytes : List ℕ) → overwritten buffer 0 bytes ≡ bytes ++ drop (length bytes) buffer
+over-start buffer bytes = let e : 0 + length bytes ≡ length bytes = omega arith in ap (λ (k : ℕ). bytes ++ drop k buffer) e
+
+filled-at : (p : Plan) → Allowed p → (buffer : List ℕ) → roomAsked ≤ length buffer → filledFrom (planBytes p) buffer ≡ certificateOf (graphOf p) ++ drop (length (certificateOf (graphOf p))) buffer
+unfolding filledBy
+filled-at p a buffer h = rw (accepts p a, le-ltb (length buffer) roomAsked h) (over-start buffer (certificateOf (graphOf p)))
+
+writes : (p : Plan) → Allowed p → (buffer : List ℕ) → roomAsked ≤ length buffer → Writes (planBytes p) buffer
+writes p a buffer h = record {
+  certificate = certificateOf (graphOf p);
+  grade = gradeMade (graphOf p);
+  answer = made-at p a buffer h;
+  begins = filled-at p a buffer h;
+  short = made-short p a;
+  accepted = made-accepted p a;
+}
+
+pub maker-writes : MakerWrites
+maker-writes P bp e buffer h = let r = accepted P bp e in subst (λ (s : List ℕ). Writes s buffer) (sym (r .2)) (writes (r .0) (r .1) buffer h)
+
+-- a grade and a length as answer: the plan was accepted and the buffer is long enough, so the certificate is the definition's
+append-same : (a b c d : List ℕ) → length a ≡ length b → a ++ c ≡ b ++ d → a ≡ b
+append-same [] [] c d n e = refl
+append-same [] (y ∷ b) c d n e = absurd (omega arith)
+append-same (x ∷ a) [] c d n e = absurd (omega arith)
+append-same (x ∷ a) (y ∷ b) c d n e = let h : x ≡ y = cc in let t : a ++ c ≡ b ++ d = cc in rw (h, append-same a b c d (omega arith) t)
+
+written-is : (P buffer : List ℕ) (x : Writes P buffer) → x .certificate ≡ certificateOf (wholePlan P .graph)
+unfolding madeBy filledBy planRead
+written-is P buffer x = go (ended plan P 0) (ltb (length buffer) roomAsked) refl (x .answer) (x .begins)
+  where
+    go : (r : Read Plan) (b : Bool) → ltb (length buffer) roomAsked ≡ b → madeBy buffer (planRead r .answer) (planRead r .graph) ≡ made (Grade (x .grade)) (length (x .certificate))
+        → filledBy buffer (planRead r .answer) (planRead r .graph) ≡ x .certificate ++ drop (length (x .certificate)) buffer → x .certificate ≡ certificateOf (planRead r .graph)
+    go (Refused r q) b t e f = let h : PlanFault r q ≡ Grade (x .grade) = ap (λ (m : Made). m .answer) e in let z : _≡_ {A = ℕ} 0 1 = cc in absurd (omega arith)
+    go (Got p next) true t e f = let h : PlanFault 30 0 ≡ Grade (x .grade) = ap (λ (m : Made). m .answer) (rw t at e) in let z : _≡_ {A = ℕ} 0 1 = cc in absurd (omega arith)
+    go (Got p next) false t e f =
+        let h : made (Grade (gradeMade (graphOf p))) (length (certificateOf (graphOf p))) ≡ made (Grade (x .grade)) (length (x .certificate)) = rw t at e in
+        let n : length (x .certificate) ≡ length (certificateOf (graphOf p)) = sym (ap (λ (m : Made). m .length) h) in
+        let g : overwritten buffer 0 (certificateOf (graphOf p)) ≡ x .certificate ++ drop (length (x .certificate)) buffer = rw t at f in
+        append-same (x .certificate) (certificateOf (graphOf p)) (drop (length (x .certificate)) buffer) (drop (length (certificateOf (graphOf p))) buffer) n (sym g ∙ over-start buffer (certificateOf (graphOf p)))
+
+pub same-certificate : SameCertificate
+same-certificate P a b x y = written-is P a x ∙ sym (written-is P b y)
+
+-- refusals
+pub refused-keeps : RefusedKeeps
+unfolding madeBy filledBy planRead
+refused-keeps P buffer = record { kept = λ r q e. kept (ended plan P 0) (ltb (length buffer) roomAsked) refl r q e; fault = λ r q e. fault (ended plan P 0) r q e; too-short = λ e h. short (ended plan P 0) e h }
+  where
+    kept : (x : Read Plan) (b : Bool) → ltb (length buffer) roomAsked ≡ b → (r q : ℕ) → madeBy buffer (planRead x .answer) (planRead x .graph) .answer ≡ PlanFault r q
+        → (filledBy buffer (planRead x .answer) (planRead x .graph) ≡ buffer) × (madeBy buffer (planRead x .answer) (planRead x .graph) .length ≡ 0)
+    kept (Refused n at) b t r q e = (refl, refl)
+    kept (Got p next) true t r q e = (rw t, rw t)
+    kept (Got p next) false t r q e = let h : Grade (gradeMade (graphOf p)) ≡ PlanFault r q = rw t at e in let z : _≡_ {A = ℕ} 0 1 = cc in absurd (omega arith)
+
+    fault : (x : Read Plan) (r q : ℕ) → planRead x .answer ≡ PlanFault r q → madeBy buffer (planRead x .answer) (planRead x .graph) .answer ≡ PlanFault r q
+    fault (Refused n at) r q e = e
+    fault (Got p next) r q e = let z : _≡_ {A = ℕ} 0 1 = cc in absurd (omega arith)
+
+    short : (x : Read Plan) → planRead x .answer ≡ Accepted → length buffer < roomAsked → madeBy buffer (planRead x .answer) (planRead x .graph) .answer ≡ PlanFault 30 0
+    short (Refused n at) e h = let z : _≡_ {A = ℕ} 0 1 = cc in absurd (omega arith)
+    short (Got p next) e h = rw (lt-ltb (length buffer) roomAsked h)

@@ -1,0 +1,7 @@
+pub mod Back
+pub mod Filling
+pub mod Grown
+pub mod Members
+pub mod Placed
+pub mod Puts
+pub mod Visits

@@ -1,0 +1,93 @@
+/* Fikzarn: grades of plans of cabled boxes. Records are bytes, as docs/USERS.md lays them out; answers are words.
+ *
+ * Link target/staticlib/libfikzarn.a, which `rt staticlib fikzarn` writes (x86-64 Linux). It calls nothing but memcpy, memset and
+ * the like, which C compilers call by themselves.
+ *
+ * For all bytes and all lengths each call ends, and does exactly what is said at it; that is proved. In turn the caller sees to this:
+ *  - A pointer is not null, beside a length of 0 either, and as many bytes as its length says may be read there (at `out` also
+ *    written) until the call returns. No length is above PTRDIFF_MAX.
+ *  - The bytes at `out` are none of the bytes of another argument. Arguments that are only read may overlap.
+ *
+ * The library has no state. A call keeps no pointer, takes no memory but stack (docs/LIMITS.md says how much) and writes nothing but
+ * the bytes at `out`. Any number of threads may call at once, as long as the bytes at an `out` are used by one of them alone.
+ */
+#ifndef FIKZARN_H
+#define FIKZARN_H
+
+#include <stddef.h>
+#include <stdint.h>
+
+#ifdef __cplusplus
+extern "C" {
+#endif
+
+/* An answer is one word: case + 256 * number + 65536 * place. */
+enum {
+    FIKZARN_ACCEPTED = 0,          /* accepted, without a grade; number and place are 0 */
+    FIKZARN_GRADE = 1,             /* accepted; the number is the grade, 0 to 3, and the place 0 unless said below */
+    FIKZARN_PLAN_FAULT = 2,        /* the plan is refused: which refusal, and the offset in its bytes */
+    FIKZARN_CERTIFICATE_FAULT = 3  /* the same of the certificate, start or path */
+};
+
+static inline unsigned fikzarn_case(uint64_t word) {
+    return (unsigned)(word & 255);
+}
+
+static inline unsigned fikzarn_number(uint64_t word) {
+    return (unsigned)(word >> 8 & 255);
+}
+
+static inline uint64_t fikzarn_place(uint64_t word) {
+    return word >> 16;
+}
+
+/* Reads a whole plan record: accepted, or a plan fault. Where it is accepted and `out` has room for it, `out` begins with the
+ * record, written again from the plan that was read. Every other byte of `out`, or else every byte, keeps its value. */
+uint64_t fikzarn_plan(const uint8_t *plan, size_t plan_len, uint8_t *out, size_t out_len);
+
+/* Checks a certificate record beside a plan record: a grade, a plan fault, or else a certificate fault. */
+uint64_t fikzarn_check(const uint8_t *plan, size_t plan_len, const uint8_t *certificate, size_t certificate_len);
+
+/* A buffer of this many bytes has room for the certificate of any plan. */
+#define FIKZARN_CERTIFICATE_ROOM 1536
+
+/* Makes a certificate of a plan that fikzarn_check accepts with the grade in the answer. Beside a grade the place is the
+ * certificate's length; `out` begins with the certificate, and every byte from the length on keeps its value. Else the answer is a
+ * plan fault, 30 at 0 for an accepted plan where `out` is below FIKZARN_CERTIFICATE_ROOM bytes, and no byte of `out` changes. */
+uint64_t fikzarn_certify(const uint8_t *plan, size_t plan_len, uint8_t *out, size_t out_len);
+
+/* How the replay of a script ended. */
+enum {
+    FIKZARN_REPLAYED = 0,      /* every call was made */
+    FIKZARN_CUT = 1,           /* the script ends inside the next call */
+    FIKZARN_UNKNOWN_CALL = 2,  /* the next call is none of 's', 'p', 'c' */
+    FIKZARN_NO_ROOM = 3        /* the next call is whole, but `out` has no room for its answer */
+};
+
+/* Replays a session script. A script is a plan record, on which the session is opened, and then calls: 's' (start) or 'p' (path) with
+ * a part, or 'c' (close). The record and each part have their length before them, two bytes, the lower first.
+ * `out` begins with one answer for each call that was made, the opening first, eight bytes each, lowest byte first; every byte
+ * behind them keeps its value. 8 * script_len bytes always have room.
+ * Returns how it ended + 65536 * the number of answers, so that fikzarn_case and fikzarn_place read it. */
+uint64_t fikzarn_session(const uint8_t *script, size_t script_len, uint8_t *out, size_t out_len);
+
+/* Answer number i, counted from 0, of those that fikzarn_session wrote. */
+static inline uint64_t fikzarn_answer(const uint8_t *out, size_t i) {
+    uint64_t word = 0;
+    for (size_t k = 8; k > 0; k--)
+        word = word << 8 | out[8 * i + k - 1];
+    return word;
+}
+
+/* Which edition of the records this library reads, and its limits. */
+uint64_t fikzarn_edition(void);          /* 0 */
+uint64_t fikzarn_min_boxes(void);        /* 4 */
+uint64_t fikzarn_max_boxes(void);        /* 128 */
+uint64_t fikzarn_max_cables(void);       /* 512 */
+uint64_t fikzarn_certificate_room(void); /* FIKZARN_CERTIFICATE_ROOM */
+
+#ifdef __cplusplus
+}
+#endif
+
+#endif
