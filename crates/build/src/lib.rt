@@ -743,7 +743,7 @@ impl Session {
         }
     }
 
-    // Four branch vertices and six paths; 31 before reading where a start was accepted already.
+    // Four branch vertices and six paths; 31 before reading where a start was accepted already or the session never opened.
     pub fn start(self, part: &[u8]) -> Stepped
         ensures { λ x. ⌜ x ≡ startStep self (now (part .entry)) ⌝ }
     {

@@ -1,4 +1,4 @@
-// Certificates of kind 2: two vertices that are lost, ears that take in every vertex, and a side.
+// Certificates of kind 2: two removed vertices, ears that take in every vertex, and a side.
 ghost use mathlib.Core.Path.{_≡_};
 ghost use Prim.Native.Nat.{_≤_};
 ghost use Rattle.vertexset.specs.Set.{has};
@@ -126,7 +126,7 @@ fn read_all_ears(s: &[u8], rows: &[u64; Graph::ROW_WORDS], n: u16, count: u16, f
     Item::Fault(28, at)
 }
 
-// Kind 2: a lost pair, ears that take in every vertex, and a side.
+// Kind 2: a removed pair, ears that take in every vertex, and a side.
 pub fn read_ears(s: &[u8], rows: &[u64; Graph::ROW_WORDS], n: u16, at: usize) -> Item
     ensures { λ r. ⌜ r ≡ endRead (limited n (body (rowsGraph n (now (rows .entry))) 2) (now (s .entry)) at) ⌝ }
 {
