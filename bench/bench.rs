@@ -31,7 +31,8 @@ fn main() {
     println!("graph               vertices edges grade       us | bytes       us  searches    half | bytes       us  searches    half");
     for (name, grade, make) in FAMILIES {
         for n in [16, 32, 64, MOST_VERTICES] {
-            row(name, (0..GRAPHS).map(|_| Case::new(&drawn(make, n, grade, &mut random), grade, &mut random)).collect());
+            let graph = |random: &mut Random| if name == IN_ORDER { make(n, random) } else { drawn(make, n, grade, random) };
+            row(name, (0..GRAPHS).map(|_| Case::new(&graph(&mut random), grade, &mut random)).collect());
         }
     }
 }
@@ -39,9 +40,13 @@ fn main() {
 /// Makes a graph with that many vertices.
 type Family = fn(usize, &mut Random) -> Plan;
 
-const FAMILIES: [(&str, u8, Family); 5] = [
+/// The one family that is not numbered at random: the hub is 0, and the others go round the ring.
+const IN_ORDER: &str = "wheel in order";
+
+const FAMILIES: [(&str, u8, Family); 6] = [
     ("random 3-connected", 3, dense),
     ("wheel", 3, wheel),
+    (IN_ORDER, 3, wheel),
     ("prism", 3, prism),
     ("random cubic", 3, cubic),
     ("planted pair", 2, planted_pair),
@@ -62,8 +67,7 @@ fn filled(n: usize, m: usize, random: &mut Random) -> Plan {
 }
 
 fn wheel(n: usize, _: &mut Random) -> Plan {
-    let hub = n - 1;
-    Plan::new(n, generate::cycle(hub).into_iter().chain((0..hub).map(|v| (v, hub))))
+    Plan::new(n, generate::cycle(n - 1).into_iter().map(|(a, b)| (a + 1, b + 1)).chain((1..n).map(|v| (0, v))))
 }
 
 fn prism(n: usize, _: &mut Random) -> Plan {

@@ -9,6 +9,7 @@ use Rattle.record.specs.Read.{Read, Read.Got, Read.Refused, Reader}
 use Rattle.record.specs.Loop.{Loop}
 use Rattle.vertexset.specs.Set.{has, emptySet, wordwise}
 use Rattle.vertexset.specs.declared.VertexSet.{VertexSet}
+use Rattle.graph.specs.Rows.{joinedRows}
 use Rattle.connectivity.specs.Path.{Link as Path}
 use Rattle.certificates.specs.Tests.{allBelow}
 use Rattle.paths.specs.Items.{rowsGraph, endRead, limited}
@@ -19,7 +20,7 @@ use Rattle.build.specs.declared.Build.{Build}
 use Rattle.build.specs.declared.Taken.{Taken}
 use Rattle.build.specs.declared.Four.{Four}
 use Rattle.build.specs.declared.Started.{Started}
-use Rattle.build.specs.State.{pointBack, pointOn, linkedWith, pathTaken, bareBuild, buildPath, BuildStart, startOn, startEntered, startedBuild}
+use Rattle.build.specs.State.{pointBack, pointOn, pathTaken, bareBuild, buildPath, BuildStart, startOn, startEntered, startedBuild}
 
 -- the inner vertices of a path whose vertices stand at the front of the code's array
 abbrev pub innerIn : List ℕ → ℕ → List ℕ
@@ -40,7 +41,7 @@ enteredFrom x b = record {
   built = wordwise bitOr (b .built) (x .set);
   before = pointBack (b .before) (getD (x .list) 0 0) (innerIn (x .list) (x .len));
   after = pointOn (b .after) (innerIn (x .list) (x .len)) (getD (x .list) (x .len - 1) 0);
-  linked = linkedWith (b .linked) (x .first) (x .last);
+  linked = joinedRows (b .linked) (x .first) (x .last);
 }
 
 -- what reading a path leaves of a build: one step on, or as it was

@@ -10,7 +10,7 @@ use Rattle.record.specs.Read.{Reader, _needs⟨_⟩_, _▸_, many, check, folde
 use Rattle.vertexset.specs.Set.{has, emptySet, inserted, wordwise, less}
 use Rattle.vertexset.specs.declared.VertexSet.{VertexSet}
 use Rattle.graph.specs.Plan.{maxVertices}
-use Rattle.graph.specs.Rows.{joined, bareRows, rowBits}
+use Rattle.graph.specs.Rows.{joinedRows, bareRows, rowBits}
 use Rattle.connectivity.specs.Graph.{Graph}
 use Rattle.connectivity.specs.Path.{vertices}
 use Rattle.connectivity.specs.Path.{Link as Path}
@@ -36,10 +36,7 @@ endOf b v = endIn (b .branch) (b .before) (b .after) v
 abbrev pub pathAddition : Build → Path → Addition
 pathAddition b P = additionOf (b .linked) (endOf b (P .s)) (endOf b (P .t))
 
--- the table of links with one more or one fewer; nothing changes for a vertex past the limit
-abbrev pub linkedWith : List ℕ → ℕ → ℕ → List ℕ
-linkedWith linked u v = cond (ltb u maxVertices && ltb v maxVertices) (joined linked (u, v)) linked
-
+-- the table of links with one fewer; nothing changes for a vertex past the limit
 abbrev pub withoutBit : List ℕ → ℕ → List ℕ
 withoutBit ws v = set ws (v / 64) (less (getD ws (v / 64) 0) (2 ^ (v % 64)))
 
@@ -49,7 +46,7 @@ linkedWithout linked u v =
 
 -- the link l is split at its inner vertex x
 abbrev pub splitAt : List ℕ → ℕ → Link → List ℕ
-splitAt linked x l = linkedWith (linkedWith (linkedWithout linked (l .a) (l .b)) (l .a) x) x (l .b)
+splitAt linked x l = joinedRows (joinedRows (linkedWithout linked (l .a) (l .b)) (l .a) x) x (l .b)
 
 abbrev pub splitBy : List ℕ → Addition → List ℕ
 splitBy linked Held = linked
@@ -74,7 +71,7 @@ entered b P = record {
   built = wordwise bitOr (b .built) (folded inserted emptySet (vertices P));
   before = pointBack (b .before) (P .s) (P .inner);
   after = pointOn (b .after) (P .inner) (P .t);
-  linked = linkedWith (b .linked) (P .s) (P .t);
+  linked = joinedRows (b .linked) (P .s) (P .t);
 }
 
 -- links are split at a path's ends, which become branch vertices

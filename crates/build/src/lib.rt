@@ -5,14 +5,14 @@ ghost use lib.Dec.{leb};
 ghost use lib.ListN.{length, getD, set};
 ghost use Rattle.record.specs.Read.{_needs⟨_⟩_};
 ghost use Rattle.record.specs.Loop.{runs};
-ghost use Rattle.vertexset.specs.Set.{has, withBit};
+ghost use Rattle.vertexset.specs.Set.{has};
 ghost use Rattle.graph.specs.Plan.{maxVertices};
 ghost use Rattle.graph.specs.Rows.{rowBits};
 ghost use Rattle.certificates.specs.Tests.{allBelow};
 ghost use Rattle.certificates.specs.Records.{vertex, branchFour};
 ghost use Rattle.paths.specs.Items.{itemRead, endRead, rowsGraph, limited};
 ghost use Rattle.build.specs.Ends.{reach, sameLink, linkEnd, additionOf, held};
-ghost use Rattle.build.specs.State.{endIn, linkedWith, linkedWithout, withoutBit, splitAt, splitBy, pointBack, pointOn, entered, pathTaken, buildPath, bareBuild, fourSet, startOn, startOf, buildStart, buildBody};
+ghost use Rattle.build.specs.State.{endIn, linkedWithout, withoutBit, splitAt, splitBy, pointBack, pointOn, entered, pathTaken, buildPath, bareBuild, fourSet, startOn, startOf, buildStart, buildBody};
 ghost use Rattle.build.specs.Code.{innerIn, pathFault, buildIn, enteredFrom, Leaves, towards, noFour, fourRead, fourOf, noStart, startRead, startLoop, furtherLoop};
 ghost use Rattle.build.specs.Session.{noSession, opening, refusedStep, unreadStep, startStep, pathCount, dueStep, pathStep, closing, closeStep, startRest, pathRest};
 use graph::Graph;
@@ -210,15 +210,6 @@ fn end_of<'a>(
     )
 }
 
-fn set_bit(linked: &mut [u64; Graph::ROW_WORDS], u: u16, v: u16)
-    requires { ⌜ (u < maxVertices) × (v < maxVertices) ⌝ }
-    ensures { λ r. ⌜ now (linked .exit) ≡ withBit (now (linked .entry)) (u * rowBits + v) ⌝ }
-{
-    let i = u as usize * VertexSet::WORDS + (v / 64) as usize;
-    let w = linked[i];
-    linked[i] = w | (1u64 << (v % 64));
-}
-
 fn clear_bit(linked: &mut [u64; Graph::ROW_WORDS], u: u16, v: u16)
     requires { ⌜ (u < maxVertices) × (v < maxVertices) ⌝ }
     ensures { λ r. ⌜ now (linked .exit) ≡ withoutBit (now (linked .entry)) (u * rowBits + v) ⌝ }
@@ -226,19 +217,6 @@ fn clear_bit(linked: &mut [u64; Graph::ROW_WORDS], u: u16, v: u16)
     let i = u as usize * VertexSet::WORDS + (v / 64) as usize;
     let w = linked[i];
     linked[i] = w ^ (w & (1u64 << (v % 64)));
-}
-
-fn add_link(linked: &mut [u64; Graph::ROW_WORDS], u: u16, v: u16)
-    ensures { λ r. ⌜ now (linked .exit) ≡ linkedWith (now (linked .entry)) u v ⌝ }
-{
-    if Graph::MAX_VERTICES <= u {
-        return;
-    }
-    if Graph::MAX_VERTICES <= v {
-        return;
-    }
-    set_bit(linked, u, v);
-    set_bit(linked, v, u);
 }
 
 fn remove_link(linked: &mut [u64; Graph::ROW_WORDS], u: u16, v: u16)
@@ -259,8 +237,8 @@ fn split_link(linked: &mut [u64; Graph::ROW_WORDS], x: u16, l: Link)
     ensures { λ r. ⌜ now (linked .exit) ≡ splitAt (now (linked .entry)) x l ⌝ }
 {
     remove_link(linked, l.a, l.b);
-    add_link(linked, l.a, x);
-    add_link(linked, x, l.b);
+    graph::join(linked, l.a, x);
+    graph::join(linked, x, l.b);
 }
 
 fn split_by(linked: &mut [u64; Graph::ROW_WORDS], a: Addition)
@@ -367,7 +345,7 @@ fn enter<'a>(
     let list = x.list;
     point_back(before, &list, x.len);
     point_on(after, &list, x.len);
-    add_link(linked, x.first, x.last);
+    graph::join(linked, x.first, x.last);
     Taken {
         end,
         branch,

@@ -5,21 +5,23 @@ use mathlib.Core.Bool.{true, false}
 use mathlib.Core.List.{List, [], _∷_, _++_, append-nil}
 use native.Mathlib.Omega.{arith}
 use lib.Dec.{ltb}
-use lib.ListN.{getD}
+use lib.ListN.{getD, length}
 use borrow.Author.Tests.{lt-ltb, le-ltb}
 use Rattle.vertexset.specs.Set.{emptySet, count}
 use Rattle.vertexset.specs.declared.VertexSet.{VertexSet}
 use Rattle.graph.specs.Rows.{rowOf}
-use Rattle.search.specs.Code.{pathOf, reachOf, routeIn}
+use Rattle.search.specs.Code.{pathOf, reachOf, searchSpace, leftIn, answerIn}
 use Rattle.search.specs.declared.Path.{Path}
 use Rattle.search.specs.declared.Reach.{Reach}
-use Rattle.search.proofs.Placed.{back-padded}
+use Rattle.search.proofs.Lent.{answer-is, order-is, from-is}
+use Rattle.search.proofs.Sizes.{explore-sized}
 use Rattle.making.specs.Sets.{capacity, minus, single, pair, withAll, least, members}
 use Rattle.making.specs.Search as searching
 use Rattle.making.specs.Search.{explore, route}
 use Rattle.making.specs.Ears.{noCut, failed, answered, wayOut, backFrom, detour, cycle}
 use Rattle.making.specs.Start.{thirdPath, across}
-use Rattle.certifier.specs.Code.{cutOf, foundOf, pushed}
+use Rattle.making.specs.Certificate.{treeNumbers}
+use Rattle.certifier.specs.Code.{cutOf, foundOf, pushed, treeIn, firstSearch}
 use Rattle.certifier.specs.declared.Cut.{Cut}
 use Rattle.certifier.specs.declared.Found.{Found}
 use Rattle.certifier.proofs.Lists.{pushed-path}
@@ -33,13 +35,7 @@ cutAt removed side = record { removed = removed; side = side }
 
 -- ---- a search, answered
 
-pub route-same : (m : searching.Reach) → routeIn (reachOf m) ≡ route m
-route-same m = ap (λ (l : List ℕ). m .goal ∷ l) (back-padded capacity (m .order) (m .from) capacity capacity (m .seeds) (m .last))
-
 module _ (m : searching.Reach) (removed : VertexSet) (r : Reach) (e : r ≡ reachOf m) where
-  pub routed : (p : Path) → p ≡ pathOf (routeIn r) → p ≡ pathOf (route m)
-  routed p q = q ∙ ap (λ (x : Reach). pathOf (routeIn x)) e ∙ ap pathOf (route-same m)
-
   met : r .goal < capacity → ltb (m .goal) capacity ≡ true
   met h = lt-ltb (m .goal) capacity (subst (λ (x : Reach). x .goal < capacity) e h)
 
@@ -50,13 +46,13 @@ module _ (m : searching.Reach) (removed : VertexSet) (r : Reach) (e : r ≡ reac
       → foundIn p c ≡ foundOf (answered m removed more)
   found-with more p c h q n = rw (met h, q, n)
 
-  pub found-here : (p : Path) (c : Cut) → r .goal < capacity → p ≡ pathOf (routeIn r) → c ≡ cutOf noCut → foundIn p c ≡ foundOf (answered m removed [])
-  found-here p c h q n = found-with [] p c h (routed p q ∙ ap pathOf (sym (append-nil (route m)))) n
+  pub found-here : (p : Path) (c : Cut) → r .goal < capacity → p ≡ pathOf (route m) → c ≡ cutOf noCut → foundIn p c ≡ foundOf (answered m removed [])
+  found-here p c h q n = found-with [] p c h (q ∙ ap pathOf (sym (append-nil (route m)))) n
 
-  pub found-on : (x : ℕ) (p q : Path) (c : Cut) → r .goal < capacity → p ≡ pathOf (routeIn r) → q ≡ pushed p x → c ≡ cutOf noCut
+  pub found-on : (x : ℕ) (p q : Path) (c : Cut) → r .goal < capacity → p ≡ pathOf (route m) → q ≡ pushed p x → c ≡ cutOf noCut
       → foundIn q c ≡ foundOf (answered m removed (x ∷ []))
   found-on x p q c h a b n =
-      found-with (x ∷ []) q c h (b ∙ ap (λ (y : Path). pushed y x) (routed p a) ∙ pushed-path (route m) x (omega (arith, route-short m))) n
+      found-with (x ∷ []) q c h (b ∙ ap (λ (y : Path). pushed y x) a ∙ pushed-path (route m) x (omega (arith, route-short m))) n
 
   pub found-none : (more : List ℕ) (p : Path) (side : VertexSet) → capacity ≤ r .goal → p ≡ pathOf [] → side ≡ minus (r .shut) removed
       → foundIn p (cutAt removed side) ≡ foundOf (answered m removed more)
@@ -115,3 +111,19 @@ pub across-found : (rows around third : List ℕ) (ends seeds goals one two bare
     → none ≡ emptySet → one ≡ withAll none third → seeds ≡ minus one ends → bare ≡ emptySet → two ≡ withAll bare around → goals ≡ minus two ends
     → answered (explore rows seeds goals ends) ends [] ≡ across rows around third
 across-found rows around third ends seeds goals one two bare none b p q r s t u v w = rw (t, w, s, v, r, u, q, p)
+
+-- ---- the tree of the first search, out of the space
+
+module _ (rows space : List ℕ) (size : length space ≡ searchSpace) {seeds goals removed : VertexSet} (a : seeds ≡ single 0) (b : goals ≡ emptySet) (c : removed ≡ emptySet)
+    {tree : Reach} (e : tree ≡ answerIn space (explore rows seeds goals removed)) where
+  pub tree-is : tree ≡ reachOf (firstSearch rows)
+  tree-is = answer-is rows space seeds goals removed size e ∙ rw (a, b, c)
+
+  pub tree-low : tree .count ≤ capacity
+  tree-low = omega (arith, ap (λ (x : Reach). x .count) tree-is, explore-sized rows (single 0) emptySet emptySet .low)
+
+  pub tree-left : {out : List ℕ} → out ≡ leftIn space (explore rows seeds goals removed) → treeIn out (tree .count) ≡ treeNumbers (firstSearch rows)
+  tree-left {out} p =
+      let q : out ≡ leftIn space (firstSearch rows) = p ∙ rw (a, b, c) in
+      ap (λ (x : Reach). treeIn out (x .count)) tree-is
+      ∙ rw (order-is rows space (single 0) emptySet emptySet size q, from-is rows space (single 0) emptySet emptySet size q)

@@ -12,18 +12,16 @@ use Rattle.vertexset.specs.Set.{wordCount, inserted, next, firstFrom, has}
 use Rattle.vertexset.specs.declared.VertexSet.{VertexSet}
 use Rattle.graph.specs.Rows.{bareRows}
 use Rattle.making.specs.Sets.{capacity, stop, single, pair, minus, least, lastOf}
-use Rattle.making.specs.Search.{explore}
+use Rattle.making.specs.Search.{explore, route}
 use Rattle.making.specs.Ears.{noCut, pathSpace}
 use Rattle.making.specs.Start.{linkIn, addLink, sixLinks, sorted, nextAfter, begun, marked, threePaths, fourOf, startOn}
 use Rattle.search.specs.Arrays.{placed, placedEnd}
-use Rattle.search.specs.Code.{pathOf, pathRoom, reachOf, routeIn}
+use Rattle.search.specs.Code.{pathOf, pathRoom}
 use Rattle.search.specs.declared.Path.{Path}
-use Rattle.search.specs.declared.Reach.{Reach}
 use Rattle.certifier.specs.Code.{cutOf, startOf}
 use Rattle.certifier.specs.declared.Cut.{Cut}
 use Rattle.certifier.specs.declared.Start.{Start}
 use Rattle.certifier.proofs.Written.{Filled, filled-added}
-use Rattle.certifier.proofs.Answered.{routed}
 use Rattle.certifier.proofs.Stepping.{front, front-take}
 
 -- ---- the front of a path's array, as the code hands it on
@@ -38,10 +36,9 @@ module _ (p : Path) (l : List ℕ) (e : p ≡ pathOf l) where
 -- ---- links of the start
 
 module _ (table : List ℕ) (four : VertexSet) (u w : ℕ) where
-  pub link-path : {seeds goals ends removed : VertexSet} {r : Reach} {p : Path} → seeds ≡ single w → goals ≡ single u → ends ≡ pair u w → removed ≡ minus four ends
-      → r ≡ reachOf (explore table seeds goals removed) → p ≡ pathOf (routeIn r) → p ≡ pathOf (linkIn table four u w)
-  link-path {seeds} {goals} {ends} {removed} {r} {p} a b c d e q =
-      routed (explore table (single w) (single u) (minus four (pair u w))) removed r (e ∙ rw (d, c, a, b)) p q
+  pub link-path : {seeds goals ends removed : VertexSet} {p : Path} → seeds ≡ single w → goals ≡ single u → ends ≡ pair u w → removed ≡ minus four ends
+      → p ≡ pathOf (route (explore table seeds goals removed)) → p ≡ pathOf (linkIn table four u w)
+  link-path a b c d q = q ∙ rw (d, c, a, b)
 
   -- one link more, behind the links so far
   pub link-added : {items : List ℕ} {len : ℕ} {l : List ℕ} → Filled pathSpace items len l → {out : List ℕ} {end : ℕ}

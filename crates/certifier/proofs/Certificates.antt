@@ -24,69 +24,37 @@ use Rattle.search.specs.Code.{reachOf}
 use Rattle.search.specs.declared.Reach.{Reach}
 use Rattle.search.proofs.Placed.{padded-at, added-length}
 use Rattle.search.proofs.Members.{members-low}
-use Rattle.certifier.specs.Code.{cutOf, cutIn, earsOf, startOf, flatOf, StartKept, treeIn, evidenceIn, cutNumbersIn, cutCertificateIn, builtCertificateIn, startCertificateIn}
+use Rattle.certifier.specs.Code.{cutOf, cutIn, earsOf, startOf, flatOf, StartKept, firstSearch, evidenceIn, cutNumbersIn, cutCertificateIn, builtCertificateIn, startCertificateIn}
 use Rattle.certifier.specs.declared.Cut.{Cut}
 use Rattle.certifier.specs.declared.Start.{Start}
 
 -- ---- the code's structs hold what the definition has
 
--- behind a list stand zeros, which is what a list gives behind its end
-pairs-padded : (order from : List ℕ) (a b k i : ℕ) → pairsFrom (padded a order) (padded b from) k i ≡ pairsFrom order from k i
-unfolding pairsFrom
-pairs-padded order from a b zero i = refl
-pairs-padded order from a b (suc k) i =
-    rw (padded-at a order i, padded-at b from i, padded-at a order (getD from i 0), pairs-padded order from a b k (i + 1))
-
-tree-same : (x : searching.Reach) → treeIn (reachOf x) ≡ treeNumbers x
-tree-same x = ap (λ (l : List ℕ). 0 ∷ l) (pairs-padded (x .order) (x .from) capacity capacity (length (x .order) - 1) 1)
-
 flat-same : (l : List ℕ) → take (length l) (flatOf l) ≡ l
 flat-same l = take-append-seam l (replicate (pathSpace - length l) 0)
 
-evidence-same : (x : searching.Reach) (e : making.Eared) (k : ℕ) → evidenceIn (reachOf x) (earsOf e) k ≡ evidence x e k
-evidence-same x e k =
-    ap (λ (l : List ℕ). cond (eqb k 0) [] (cond (eqb k 1) l (e .count ∷ lengthened (take (length (e .flat)) (flatOf (e .flat))) .0))) (tree-same x)
-    ∙ ap (λ (l : List ℕ). cond (eqb k 0) [] (cond (eqb k 1) (treeNumbers x) (e .count ∷ lengthened l .0))) (flat-same (e .flat))
+evidence-same : (rows : List ℕ) (e : making.Eared) (k : ℕ) → evidenceIn rows (earsOf e) k ≡ evidence (firstSearch rows) e k
+evidence-same rows e k = ap (λ (l : List ℕ). cond (eqb k 0) [] (cond (eqb k 1) (treeNumbers (firstSearch rows)) (e .count ∷ lengthened l .0))) (flat-same (e .flat))
 
-numbers-same : (x : searching.Reach) (e : making.Eared) (c : making.Cut) → cutNumbersIn (reachOf x) (earsOf e) (cutOf c) ≡ cutNumbers x e c
-numbers-same x e c =
-    ap (λ (l : List ℕ). length (members (c .removed)) ∷ (members (c .removed) ++ (l ++ sideNumbers (c .side)))) (evidence-same x e (length (members (c .removed))))
+numbers-same : (rows : List ℕ) (e : making.Eared) (c : making.Cut) → cutNumbersIn rows (earsOf e) (cutOf c) ≡ cutNumbers (firstSearch rows) e c
+numbers-same rows e c =
+    ap (λ (l : List ℕ). length (members (c .removed)) ∷ (members (c .removed) ++ (l ++ sideNumbers (c .side)))) (evidence-same rows e (length (members (c .removed))))
 
-pub cut-same : (x : searching.Reach) (rows : List ℕ) (full : VertexSet) (c : making.Cut) → cutCertificateIn (reachOf x) rows full (cutOf c) ≡ cutCertificate x rows full c
-cut-same x rows full c =
-    ap (λ (l : List ℕ). cond (ltb (count (c .removed .words)) 2) l (cutNumbersIn (reachOf x) (earsOf (ears rows full)) (cutOf (chosen (ears rows full) c)))) (numbers-same x (eared [] 0 noCut) c)
-    ∙ ap (λ (l : List ℕ). cond (ltb (count (c .removed .words)) 2) (cutNumbers x (eared [] 0 noCut) c) l) (numbers-same x (ears rows full) (chosen (ears rows full) c))
+pub cut-same : (rows : List ℕ) (full : VertexSet) (c : making.Cut) → cutCertificateIn rows full (cutOf c) ≡ cutCertificate (firstSearch rows) rows full c
+cut-same rows full c =
+    ap (λ (l : List ℕ). cond (ltb (count (c .removed .words)) 2) l (cutNumbersIn rows (earsOf (ears rows full)) (cutOf (chosen (ears rows full) c)))) (numbers-same rows (eared [] 0 noCut) c)
+    ∙ ap (λ (l : List ℕ). cond (ltb (count (c .removed .words)) 2) (cutNumbers (firstSearch rows) (eared [] 0 noCut) c) l) (numbers-same rows (ears rows full) (chosen (ears rows full) c))
 
-module _ (x : searching.Reach) (rows : List ℕ) (n : ℕ) (full : VertexSet) where
-  built-same : (four : VertexSet) (st : stepping.State) → builtCertificateIn (reachOf x) rows n full four st ≡ buildCertificate x rows n full four st
-  built-same four st = ap (λ (l : List ℕ). cond (isCut (st .cutBy)) l (buildNumbers four (stepping.finish rows n (st .flat)))) (cut-same x rows full (st .cutBy))
+module _ (rows : List ℕ) (n : ℕ) (full : VertexSet) where
+  built-same : (four : VertexSet) (st : stepping.State) → builtCertificateIn rows n full four st ≡ buildCertificate (firstSearch rows) rows n full four st
+  built-same four st = ap (λ (l : List ℕ). cond (isCut (st .cutBy)) l (buildNumbers four (stepping.finish rows n (st .flat)))) (cut-same rows full (st .cutBy))
 
-  pub start-same : (b : Begun) → startCertificateIn (reachOf x) rows n full (startOf b) ≡ buildCertificate x rows n full (b .four) (stepping.build rows full b)
+  pub start-same : (b : Begun) → startCertificateIn rows n full (startOf b) ≡ buildCertificate (firstSearch rows) rows n full (b .four) (stepping.build rows full b)
   start-same b =
-      ap (λ (l : List ℕ). builtCertificateIn (reachOf x) rows n full (b .four) (stepping.build rows full (record { four = b .four; flat = l; cutBy = b .cutBy }))) (flat-same (b .flat))
+      ap (λ (l : List ℕ). builtCertificateIn rows n full (b .four) (stepping.build rows full (record { four = b .four; flat = l; cutBy = b .cutBy }))) (flat-same (b .flat))
       ∙ built-same (b .four) (stepping.build rows full b)
 
 -- ---- their lists have room
-
-order-short : (rows : List ℕ) (goals : VertexSet) (seeds k : ℕ) (order from : List ℕ) (shut : VertexSet) (h : ℕ) → length order ≤ capacity → length (visit rows goals seeds k order from shut h .order) ≤ capacity
-unfolding visit
-order-short rows goals seeds zero order from shut h l = l
-order-short rows goals seeds (suc k) order from shut h l =
-    go _ _ (ltb h (length order)) (ltb (least (common (rowOf rows (getD order h 0)) goals)) capacity)
-    (order-short rows goals seeds k (added capacity order (members (minus (rowOf rows (getD order h 0)) shut)))
-    (added capacity from (replicate (length (members (minus (rowOf rows (getD order h 0)) shut))) h)) (plus shut (rowOf rows (getD order h 0))) (h + 1)
-    (added-length capacity order (members (minus (rowOf rows (getD order h 0)) shut)) l))
-  where
-    go : (x : ℕ) (y : searching.Reach) (p q : Bool) → length (y .order) ≤ capacity
-        → length (cond p (cond q (searching.reach order from seeds shut x h) y) (searching.reach order from seeds shut capacity h) .order) ≤ capacity
-    go x y true true m = l
-    go x y true false m = m
-    go x y false q m = l
-
-pub explore-short : (rows : List ℕ) (seeds goals removed : VertexSet) → length (explore rows seeds goals removed .order) ≤ capacity
-unfolding explore
-explore-short rows seeds goals removed =
-    order-short rows goals (length (members seeds)) capacity (members seeds) (replicate (length (members seeds)) 0) (plus seeds removed) 0 (members-low seeds)
 
 link-short : (table : List ℕ) (four : VertexSet) (l : List ℕ) (u w : ℕ) → length l ≤ pathSpace → length (addLink table four l u w) ≤ pathSpace
 link-short table four l u w h = added-length pathSpace l (stop ∷ starting.linkIn table four u w) h
@@ -139,38 +107,26 @@ begin-kept rows s e = rw e (ap flatOf (sym (flat-same (begin rows .flat))), begi
 
 -- ---- THE CERTIFICATE
 
--- the search from vertex 0
-abbrev first : List ℕ → searching.Reach
-first rows = explore rows (single 0) emptySet emptySet
-
-whole : (rows : List ℕ) (n : ℕ) {b : Bool} → empty (minus (fullSet n) (first rows .shut)) ≡ b
-    → cond b (begunCertificate (first rows) rows n (fullSet n) (begin rows)) (cutCertificate (first rows) rows (fullSet n) (cut emptySet (first rows .shut))) ≡ certificateNumbers rows n
+whole : (rows : List ℕ) (n : ℕ) {b : Bool} → empty (minus (fullSet n) (firstSearch rows .shut)) ≡ b
+    → cond b (begunCertificate (firstSearch rows) rows n (fullSet n) (begin rows)) (cutCertificate (firstSearch rows) rows (fullSet n) (cut emptySet (firstSearch rows .shut))) ≡ certificateNumbers rows n
 unfolding certificateNumbers
 whole rows n e =
-    ap (λ (b : Bool). cond b (begunCertificate (first rows) rows n (fullSet n) (begin rows)) (cutCertificate (first rows) rows (fullSet n) (cut emptySet (first rows .shut)))) (sym e)
+    ap (λ (b : Bool). cond b (begunCertificate (firstSearch rows) rows n (fullSet n) (begin rows)) (cutCertificate (firstSearch rows) rows (fullSet n) (cut emptySet (firstSearch rows .shut)))) (sym e)
 
-pub tree-is : (rows : List ℕ) {seeds goals removed : VertexSet} {tree : Reach} → seeds ≡ single 0 → goals ≡ emptySet → removed ≡ emptySet → tree ≡ reachOf (explore rows seeds goals removed)
-    → tree ≡ reachOf (first rows)
-tree-is rows a b c e = e ∙ rw (a, b, c)
-
-pub tree-low : (rows : List ℕ) {tree : Reach} → tree ≡ reachOf (first rows) → tree .count ≤ capacity
-tree-low rows {tree} e = subst (λ (k : ℕ). k ≤ capacity) (sym (ap (λ (x : Reach). x .count) e)) (explore-short rows (single 0) emptySet emptySet)
-
-module _ (rows : List ℕ) (n : ℕ) {full rest : VertexSet} {tree : Reach} (f : full ≡ fullSet n) (t : tree ≡ reachOf (first rows)) (m : rest ≡ minus full (tree .shut)) {all : Bool} (y : all ≡ empty rest) where
-  test : empty (minus (fullSet n) (first rows .shut)) ≡ all
+module _ (rows : List ℕ) (n : ℕ) {full rest : VertexSet} {tree : Reach} (f : full ≡ fullSet n) (t : tree ≡ reachOf (firstSearch rows)) (m : rest ≡ minus full (tree .shut)) {all : Bool} (y : all ≡ empty rest) where
+  test : empty (minus (fullSet n) (firstSearch rows .shut)) ≡ all
   test =
-      ap (λ (v : VertexSet). empty (minus v (first rows .shut))) (sym f) ∙ ap (λ (x : Reach). empty (minus full (x .shut))) (sym t) ∙ ap empty (sym m) ∙ sym y
+      ap (λ (v : VertexSet). empty (minus v (firstSearch rows .shut))) (sym f) ∙ ap (λ (x : Reach). empty (minus full (x .shut))) (sym t) ∙ ap empty (sym m) ∙ sym y
 
-  cut-is : (c : making.Cut) → cutCertificateIn tree rows full (cutOf c) ≡ cutCertificate (first rows) rows (fullSet n) c
-  cut-is c =
-      ap (λ (x : Reach). cutCertificateIn x rows full (cutOf c)) t ∙ ap (λ (v : VertexSet). cutCertificateIn (reachOf (first rows)) rows v (cutOf c)) f ∙ cut-same (first rows) rows (fullSet n) c
+  cut-is : (c : making.Cut) → cutCertificateIn rows full (cutOf c) ≡ cutCertificate (firstSearch rows) rows (fullSet n) c
+  cut-is c = ap (λ (v : VertexSet). cutCertificateIn rows v (cutOf c)) f ∙ cut-same rows (fullSet n) c
 
   -- a vertex was not reached
-  pub whole-apart : not all ≡ true → {none : VertexSet} → none ≡ emptySet → cutCertificateIn tree rows full (record { removed = none; side = tree .shut }) ≡ certificateNumbers rows n
+  pub whole-apart : not all ≡ true → {none : VertexSet} → none ≡ emptySet → cutCertificateIn rows full (record { removed = none; side = tree .shut }) ≡ certificateNumbers rows n
   whole-apart h {none} z =
-      ap (λ (v : VertexSet). cutCertificateIn tree rows full (cutOf (cut v (tree .shut)))) z
+      ap (λ (v : VertexSet). cutCertificateIn rows full (cutOf (cut v (tree .shut)))) z
       ∙ cut-is (cut emptySet (tree .shut))
-      ∙ ap (λ (x : Reach). cutCertificate (first rows) rows (fullSet n) (cut emptySet (x .shut))) t
+      ∙ ap (λ (x : Reach). cutCertificate (firstSearch rows) rows (fullSet n) (cut emptySet (x .shut))) t
       ∙ whole rows n (test ∙ off all h)
     where
       off : (b : Bool) → not b ≡ true → b ≡ false
@@ -186,22 +142,21 @@ module _ (rows : List ℕ) (n : ℕ) {full rest : VertexSet} {tree : Reach} (f :
     begun-test = ap (λ (x : Start). isCut (cutIn (x .cut))) (sym e) ∙ sym u
 
     begun-is : {b : Bool} → z ≡ b
-        → cond b (cutCertificate (first rows) rows (fullSet n) (begin rows .cutBy)) (buildCertificate (first rows) rows n (fullSet n) (begin rows .four) (stepping.build rows (fullSet n) (begin rows)))
+        → cond b (cutCertificate (firstSearch rows) rows (fullSet n) (begin rows .cutBy)) (buildCertificate (firstSearch rows) rows n (fullSet n) (begin rows .four) (stepping.build rows (fullSet n) (begin rows)))
         ≡ certificateNumbers rows n
     begun-is q =
         ap
         (λ (b : Bool).
-        cond b (cutCertificate (first rows) rows (fullSet n) (begin rows .cutBy)) (buildCertificate (first rows) rows n (fullSet n) (begin rows .four) (stepping.build rows (fullSet n) (begin rows))))
+        cond b (cutCertificate (firstSearch rows) rows (fullSet n) (begin rows .cutBy)) (buildCertificate (firstSearch rows) rows n (fullSet n) (begin rows .four) (stepping.build rows (fullSet n) (begin rows))))
         (sym (begun-test ∙ q))
         ∙ whole rows n (test ∙ on all h)
 
-    pub whole-cut : z ≡ true → cutCertificateIn tree rows full (s .cut) ≡ certificateNumbers rows n
-    whole-cut q = ap (λ (x : Start). cutCertificateIn tree rows full (x .cut)) e ∙ cut-is (begin rows .cutBy) ∙ begun-is q
+    pub whole-cut : z ≡ true → cutCertificateIn rows full (s .cut) ≡ certificateNumbers rows n
+    whole-cut q = ap (λ (x : Start). cutCertificateIn rows full (x .cut)) e ∙ cut-is (begin rows .cutBy) ∙ begun-is q
 
-    pub whole-built : z ≡ false → startCertificateIn tree rows n full s ≡ certificateNumbers rows n
+    pub whole-built : z ≡ false → startCertificateIn rows n full s ≡ certificateNumbers rows n
     whole-built q =
-        ap (λ (x : Start). startCertificateIn tree rows n full x) e
-        ∙ ap (λ (x : Reach). startCertificateIn x rows n full (startOf (begin rows))) t
-        ∙ ap (λ (v : VertexSet). startCertificateIn (reachOf (first rows)) rows n v (startOf (begin rows))) f
-        ∙ start-same (first rows) rows n (fullSet n) (begin rows)
+        ap (λ (x : Start). startCertificateIn rows n full x) e
+        ∙ ap (λ (v : VertexSet). startCertificateIn rows n v (startOf (begin rows))) f
+        ∙ start-same rows n (fullSet n) (begin rows)
         ∙ begun-is q

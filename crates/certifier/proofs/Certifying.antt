@@ -11,7 +11,6 @@ use borrow.Author.Tests.{lt-ltb, le-ltb}
 use Rattle.vertexset.specs.Set.{emptySet, count}
 use Rattle.vertexset.specs.declared.VertexSet.{VertexSet}
 use Rattle.graph.specs.Plan.{maxEdges}
-use Rattle.search.specs.declared.Reach.{Reach}
 use Rattle.search.proofs.Placed.{added-length}
 use Rattle.making.specs.Sets.{capacity, stop, minus, withAll, members, empty}
 use Rattle.making.specs.Ears as making
@@ -72,29 +71,29 @@ none-short e q = let z : e .len ≡ 0 = ap (λ (x : Ears). x .len) q in omega ar
 
 -- ---- the certificate of a cut
 
-module _ (tree : Reach) (rows : List ℕ) (full : VertexSet) (c : Cut) {k : ℕ} (n : k ≡ count (c .removed .words)) where
+module _ (rows : List ℕ) (full : VertexSet) (c : Cut) {k : ℕ} (n : k ≡ count (c .removed .words)) where
   by-size : {b : Bool} → ltb k 2 ≡ b
-      → cond b (cutNumbersIn tree (earsOf (eared [] 0 noCut)) c) (cutNumbersIn tree (earsOf (ears rows full)) (cutOf (chosen (ears rows full) (cutIn c)))) ≡ cutCertificateIn tree rows full c
+      → cond b (cutNumbersIn rows (earsOf (eared [] 0 noCut)) c) (cutNumbersIn rows (earsOf (ears rows full)) (cutOf (chosen (ears rows full) (cutIn c)))) ≡ cutCertificateIn rows full c
   by-size t =
-      ap (λ (b : Bool). cond b (cutNumbersIn tree (earsOf (eared [] 0 noCut)) c) (cutNumbersIn tree (earsOf (ears rows full)) (cutOf (chosen (ears rows full) (cutIn c)))))
+      ap (λ (b : Bool). cond b (cutNumbersIn rows (earsOf (eared [] 0 noCut)) c) (cutNumbersIn rows (earsOf (ears rows full)) (cutOf (chosen (ears rows full) (cutIn c)))))
       (sym t ∙ ap (λ (m : ℕ). ltb m 2) n)
 
-  pub few-removed : k < 2 → (e : Ears) → e ≡ earsOf (eared [] 0 noCut) → cutNumbersIn tree e c ≡ cutCertificateIn tree rows full c
-  few-removed h e q = ap (λ (x : Ears). cutNumbersIn tree x c) q ∙ by-size (lt-ltb k 2 h)
+  pub few-removed : k < 2 → (e : Ears) → e ≡ earsOf (eared [] 0 noCut) → cutNumbersIn rows e c ≡ cutCertificateIn rows full c
+  few-removed h e q = ap (λ (x : Ears). cutNumbersIn rows x c) q ∙ by-size (lt-ltb k 2 h)
 
   module _ (h : 2 ≤ k) (e : Ears) (q : e ≡ earsOf (ears rows full)) {y : Bool} (t : y ≡ isCut (cutIn (e .cut))) where
     ears-test : isCut (ears rows full .cutBy) ≡ y
     ears-test = ap (λ (x : Ears). isCut (cutIn (x .cut))) (sym q) ∙ sym t
 
-    pub ears-fail : y ≡ true → cutNumbersIn tree e (e .cut) ≡ cutCertificateIn tree rows full c
+    pub ears-fail : y ≡ true → cutNumbersIn rows e (e .cut) ≡ cutCertificateIn rows full c
     ears-fail u =
-        ap (λ (x : Ears). cutNumbersIn tree x (x .cut)) q
-        ∙ ap (λ (b : Bool). cutNumbersIn tree (earsOf (ears rows full)) (cutOf (cond b (ears rows full .cutBy) (cutIn c)))) (sym (ears-test ∙ u)) ∙ by-size (le-ltb k 2 h)
+        ap (λ (x : Ears). cutNumbersIn rows x (x .cut)) q
+        ∙ ap (λ (b : Bool). cutNumbersIn rows (earsOf (ears rows full)) (cutOf (cond b (ears rows full .cutBy) (cutIn c)))) (sym (ears-test ∙ u)) ∙ by-size (le-ltb k 2 h)
 
-    pub ears-stand : y ≡ false → cutNumbersIn tree e c ≡ cutCertificateIn tree rows full c
+    pub ears-stand : y ≡ false → cutNumbersIn rows e c ≡ cutCertificateIn rows full c
     ears-stand u =
-        ap (λ (x : Ears). cutNumbersIn tree x c) q
-        ∙ ap (λ (b : Bool). cutNumbersIn tree (earsOf (ears rows full)) (cutOf (cond b (ears rows full .cutBy) (cutIn c)))) (sym (ears-test ∙ u)) ∙ by-size (le-ltb k 2 h)
+        ap (λ (x : Ears). cutNumbersIn rows x c) q
+        ∙ ap (λ (b : Bool). cutNumbersIn rows (earsOf (ears rows full)) (cutOf (cond b (ears rows full .cutBy) (cutIn c)))) (sym (ears-test ∙ u)) ∙ by-size (le-ltb k 2 h)
 
 -- ---- the certificate of a build
 
@@ -116,14 +115,14 @@ module _ (rows : List ℕ) (full : VertexSet) (s : Start) {bare built : VertexSe
   pub build-shows : {out : List ℕ} {b : Progress} → Shows out b (steps rows full (maxEdges + 1) (stateIn (s .flat) (firstAt s built none))) → Shows out b (stepping.build rows full (startIn s))
   build-shows {out} {b} h = subst (λ (st : State). Shows out b st) (ap (λ (st : State). steps rows full (maxEdges + 1) st) first-is ∙ build-steps rows full (startIn s)) h
 
-module _ (tree : Reach) (rows : List ℕ) (n : ℕ) (full four : VertexSet) (st : State) {out : List ℕ} {b : Progress} (h : Shows out b st) {y : Bool} (t : y ≡ isCut (cutIn (b .cut))) where
+module _ (rows : List ℕ) (n : ℕ) (full four : VertexSet) (st : State) {out : List ℕ} {b : Progress} (h : Shows out b st) {y : Bool} (t : y ≡ isCut (cutIn (b .cut))) where
   build-test : isCut (st .cutBy) ≡ y
   build-test = ap (λ (x : Progress). isCut (cutIn (x .cut))) (sym (h .beside)) ∙ sym t
 
-  pub build-cut : y ≡ true → cutCertificateIn tree rows full (b .cut) ≡ builtCertificateIn tree rows n full four st
+  pub build-cut : y ≡ true → cutCertificateIn rows full (b .cut) ≡ builtCertificateIn rows n full four st
   build-cut u =
-      ap (λ (x : Progress). cutCertificateIn tree rows full (x .cut)) (h .beside)
-      ∙ ap (λ (x : Bool). cond x (cutCertificateIn tree rows full (cutOf (st .cutBy))) (buildNumbers four (stepping.finish rows n (st .flat)))) (sym (build-test ∙ u))
+      ap (λ (x : Progress). cutCertificateIn rows full (x .cut)) (h .beside)
+      ∙ ap (λ (x : Bool). cond x (cutCertificateIn rows full (cutOf (st .cutBy))) (buildNumbers four (stepping.finish rows n (st .flat)))) (sym (build-test ∙ u))
 
   module _ {all : List ℕ} {end : ℕ} (f : FlatShows all end (stepping.finish rows n (take (b .len) out))) where
     finished : take end all ≡ stepping.finish rows n (st .flat)
@@ -149,7 +148,7 @@ module _ (tree : Reach) (rows : List ℕ) (n : ℕ) (full four : VertexSet) (st 
           let u : end ≤ pathSpace = finished-room .1 in
           omega arith
 
-      pub build-done : y ≡ false → 3 ∷ (members four ++ front done end) ≡ builtCertificateIn tree rows n full four st
+      pub build-done : y ≡ false → 3 ∷ (members four ++ front done end) ≡ builtCertificateIn rows n full four st
       build-done u =
           ap (λ (l : List ℕ). 3 ∷ (members four ++ l)) (done-front ∙ ap (λ (l : List ℕ). lengthened l .0) finished)
-          ∙ ap (λ (x : Bool). cond x (cutCertificateIn tree rows full (cutOf (st .cutBy))) (buildNumbers four (stepping.finish rows n (st .flat)))) (sym (build-test ∙ u))
+          ∙ ap (λ (x : Bool). cond x (cutCertificateIn rows full (cutOf (st .cutBy))) (buildNumbers four (stepping.finish rows n (st .flat)))) (sym (build-test ∙ u))

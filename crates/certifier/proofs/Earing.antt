@@ -1,6 +1,6 @@
--- The loop that takes one ear after the other: what is left of the definition's ears gives the whole. Assumes nothing.
+-- Ears: a search ends with its cut or goes on with its path, and what is left of the definition's ears gives the whole. Assumes nothing.
 use Prim.Native.Nat.{ℕ, suc, _+_, _-_, _≤_, _<_}
-use mathlib.Core.Path.{_≡_, refl, sym, ap, _∙_}
+use mathlib.Core.Path.{_≡_, refl, sym, ap, subst, _∙_}
 use mathlib.Core.Bool.{Bool, true, false, cond}
 use mathlib.Core.List.{List, [], _∷_}
 use native.Mathlib.Omega.{arith}
@@ -66,33 +66,67 @@ cycle-fits rows f e = found-fits f (cycle rows) e (cycle-short rows)
 pub detour-fits : (rows : List ℕ) (full set : VertexSet) (f : Found) → f ≡ foundOf (detour rows full set) → f .path .count ≤ length (f .path .vertices)
 detour-fits rows full set f e = found-fits f (detour rows full set) e (detour-short rows full set)
 
--- no path yet
-pub none-kept : Kept (replicate pathSpace 0) 0
-none-kept = (sym (padded-none pathSpace), omega arith)
+part-is : (f : Found) (g : making.Found) → f ≡ foundOf g → length (g .path) ≤ pathRoom → pathPart f ≡ g .path
+part-is f g e h = path-front (f .path) (g .path) (ap (λ (x : Found). x .path) e) h
 
-shown : (flat : List ℕ) (len count : ℕ) (c : Cut) (d : making.Cut) → Kept flat len → c ≡ cutOf d → earsAt flat len count c ≡ earsOf (eared (take len flat) count d)
-shown flat len count c d k e = λ i. record { flat = k .0 i; len = sym (kept-size flat len k) i; count = count; cut = e i }
+pub cycle-low : (rows : List ℕ) (f : Found) → f ≡ foundOf (cycle rows) → length (pathPart f) ≤ pathRoom
+cycle-low rows f e = subst (λ (l : List ℕ). length l ≤ pathRoom) (sym (part-is f (cycle rows) e (cycle-short rows))) (cycle-short rows)
 
--- a path more
+-- ---- a search: where it fails its cut is the answer, else its path goes on
+
+abbrev pub stage : {A : Type 0} → (making.Cut → A) → (List ℕ → A) → making.Found → A
+stage end more g = cond (isCut (g .cutBy)) (end (g .cutBy)) (more (g .path))
+
+module _ {A : Type 0} (end : making.Cut → A) (more : List ℕ → A) (f : Found) (g : making.Found) (e : f ≡ foundOf g) {y : Bool} (t : y ≡ isCut (cutIn (f .cut))) where
+  test : isCut (g .cutBy) ≡ y
+  test = sym (t ∙ ap (λ (x : Found). isCut (cutIn (x .cut))) e)
+
+  pub stage-cut : y ≡ true → end (cutIn (f .cut)) ≡ stage end more g
+  stage-cut h = let b : isCut (g .cutBy) ≡ true = test ∙ h in ap (λ (x : Found). end (cutIn (x .cut))) e ∙ rw b
+
+  pub stage-on : length (g .path) ≤ pathRoom → y ≡ false → more (pathPart f) ≡ stage end more g
+  stage-on s h = let b : isCut (g .cutBy) ≡ false = test ∙ h in ap more (part-is f g e s) ∙ rw b
+
+-- ---- a path more
+
 module _ (flat : List ℕ) (len : ℕ) (path : List ℕ) (k : Kept flat len) {out : List ℕ} {next : ℕ}
     (o : out ≡ placed flat len (stop ∷ path)) (n : next ≡ placedEnd flat len (stop ∷ path)) where
-  pub more-shows : FlatShows out next (addPath (take len flat) path)
+  more-shows : FlatShows out next (addPath (take len flat) path)
   more-shows = record { array = o ∙ add-kept flat len path k; short = add-kept-short flat len path k; size = n ∙ add-kept-end flat len path k }
+
+-- ---- the first ear
+
+-- it, and the ears behind it
+abbrev pub earsFrom : List ℕ → VertexSet → List ℕ → Eared
+earsFrom rows full path = earsOn rows full capacity (addPath [] path) 1 (withAll emptySet path)
+
+module _ (rows : List ℕ) (full : VertexSet) (f : Found) (e : f ≡ foundOf (cycle rows)) {y : Bool} (t : y ≡ isCut (cutIn (f .cut))) where
+  pub first-cut : y ≡ true → eared [] 0 (cutIn (f .cut)) ≡ ears rows full
+  unfolding ears
+  first-cut h = stage-cut (eared [] 0) (earsFrom rows full) f (cycle rows) e t h
+
+  pub first-on : y ≡ false → earsFrom rows full (pathPart f) ≡ ears rows full
+  unfolding ears
+  first-on h = stage-on (eared [] 0) (earsFrom rows full) f (cycle rows) e t (cycle-short rows) h
 
 -- ---- the loop
 
-pub record Earing (rows : List ℕ) (full : VertexSet) (flat : List ℕ) (len : ℕ) (set : VertexSet) (count left : ℕ) : Type 0 where
+pub record Earing (rows : List ℕ) (full : VertexSet) (whole : Eared) (flat : List ℕ) (len : ℕ) (set : VertexSet) (count left : ℕ) : Type 0 where
   pub kept : Kept flat len
   pub room : count + left ≡ capacity + 1
-  pub rest : earsOn rows full left (take len flat) count set ≡ ears rows full
+  pub rest : earsOn rows full left (take len flat) count set ≡ whole
 
-pub earing-length : {rows : List ℕ} {full : VertexSet} {flat : List ℕ} {len : ℕ} {set : VertexSet} {count left : ℕ} → Earing rows full flat len set count left → length flat ≡ pathSpace
-earing-length {rows} {full} {flat} {len} g = kept-length flat len (g .kept)
+pub first-ear : (rows : List ℕ) (full : VertexSet) (path : List ℕ) {flat : List ℕ} {len : ℕ} {none set : VertexSet}
+    → flat ≡ placed (replicate pathSpace 0) 0 (stop ∷ path) → len ≡ placedEnd (replicate pathSpace 0) 0 (stop ∷ path)
+    → none ≡ emptySet → set ≡ withAll none path → Earing rows full (earsFrom rows full path) flat len set 1 capacity
+first-ear rows full path {flat} {len} o n z s =
+    let f : FlatShows flat len (addPath [] path) = more-shows (replicate pathSpace 0) 0 path (sym (padded-none pathSpace), omega arith) o n in
+    let v : _ ≡ withAll emptySet path = s ∙ ap (λ (x : VertexSet). withAll x path) z in
+    record { kept = flat-shows-kept flat len _ f; room = refl; rest = λ i. earsOn rows full capacity (flat-shows-take flat len _ f i) 1 (v i) }
 
 -- by the two tests of a turn
 abbrev turn : List ℕ → VertexSet → ℕ → List ℕ → ℕ → VertexSet → Bool → making.Found → Eared
-turn rows full f flat k set done d =
-    cond done (eared flat k noCut) (cond (isCut (d .cutBy)) (eared flat k (d .cutBy)) (earsOn rows full f (addPath flat (d .path)) (k + 1) (withAll set (d .path))))
+turn rows full f flat k set done d = cond done (eared flat k noCut) (stage (eared flat k) (λ (p : List ℕ). earsOn rows full f (addPath flat p) (k + 1) (withAll set p)) d)
 
 ears-none : (rows : List ℕ) (full : VertexSet) (flat : List ℕ) (k : ℕ) (set : VertexSet) → earsOn rows full 0 flat k set ≡ eared flat k noCut
 unfolding earsOn
@@ -103,79 +137,42 @@ ears-turn : (rows : List ℕ) (full : VertexSet) (f : ℕ) (flat : List ℕ) (k 
 unfolding earsOn
 ears-turn rows full f flat k set = refl
 
-abbrev first : List ℕ → VertexSet → making.Found → Eared
-first rows full d = cond (isCut (d .cutBy)) (eared [] 0 (d .cutBy)) (earsOn rows full capacity (addPath [] (d .path)) 1 (withAll emptySet (d .path)))
+module _ {rows : List ℕ} {full : VertexSet} {whole : Eared} {flat : List ℕ} {len : ℕ} {set : VertexSet} {count left : ℕ} (g : Earing rows full whole flat len set count left) where
+  pub earing-length : length flat ≡ pathSpace
+  earing-length = kept-length flat len (g .kept)
 
-ears-first : (rows : List ℕ) (full : VertexSet) → ears rows full ≡ first rows full (cycle rows)
-unfolding ears
-ears-first rows full = refl
+  shown : {c : Cut} (d : making.Cut) → c ≡ cutOf d → eared (take len flat) count d ≡ whole → earsAt flat len count c ≡ earsOf whole
+  shown d e w = (λ i. record { flat = g .kept .0 i; len = sym (kept-size flat len (g .kept)) i; count = count; cut = e i }) ∙ ap earsOf w
 
-module _ (rows : List ℕ) (full : VertexSet) (items : List ℕ) (bare : Kept items 0) (f : Found) (e : f ≡ foundOf (cycle rows)) {y : Bool} (t : y ≡ isCut (cutIn (f .cut))) where
-  first-test : y ≡ isCut (cycle rows .cutBy)
-  first-test = t ∙ ap (λ (x : Found). isCut (cutIn (x .cut))) e
-
-  pub first-cut : y ≡ true → earsAt items 0 0 (f .cut) ≡ earsOf (ears rows full)
-  first-cut h =
-      let b : isCut (cycle rows .cutBy) ≡ true = sym first-test ∙ h in
-      let w : ears rows full ≡ eared [] 0 (cycle rows .cutBy) = ears-first rows full ∙ rw b in
-      shown items 0 0 (f .cut) (cycle rows .cutBy) bare (ap (λ (x : Found). x .cut) e) ∙ ap earsOf (sym w)
-
-  module _ (h : y ≡ false) {out : List ℕ} {len : ℕ} {none set : VertexSet} (o : out ≡ placed items 0 (stop ∷ pathPart f)) (n : len ≡ placedEnd items 0 (stop ∷ pathPart f))
-      (z : none ≡ emptySet) (s : set ≡ withAll none (pathPart f)) where
-    path : pathPart f ≡ cycle rows .path
-    path = path-front (f .path) (cycle rows .path) (ap (λ (x : Found). x .path) e) (cycle-short rows)
-
-    shows : FlatShows out len (addPath [] (pathPart f))
-    shows = more-shows items 0 (pathPart f) bare o n
-
-    pub first-ear : Earing rows full out len set 1 capacity
-    first-ear =
-        let b : isCut (cycle rows .cutBy) ≡ false = sym first-test ∙ h in
-        let w : ears rows full ≡ earsOn rows full capacity (addPath [] (cycle rows .path)) 1 (withAll emptySet (cycle rows .path)) = ears-first rows full ∙ rw b in
-        let l : take len out ≡ addPath [] (cycle rows .path) = flat-shows-take out len _ shows ∙ ap (λ (p : List ℕ). addPath [] p) path in
-        let v : set ≡ withAll emptySet (cycle rows .path) = s ∙ (λ i. withAll (z i) (path i)) in
-        record { kept = flat-shows-kept out len _ shows; room = refl; rest = (λ i. earsOn rows full capacity (l i) 1 (v i)) ∙ sym w }
-
-module _ (rows : List ℕ) (full : VertexSet) (flat : List ℕ) (len : ℕ) (set : VertexSet) (count left : ℕ) (g : Earing rows full flat len set count left) where
-  pub earing-end : left ≤ 0 → {c : Cut} → c ≡ cutOf noCut → earsAt flat len count c ≡ earsOf (ears rows full)
-  earing-end h {c} e =
-      let z : left ≡ 0 = omega arith in
-      let w : earsOn rows full left (take len flat) count set ≡ eared (take len flat) count noCut =
-      ap (λ (f : ℕ). earsOn rows full f (take len flat) count set) z ∙ ears-none rows full (take len flat) count set in
-      shown flat len count c noCut (g .kept) e ∙ ap earsOf (sym w ∙ g .rest)
+  pub earing-end : left ≤ 0 → {c : Cut} → c ≡ cutOf noCut → earsAt flat len count c ≡ earsOf whole
+  earing-end h e =
+      let z : 0 ≡ left = omega arith in
+      shown noCut e (sym (ears-none rows full (take len flat) count set) ∙ ap (λ (f : ℕ). earsOn rows full f (take len flat) count set) z ∙ g .rest)
 
   module _ (h : 0 < left) {out : VertexSet} {b : Bool} (o : out ≡ minus full set) (t : b ≡ empty out) where
-    next : turn rows full (left - 1) (take len flat) count set b (detour rows full set) ≡ ears rows full
+    next : turn rows full (left - 1) (take len flat) count set b (detour rows full set) ≡ whole
     next =
-        let z : left ≡ suc (left - 1) = omega arith in
-        let done : b ≡ empty (minus full set) = t ∙ ap empty o in
-        ap (λ (x : Bool). turn rows full (left - 1) (take len flat) count set x (detour rows full set)) done
-        ∙ sym (ears-turn rows full (left - 1) (take len flat) count set) ∙ ap (λ (f : ℕ). earsOn rows full f (take len flat) count set) (sym z) ∙ g .rest
+        let z : suc (left - 1) ≡ left = omega arith in
+        ap (λ (x : Bool). turn rows full (left - 1) (take len flat) count set x (detour rows full set)) (t ∙ ap empty o)
+        ∙ sym (ears-turn rows full (left - 1) (take len flat) count set) ∙ ap (λ (f : ℕ). earsOn rows full f (take len flat) count set) z ∙ g .rest
 
-    pub earing-full : b ≡ true → {c : Cut} → c ≡ cutOf noCut → earsAt flat len count c ≡ earsOf (ears rows full)
-    earing-full u {c} e =
-        let w : eared (take len flat) count noCut ≡ ears rows full = rw u at next in
-        shown flat len count c noCut (g .kept) e ∙ ap earsOf w
+    pub earing-full : b ≡ true → {c : Cut} → c ≡ cutOf noCut → earsAt flat len count c ≡ earsOf whole
+    earing-full u e = shown noCut e (rw u at next)
 
-    module _ (u : b ≡ false) (d : Found) (e : d ≡ foundOf (detour rows full set)) {y : Bool} (q : y ≡ isCut (cutIn (d .cut))) where
-      test : isCut (detour rows full set .cutBy) ≡ y
-      test = sym (q ∙ ap (λ (x : Found). isCut (cutIn (x .cut))) e)
+    module _ (u : b ≡ false) {d : Found} (e : d ≡ foundOf (detour rows full set)) {y : Bool} (q : y ≡ isCut (cutIn (d .cut))) where
+      abbrev more : List ℕ → Eared
+      more p = earsOn rows full (left - 1) (addPath (take len flat) p) (count + 1) (withAll set p)
 
-      pub earing-cut : y ≡ true → earsAt flat len count (d .cut) ≡ earsOf (ears rows full)
-      earing-cut v =
-          let w : eared (take len flat) count (detour rows full set .cutBy) ≡ ears rows full = rw (u, test, v) at next in
-          shown flat len count (d .cut) (detour rows full set .cutBy) (g .kept) (ap (λ (x : Found). x .cut) e) ∙ ap earsOf w
+      pub earing-cut : y ≡ true → earsAt flat len count (d .cut) ≡ earsOf whole
+      earing-cut v = shown (cutIn (d .cut)) refl (stage-cut (eared (take len flat) count) more d (detour rows full set) e q v ∙ rw u at next)
 
-      pub earing-on : y ≡ false → {more : List ℕ} {size : ℕ} {all : VertexSet} → more ≡ placed flat len (stop ∷ pathPart d) → size ≡ placedEnd flat len (stop ∷ pathPart d)
-          → all ≡ withAll set (pathPart d) → Earing rows full more size all (count + 1) (left - 1)
-      earing-on v {more} {size} {all} m n a =
-          let p : pathPart d ≡ detour rows full set .path = path-front (d .path) (detour rows full set .path) (ap (λ (x : Found). x .path) e) (detour-short rows full set) in
-          let s : FlatShows more size (addPath (take len flat) (pathPart d)) = more-shows flat len (pathPart d) (g .kept) m n in
-          let l : take size more ≡ addPath (take len flat) (detour rows full set .path) = flat-shows-take more size _ s ∙ ap (λ (k : List ℕ). addPath (take len flat) k) p in
-          let r : all ≡ withAll set (detour rows full set .path) = a ∙ ap (λ (k : List ℕ). withAll set k) p in
-          let w : earsOn rows full (left - 1) (addPath (take len flat) (detour rows full set .path)) (count + 1) (withAll set (detour rows full set .path)) ≡ ears rows full = rw (u, test, v) at next in
+      pub earing-on : y ≡ false → {flat2 : List ℕ} {len2 : ℕ} {set2 : VertexSet} → flat2 ≡ placed flat len (stop ∷ pathPart d) → len2 ≡ placedEnd flat len (stop ∷ pathPart d)
+          → set2 ≡ withAll set (pathPart d) → Earing rows full whole flat2 len2 set2 (count + 1) (left - 1)
+      earing-on v {flat2} {len2} m n a =
+          let s : FlatShows flat2 len2 (addPath (take len flat) (pathPart d)) = more-shows flat len (pathPart d) (g .kept) m n in
           record {
-            kept = flat-shows-kept more size _ s;
+            kept = flat-shows-kept flat2 len2 _ s;
             room = omega (arith, g .room);
-            rest = (λ i. earsOn rows full (left - 1) (l i) (count + 1) (r i)) ∙ w;
+            rest = (λ i. earsOn rows full (left - 1) (flat-shows-take flat2 len2 _ s i) (count + 1) (a i))
+                ∙ stage-on (eared (take len flat) count) more d (detour rows full set) e q (detour-short rows full set) v ∙ rw u at next;
           }

@@ -1,13 +1,14 @@
 -- Lists as the certifier's loops take them: what is left of a list, and what stands at the front of an array. Assumes nothing.
-use Prim.Native.Nat.{ℕ, suc, _+_, _-_, _≤_, _<_}
+use Prim.Native.Nat.{ℕ, suc, _+_, _-_, _/_, _%_, _^_, _≤_, _<_}
 use mathlib.Core.Path.{_≡_, refl, sym, ap, _∙_}
 use mathlib.Core.Bool.{Bool, true, false, cond, not, _&&_, _||_, Bool·beq}
 use mathlib.Core.List.{List, [], _∷_, _++_}
 use native.Mathlib.Numerals.{add-one}
 use native.Mathlib.Omega.{arith}
+use lib.Bits.{bitOr}
 use lib.Dec.{eqb}
 use lib.ListN.{length, take, drop, getD, set, replicate, length-append, length-drop, length-set, drop-of-length-le, take-append-drop, List·getD-append}
-use lib.Seq.{take-suc, take-suc-set, drop-set-lt, append-snoc, set-at, length-take-le, getD-take}
+use lib.Seq.{set-out, take-suc, take-suc-set, drop-set-lt, append-snoc, set-at, length-take-le, getD-take}
 use borrow.Author.Tests.{lt-ltb, le-leb}
 use Rattle.record.specs.Read.{folded}
 use Rattle.vertexset.specs.Set.{has, inserted}
@@ -26,6 +27,9 @@ use Rattle.certifier.specs.Code.{pushed, sideOf}
 
 -- ---- loops over a list: what they do from the place i on
 
+abbrev pub ofWords : List ℕ → VertexSet
+ofWords ws = record { words = ws }
+
 module _ (s : VertexSet) where
   pub all-turn : (l : List ℕ) (i : ℕ) → i < length l → withAll s (drop i l) ≡ withAll (inserted s (getD l i 0)) (drop (i + 1) l)
   unfolding folded
@@ -42,6 +46,12 @@ module _ (s : VertexSet) where
   pub up-end : (n v : ℕ) → n ≤ v → withAll s (upFrom v (n - v)) ≡ s
   unfolding folded
   up-end n v h = let e : n - v ≡ 0 = omega arith in rw e
+
+-- a number past the words changes nothing
+pub all-past : (ws l : List ℕ) (i : ℕ) → i < length l → length ws ≤ getD l i 0 / 64 → withAll (ofWords ws) (drop i l) ≡ withAll (ofWords ws) (drop (i + 1) l)
+all-past ws l i h past =
+    all-turn (ofWords ws) l i h
+    ∙ ap (λ (k : List ℕ). withAll (ofWords k) (drop (i + 1) l)) (set-out ws (getD l i 0 / 64) (bitOr (getD ws (getD l i 0 / 64) 0) (2 ^ (getD l i 0 % 64))) past)
 
 pub last-at : (l : List ℕ) → 0 < length l → getD l (length l - 1) 0 ≡ lastOf l
 unfolding lastOf

@@ -1,7 +1,7 @@
--- The start's three searches, one after the other: where one fails its cut is the answer, else its path goes on to the next. Assumes nothing.
+-- The start's three searches: their paths are short, and the first asks for three neighbours of vertex 0. Assumes nothing.
 use Prim.Native.Nat.{ℕ, _≤_, _<_}
-use mathlib.Core.Path.{_≡_, sym, ap, subst, _∙_}
-use mathlib.Core.Bool.{Bool, true, false, cond}
+use mathlib.Core.Path.{_≡_, ap, _∙_}
+use mathlib.Core.Bool.{Bool, true, false}
 use mathlib.Core.List.{List}
 use lib.ListN.{length, getD}
 use borrow.Author.Tests.{lt-ltb, le-ltb}
@@ -11,51 +11,34 @@ use Rattle.graph.specs.Rows.{rowOf}
 use Rattle.search.specs.Code.{pathRoom}
 use Rattle.making.specs.Sets.{minus, single, pair, setOf, least}
 use Rattle.making.specs.Search.{explore}
-use Rattle.making.specs.Ears as making
 use Rattle.making.specs.Ears.{cut, isCut, cycle}
-use Rattle.making.specs.Start.{Begun, broken, thirdPath, across, crossed, thirded, around, startOn, begin}
+use Rattle.making.specs.Start.{broken, thirdPath, across, startOn, crossed, thirded, around, begin}
 use Rattle.certifier.specs.Code.{cutIn, foundOf}
 use Rattle.certifier.specs.declared.Found.{Found}
 use Rattle.certifier.proofs.Routes.{answered-none, answered-one}
-use Rattle.certifier.proofs.States.{path-front}
-use Rattle.certifier.proofs.Earing.{pathPart, found-fits, cycle-short}
+use Rattle.certifier.proofs.Earing.{pathPart, cycle-short, stage-cut, stage-on}
 
--- ---- paths are short
-
-third-short : (rows around : List ℕ) → length (thirdPath rows around .path) ≤ pathRoom
-third-short rows around = answered-one (explore rows (single (least (minus (rowOf rows 0) (setOf around)))) (minus (setOf around) (single 0)) (single 0)) (single 0) 0
-
-pub third-fits : (rows around : List ℕ) (f : Found) → f ≡ foundOf (thirdPath rows around) → f .path .count ≤ length (f .path .vertices)
-third-fits rows around f e = found-fits f (thirdPath rows around) e (third-short rows around)
-
-across-short : (rows around third : List ℕ) → length (across rows around third .path) ≤ pathRoom
+pub across-short : (rows around third : List ℕ) → length (across rows around third .path) ≤ pathRoom
 across-short rows around third =
     answered-none (explore rows (minus (setOf third) (pair 0 (getD third 0 0))) (minus (setOf around) (pair 0 (getD third 0 0))) (pair 0 (getD third 0 0)))
     (pair 0 (getD third 0 0))
 
-pub across-fits : (rows around third : List ℕ) (f : Found) → f ≡ foundOf (across rows around third) → f .path .count ≤ length (f .path .vertices)
-across-fits rows around third f e = found-fits f (across rows around third) e (across-short rows around third)
+module _ (rows around third : List ℕ) (f : Found) (e : f ≡ foundOf (across rows around third)) {y : Bool} (t : y ≡ isCut (cutIn (f .cut))) where
+  pub across-cut : y ≡ true → broken (cutIn (f .cut)) ≡ crossed around third (across rows around third)
+  across-cut h = stage-cut broken (startOn around third) f (across rows around third) e t h
 
-part-is : (f : Found) (g : making.Found) → f ≡ foundOf g → length (g .path) ≤ pathRoom → pathPart f ≡ g .path
-part-is f g e h = path-front (f .path) (g .path) (ap (λ (x : Found). x .path) e) h
+  pub across-on : y ≡ false → startOn around third (pathPart f) ≡ crossed around third (across rows around third)
+  across-on h = stage-on broken (startOn around third) f (across rows around third) e t (across-short rows around third) h
 
-pub cycle-low : (rows : List ℕ) (f : Found) → f ≡ foundOf (cycle rows) → length (pathPart f) ≤ pathRoom
-cycle-low rows f e = subst (λ (l : List ℕ). length l ≤ pathRoom) (sym (part-is f (cycle rows) e (cycle-short rows))) (cycle-short rows)
+pub third-short : (rows around : List ℕ) → length (thirdPath rows around .path) ≤ pathRoom
+third-short rows around = answered-one (explore rows (single (least (minus (rowOf rows 0) (setOf around)))) (minus (setOf around) (single 0)) (single 0)) (single 0) 0
 
--- ---- one search after the other
+module _ (rows around : List ℕ) (f : Found) (e : f ≡ foundOf (thirdPath rows around)) {y : Bool} (t : y ≡ isCut (cutIn (f .cut))) where
+  pub third-cut : y ≡ true → broken (cutIn (f .cut)) ≡ thirded rows around (thirdPath rows around)
+  third-cut h = stage-cut broken (λ (p : List ℕ). crossed around p (across rows around p)) f (thirdPath rows around) e t h
 
-abbrev stage : making.Found → (List ℕ → Begun) → Begun
-stage g more = cond (isCut (g .cutBy)) (broken (g .cutBy)) (more (g .path))
-
-module _ (f : Found) (g : making.Found) (e : f ≡ foundOf g) (more : List ℕ → Begun) {y : Bool} (t : y ≡ isCut (cutIn (f .cut))) where
-  test : isCut (g .cutBy) ≡ y
-  test = sym (t ∙ ap (λ (x : Found). isCut (cutIn (x .cut))) e)
-
-  stage-cut : y ≡ true → broken (cutIn (f .cut)) ≡ stage g more
-  stage-cut h = let b : isCut (g .cutBy) ≡ true = test ∙ h in ap (λ (x : Found). broken (cutIn (x .cut))) e ∙ rw b
-
-  stage-on : length (g .path) ≤ pathRoom → y ≡ false → more (pathPart f) ≡ stage g more
-  stage-on s h = let b : isCut (g .cutBy) ≡ false = test ∙ h in ap more (part-is f g e s) ∙ rw b
+  pub third-on : y ≡ false → crossed around (pathPart f) (across rows around (pathPart f)) ≡ thirded rows around (thirdPath rows around)
+  third-on h = stage-on broken (λ (p : List ℕ). crossed around p (across rows around p)) f (thirdPath rows around) e t (third-short rows around) h
 
 module _ (rows : List ℕ) (row : VertexSet) (e : row ≡ rowOf rows 0) (n : ℕ) (k : n ≡ count (row .words)) where
   counted : n ≡ count (rowOf rows 0 .words)
@@ -65,29 +48,13 @@ module _ (rows : List ℕ) (row : VertexSet) (e : row ≡ rowOf rows 0) (n : ℕ
   unfolding begin
   begin-few s z h = rw (← counted, lt-ltb n 3 h, e, z)
 
-  begin-on : 3 ≤ n → around rows (cycle rows) ≡ begin rows
-  unfolding begin
-  begin-on h = rw (← counted, le-ltb n 3 h)
+  module _ (enough : 3 ≤ n) (f : Found) (q : f ≡ foundOf (cycle rows)) {y : Bool} (t : y ≡ isCut (cutIn (f .cut))) where
+    begin-on : around rows (cycle rows) ≡ begin rows
+    unfolding begin
+    begin-on = rw (← counted, le-ltb n 3 enough)
 
-  module _ (enough : 3 ≤ n) (a : Found) (ea : a ≡ foundOf (cycle rows)) {y : Bool} (ya : y ≡ isCut (cutIn (a .cut))) where
-    pub cycle-cut : y ≡ true → broken (cutIn (a .cut)) ≡ begin rows
-    cycle-cut h = stage-cut a (cycle rows) ea (λ (p : List ℕ). thirded rows p (thirdPath rows p)) ya h ∙ begin-on enough
+    pub cycle-cut : y ≡ true → broken (cutIn (f .cut)) ≡ begin rows
+    cycle-cut h = stage-cut broken (λ (p : List ℕ). thirded rows p (thirdPath rows p)) f (cycle rows) q t h ∙ begin-on
 
-    module _ (on : y ≡ false) (t : Found) (et : t ≡ foundOf (thirdPath rows (pathPart a))) {z : Bool} (zt : z ≡ isCut (cutIn (t .cut))) where
-      to-third : thirded rows (pathPart a) (thirdPath rows (pathPart a)) ≡ begin rows
-      to-third = stage-on a (cycle rows) ea (λ (p : List ℕ). thirded rows p (thirdPath rows p)) ya (cycle-short rows) on ∙ begin-on enough
-
-      pub third-cut : z ≡ true → broken (cutIn (t .cut)) ≡ begin rows
-      third-cut h = stage-cut t (thirdPath rows (pathPart a)) et (λ (p : List ℕ). crossed (pathPart a) p (across rows (pathPart a) p)) zt h ∙ to-third
-
-      module _ (on2 : z ≡ false) (x : Found) (ex : x ≡ foundOf (across rows (pathPart a) (pathPart t))) {w : Bool} (wx : w ≡ isCut (cutIn (x .cut))) where
-        to-across : crossed (pathPart a) (pathPart t) (across rows (pathPart a) (pathPart t)) ≡ begin rows
-        to-across =
-            stage-on t (thirdPath rows (pathPart a)) et (λ (p : List ℕ). crossed (pathPart a) p (across rows (pathPart a) p)) zt (third-short rows (pathPart a)) on2 ∙ to-third
-
-        pub across-cut : w ≡ true → broken (cutIn (x .cut)) ≡ begin rows
-        across-cut h = stage-cut x (across rows (pathPart a) (pathPart t)) ex (startOn (pathPart a) (pathPart t)) wx h ∙ to-across
-
-        pub all-found : w ≡ false → startOn (pathPart a) (pathPart t) (pathPart x) ≡ begin rows
-        all-found h =
-            stage-on x (across rows (pathPart a) (pathPart t)) ex (startOn (pathPart a) (pathPart t)) wx (across-short rows (pathPart a) (pathPart t)) h ∙ to-across
+    pub cycle-on : y ≡ false → thirded rows (pathPart f) (thirdPath rows (pathPart f)) ≡ begin rows
+    cycle-on h = stage-on broken (λ (p : List ℕ). thirded rows p (thirdPath rows p)) f (cycle rows) q t (cycle-short rows) h ∙ begin-on

@@ -14,7 +14,7 @@ use Rattle.making.specs.Sets.{pair, withAll, minus, lastOf, placeOf, empty}
 use Rattle.making.specs.Search.{explore}
 use Rattle.making.specs.Ears as making
 use Rattle.making.specs.Ears.{noCut, isCut, answered, detour}
-use Rattle.making.specs.Steps.{State, state, stopped, extended, segment, linkEnds, offLink, linkTaken, runEnd, linkStep, pairPlace, reroute, outTaken, outStep, innerPlace, step, steps}
+use Rattle.making.specs.Steps.{State, state, stopped, extended, segment, linkEnds, offLink, linkTaken, runEnd, linkStep, besidePlace, reroute, outTaken, outStep, innerPlace, step, steps}
 use Rattle.certifier.specs.Code.{cutOf, cutIn, foundOf, sideOf, Kept, Shows, stateIn}
 use Rattle.certifier.specs.declared.Cut.{Cut}
 use Rattle.certifier.specs.declared.Found.{Found}
@@ -117,7 +117,7 @@ module _ (rows : List ℕ) (full set : VertexSet) (f : Found) (e : f ≡ foundOf
   part-short = rw detour-part (detour-short rows full set)
 
 -- by the test of whether every vertex is in
-out-step : (rows : List ℕ) (full : VertexSet) (st : State) → outStep rows full st ≡ cond (empty (minus full (st .built))) (stopped st noCut) (outTaken st (detour rows full (st .built)))
+out-step : (rows : List ℕ) (full : VertexSet) (st : State) → outStep rows full st ≡ cond (empty (minus full (st .built))) (stopped st noCut) (outTaken rows st (detour rows full (st .built)))
 unfolding outStep
 out-step rows full st = refl
 
@@ -137,7 +137,7 @@ module _ (rows : List ℕ) (full : VertexSet) (flat : List ℕ) (b : Progress) (
     out-path : front (f .path .vertices) (f .path .count) ≡ detour rows full (b .built) .path
     out-path = detour-part rows full (b .built) f e
 
-    out-taken : outTaken (stateIn flat b) (detour rows full (b .built)) ≡ outStep rows full (stateIn flat b)
+    out-taken : outTaken rows (stateIn flat b) (detour rows full (b .built)) ≡ outStep rows full (stateIn flat b)
     out-taken = rw (out-step rows full (stateIn flat b), ← done-is, h)
 
     pub out-stops : {y : Bool} → y ≡ isCut (cutIn (f .cut)) → y ≡ true → {r : Progress} → r ≡ stoppedAs b (f .cut) → Shows flat r (outStep rows full (stateIn flat b))
@@ -148,25 +148,25 @@ module _ (rows : List ℕ) (full : VertexSet) (flat : List ℕ) (b : Progress) (
 
     -- the place at which the ends of the path stand side by side
     module _ {test : Bool} (c : test ≡ isCut (cutIn (f .cut))) (t : test ≡ false) {k x y : ℕ} (last : x ≡ lastOf (front (f .path .vertices) (f .path .count))) (first : y ≡ getD (front (f .path .vertices) (f .path .count)) 0 0)
-        (place : k ≡ pairPlace x y (front flat (b .len))) where
+        (place : k ≡ besidePlace rows x y (front flat (b .len))) where
       met : isCut (detour rows full (b .built) .cutBy) ≡ false
       met = cut-test (detour rows full (b .built) .cutBy) out-cut c t
 
-      place-is : k ≡ pairPlace (lastOf (detour rows full (b .built) .path)) (getD (detour rows full (b .built) .path) 0 0) (take (b .len) flat)
+      place-is : k ≡ besidePlace rows (lastOf (detour rows full (b .built) .path)) (getD (detour rows full (b .built) .path) 0 0) (take (b .len) flat)
       place-is = place ∙ rw (last, first, out-path, front-take flat (b .len))
 
       pub out-reroutes : k < b .len → {out : List ℕ} {r : Progress} → Shows out r (reroute (stateIn flat b) (front (f .path .vertices) (f .path .count)) k)
           → Shows out r (outStep rows full (stateIn flat b))
       out-reroutes low {out} {r} s =
           let w : reroute (stateIn flat b) (detour rows full (b .built) .path) k ≡ outStep rows full (stateIn flat b)
-          = rw (← out-taken, met, kept-size flat (b .len) kept, ← place-is, lt-ltb k (b .len) low) in
+          = rw (← out-taken, met, ← place-is, kept-size flat (b .len) kept, lt-ltb k (b .len) low) in
           subst (λ (st : State). Shows out r st) (ap (λ (p : List ℕ). reroute (stateIn flat b) p k) out-path ∙ w) s
 
       pub out-extends : b .len ≤ k → {out : List ℕ} {r : Progress} → Shows out r (extended (stateIn flat b) (front (f .path .vertices) (f .path .count)) (b .len))
           → Shows out r (outStep rows full (stateIn flat b))
       out-extends high {out} {r} s =
           let w : extended (stateIn flat b) (detour rows full (b .built) .path) (b .len) ≡ outStep rows full (stateIn flat b)
-          = rw (← out-taken, met, kept-size flat (b .len) kept, ← place-is, le-ltb k (b .len) high) in
+          = rw (← out-taken, met, ← place-is, kept-size flat (b .len) kept, le-ltb k (b .len) high) in
           subst (λ (st : State). Shows out r st) (ap (λ (p : List ℕ). extended (stateIn flat b) p (b .len)) out-path ∙ w) s
 
 -- ---- one step, and all

@@ -14,15 +14,15 @@ use Rattle.record.specs.Write.{hasRoom, overwritten, canWrite, writtenNumber, w
 use Rattle.record.specs.declared.Written.{Written}
 use Rattle.record.specs.declared.Written.the-variants.{Next, Nothing}
 use Rattle.record.proofs.Write.{can-write, put-told, put-fails, overwritten-none, overwritten-length, overwritten-more}
-use Rattle.vertexset.specs.Set.{has, wordCount, next}
+use Rattle.vertexset.specs.Set.{emptySet, has, wordCount, next}
 use Rattle.vertexset.specs.declared.VertexSet.{VertexSet}
-use Rattle.graph.specs.Rows.{rowOf, bareRows}
+use Rattle.graph.specs.Rows.{rowOf, bareRows, joinedRows}
 use Rattle.connectivity.specs.Lists.{upFrom, select}
 use Rattle.connectivity.proofs.Lists.{length-below}
-use Rattle.making.specs.Sets.{capacity, stop, minus, members, membersFrom, added}
+use Rattle.making.specs.Sets.{capacity, stop, single, minus, members, membersFrom, added}
 use Rattle.making.specs.Ears.{pathSpace, addPath}
-use Rattle.making.specs.Start.{joinedTwo, marked, threePaths}
-use Rattle.making.specs.Certificate.{lengthened, pairsFrom}
+use Rattle.making.specs.Start.{marked, threePaths}
+use Rattle.making.specs.Certificate.{lengthened, pairsFrom, treeNumbers}
 use Rattle.making.specs.Steps.{addEdges, addRows, finish}
 use Rattle.making.proofs.SetLaws.{added-room}
 use Rattle.search.specs.Arrays.{padded, placed, placedEnd}
@@ -30,10 +30,10 @@ use Rattle.search.proofs.Placed.{padded-length, padded-take, padded-none, padde
 use Rattle.search.proofs.Filling.{Filling, fill-start, fill-length, fill-place, fill-turn, fill-done}
 use Rattle.search.proofs.Members.{members-next, after}
 use Rattle.search.specs.Code.{pathRoom}
-use Rattle.search.specs.declared.Reach.{Reach}
+use Rattle.search.proofs.Sizes.{explore-sized}
 use Rattle.certifier.specs.declared.Ears.{Ears}
 use Rattle.certifier.specs.declared.Numbers.{Numbers}
-use Rattle.certifier.specs.Code.{numberRoom, numbersOf, treeIn, evidenceIn, Kept, FlatShows, Small}
+use Rattle.certifier.specs.Code.{numberRoom, numbersOf, firstSearch, evidenceIn, Kept, FlatShows, Small}
 
 -- ---- neighbours in a list are joined
 
@@ -44,20 +44,20 @@ marked-short table (u ∷ []) h = refl
 marked-short table (u ∷ (v ∷ l)) h = absurd (omega arith)
 
 marked-two : (table list : List ℕ) (j : ℕ) → suc j < length list
-    → marked (joinedTwo table (getD list j 0) (getD list (suc j) 0)) (drop (suc j) list) ≡ marked table (drop j list)
+    → marked (joinedRows table (getD list j 0) (getD list (suc j) 0)) (drop (suc j) list) ≡ marked table (drop j list)
 unfolding marked
 marked-two table list j h =
     let a : j < length list = omega arith in
     rw (drop-cons list j 0 a, drop-cons list (suc j) 0 h)
 
 module _ (list : List ℕ) (i : ℕ) (p : 0 < i) (table : List ℕ) where
-  pub mark-turn : {out : List ℕ} → i < length list → out ≡ joinedTwo table (getD list (i - 1) 0) (getD list i 0)
+  pub mark-turn : {out : List ℕ} → i < length list → out ≡ joinedRows table (getD list (i - 1) 0) (getD list i 0)
       → marked out (drop (i + 1 - 1) list) ≡ marked table (drop (i - 1) list)
   mark-turn {out} h e =
       let y : i + 1 - 1 ≡ i = omega arith in
       let z : i ≡ suc (i - 1) = omega arith in
       let t : suc (i - 1) < length list = omega arith in
-      rw (y, e) (subst (λ (n : ℕ). marked (joinedTwo table (getD list (i - 1) 0) (getD list n 0)) (drop n list) ≡ marked table (drop (i - 1) list)) (sym z) (marked-two table list (i - 1) t))
+      rw (y, e) (subst (λ (n : ℕ). marked (joinedRows table (getD list (i - 1) 0) (getD list n 0)) (drop n list) ≡ marked table (drop (i - 1) list)) (sym z) (marked-two table list (i - 1) t))
 
   pub mark-end : length list ≤ i → marked table (drop (i - 1) list) ≡ table
   mark-end h = marked-short table (drop (i - 1) list) (omega (arith, length-drop (i - 1) list))
@@ -461,26 +461,26 @@ put-nothing items at = go (hasRoom items at [])
     go true = (sym (overwritten-none items at), omega arith)
     go false = (refl, refl)
 
-module _ (tree : Reach) (e : Ears) (k : ℕ) where
-  nothing-in : k ≡ 0 → evidenceIn tree e k ≡ []
+module _ (rows : List ℕ) (e : Ears) (k : ℕ) where
+  nothing-in : k ≡ 0 → evidenceIn rows e k ≡ []
   nothing-in h = rw (eq-eqb k 0 h)
 
-  tree-in : (k ≡ 0 → ⊥) → k ≡ 1 → evidenceIn tree e k ≡ treeIn tree
+  tree-in : (k ≡ 0 → ⊥) → k ≡ 1 → evidenceIn rows e k ≡ treeNumbers (firstSearch rows)
   tree-in h i = rw (ne-eqb k 0 h, eq-eqb k 1 i)
 
-  ears-in : (k ≡ 0 → ⊥) → (k ≡ 1 → ⊥) → evidenceIn tree e k ≡ e .count ∷ lengthened (take (e .len) (e .flat)) .0
+  ears-in : (k ≡ 0 → ⊥) → (k ≡ 1 → ⊥) → evidenceIn rows e k ≡ e .count ∷ lengthened (take (e .len) (e .flat)) .0
   ears-in h i = rw (ne-eqb k 0 h, ne-eqb k 1 i)
 
   module _ (items : List ℕ) (at : ℕ) where
-    pub evidence-none : k ≡ 0 → Put items at items at (evidenceIn tree e k)
+    pub evidence-none : k ≡ 0 → Put items at items at (evidenceIn rows e k)
     evidence-none h = put-as items at items at (nothing-in h) (put-nothing items at)
 
-    pub evidence-tree : (k ≡ 0 → ⊥) → k ≡ 1 → {out : List ℕ} {end : ℕ} → Put items at out end (treeIn tree) → Put items at out end (evidenceIn tree e k)
-    evidence-tree h i {out} {end} p = put-as items at out end (tree-in h i) p
+    pub evidence-tree : (k ≡ 0 → ⊥) → k ≡ 1 → {l out : List ℕ} {end : ℕ} → l ≡ treeNumbers (firstSearch rows) → Put items at out end l → Put items at out end (evidenceIn rows e k)
+    evidence-tree h i {l} {out} {end} q p = put-as items at out end (tree-in h i ∙ sym q) p
 
     pub evidence-ears : (k ≡ 0 → ⊥) → (k ≡ 1 → ⊥) → e .len ≤ length (e .flat) → at + 1 + e .len ≤ length items
         → {flat out : List ℕ} {end : ℕ} → flat ≡ lengthened (take (e .len) (e .flat)) .0 ++ drop (e .len) (e .flat)
-        → Put (set items at (e .count)) (at + 1) out end (take (e .len - 0) flat) → Put items at out end (evidenceIn tree e k)
+        → Put (set items at (e .count)) (at + 1) out end (take (e .len - 0) flat) → Put items at out end (evidenceIn rows e k)
     evidence-ears h i short room {flat} {out} {end} f p =
         let front : List ℕ = lengthened (take (e .len) (e .flat)) .0 in
         let n : length front ≡ e .len = lengthened-size (take (e .len) (e .flat)) ∙ length-take-le (e .len) (e .flat) short in
@@ -490,12 +490,14 @@ module _ (tree : Reach) (e : Ears) (k : ℕ) where
         put-as items at out end (ears-in h i)
         (p .0 ∙ ap (placed (set items at (e .count)) (at + 1)) l ∙ first-put items at (e .count) front r, p .1 ∙ ap (placedEnd (set items at (e .count)) (at + 1)) l ∙ first-end items at (e .count) front r)
 
-  pub evidence-short : tree .count ≤ capacity → e .len ≤ pathSpace → length (evidenceIn tree e k) ≤ 1 + pathSpace
-  evidence-short h i = go (eqb k 0) (eqb k 1)
+  pub evidence-short : e .len ≤ pathSpace → length (evidenceIn rows e k) ≤ 1 + pathSpace
+  evidence-short i = go (eqb k 0) (eqb k 1)
     where
-      go : (a b : Bool) → length (cond a [] (cond b (treeIn tree) (e .count ∷ lengthened (take (e .len) (e .flat)) .0))) ≤ 1 + pathSpace
+      go : (a b : Bool) → length (cond a [] (cond b (treeNumbers (firstSearch rows)) (e .count ∷ lengthened (take (e .len) (e .flat)) .0))) ≤ 1 + pathSpace
       go true b = omega arith
-      go false true = omega (arith, pairs-length (tree .order) (tree .from) (tree .count - 1) 1)
+      go false true =
+          let t = firstSearch rows in
+          omega (arith, pairs-length (t .order) (t .from) (length (t .order) - 1) 1, explore-sized rows (single 0) emptySet emptySet .low)
       go false false = omega (arith, lengthened-size (take (e .len) (e .flat)), length-take (e .len) (e .flat))
 
 -- ---- the numbers of a certificate
@@ -539,12 +541,12 @@ cut-filled v w l e k hl he hk {out = out} {end = end} p q r s =
     let z : (l ++ e) ++ (w ∷ []) ++ k ≡ l ++ (e ++ (w ∷ k)) = append-snoc (l ++ e) w k ∙ append-assoc l e (w ∷ k) in
     subst (λ (m : List ℕ). Filled numberRoom out end (v ∷ m)) z i
 
-pub cut-are : (tree : Reach) (e : Ears) (v w : ℕ) (l k : List ℕ) → v ≡ length l → w ≡ length k → tree .count ≤ capacity → e .len ≤ pathSpace → length l ≤ capacity → length k ≤ capacity
-    → {a b c out : List ℕ} {at bt ct end : ℕ} → Put (set (replicate numberRoom 0) 0 v) 1 a at l → Put a at b bt (evidenceIn tree e v) → Put b bt c ct (w ∷ []) → Put c ct out end k
-    → _≡_ {A = Numbers} (record { items = out; count = end }) (numbersOf (length l ∷ (l ++ (evidenceIn tree e (length l) ++ (length k ∷ k)))))
-cut-are tree e v w l k ev ew ht he hl hk p q r s =
-    numbers-are (cut-filled v w l (evidenceIn tree e v) k hl (evidence-short tree e v ht he) hk p q r s)
-    ∙ ap (λ (n : ℕ). numbersOf (n ∷ (l ++ (evidenceIn tree e n ++ (w ∷ k))))) ev ∙ ap (λ (n : ℕ). numbersOf (length l ∷ (l ++ (evidenceIn tree e (length l) ++ (n ∷ k))))) ew
+pub cut-are : (rows : List ℕ) (e : Ears) (v w : ℕ) (l k : List ℕ) → v ≡ length l → w ≡ length k → e .len ≤ pathSpace → length l ≤ capacity → length k ≤ capacity
+    → {a b c out : List ℕ} {at bt ct end : ℕ} → Put (set (replicate numberRoom 0) 0 v) 1 a at l → Put a at b bt (evidenceIn rows e v) → Put b bt c ct (w ∷ []) → Put c ct out end k
+    → _≡_ {A = Numbers} (record { items = out; count = end }) (numbersOf (length l ∷ (l ++ (evidenceIn rows e (length l) ++ (length k ∷ k)))))
+cut-are rows e v w l k ev ew he hl hk p q r s =
+    numbers-are (cut-filled v w l (evidenceIn rows e v) k hl (evidence-short rows e v he) hk p q r s)
+    ∙ ap (λ (n : ℕ). numbersOf (n ∷ (l ++ (evidenceIn rows e n ++ (w ∷ k))))) ev ∙ ap (λ (n : ℕ). numbersOf (length l ∷ (l ++ (evidenceIn rows e (length l) ++ (n ∷ k))))) ew
 
 -- ---- the three paths of a start
 

@@ -5,19 +5,18 @@ use mathlib.Core.Bool.{Bool, cond, not}
 use mathlib.Core.List.{List, [], _∷_, _++_}
 use lib.Dec.{ltb, leb, eqb}
 use lib.ListN.{length, take, drop, getD, set}
-use Rattle.vertexset.specs.Set.{has, count}
+use Rattle.vertexset.specs.Set.{emptySet, has, count}
 use Rattle.vertexset.specs.declared.VertexSet.{VertexSet}
 use Rattle.search.specs.Arrays.{padded}
 use Rattle.search.specs.Code.{pathOf, pathRoom}
 use Rattle.search.specs.declared.Path.{Path}
-use Rattle.search.specs.declared.Reach.{Reach}
-use Rattle.making.specs.Sets.{stop, members}
+use Rattle.making.specs.Sets.{capacity, stop, single, members}
 use Rattle.making.specs.Ears as making
 use Rattle.making.specs.Ears.{pathSpace}
 use Rattle.making.specs.Start as starting
 use Rattle.making.specs.Steps as stepping
 use Rattle.making.specs.Search as searching
-use Rattle.making.specs.Certificate.{pairsFrom, lengthened, sideNumbers, chosen, buildNumbers}
+use Rattle.making.specs.Certificate.{pairsFrom, treeNumbers, lengthened, sideNumbers, chosen, buildNumbers}
 use Rattle.certifier.specs.declared.Cut.{Cut}
 use Rattle.certifier.specs.declared.Found.{Found}
 use Rattle.certifier.specs.declared.Ears.{Ears}
@@ -86,9 +85,13 @@ pub record Shows (items : List ℕ) (b : Progress) (st : stepping.State) : Type 
   pub short : length (st .flat) ≤ pathSpace
   pub beside : b ≡ progressOf st
 
--- the pairs of the tree that a search left
-abbrev pub treeIn : Reach → List ℕ
-treeIn r = 0 ∷ pairsFrom (r .order) (r .from) (r .count - 1) 1
+-- the pairs of the tree that a search left in its space
+abbrev pub treeIn : List ℕ → ℕ → List ℕ
+treeIn space count = 0 ∷ pairsFrom (take count space) (take count (drop capacity space)) (count - 1) 1
+
+-- the search that reaches every vertex that can be reached
+abbrev pub firstSearch : List ℕ → searching.Reach
+firstSearch rows = searching.explore rows (single 0) emptySet emptySet
 
 -- a list of paths at the front of the array
 pub record FlatShows (items : List ℕ) (len : ℕ) (flat : List ℕ) : Type 0 where
@@ -103,19 +106,16 @@ cutIn c = record { removed = c .removed; side = c .side }
 abbrev pub earsIn : Ears → making.Eared
 earsIn e = record { flat = take (e .len) (e .flat); count = e .count; cutBy = cutIn (e .cut) }
 
-abbrev pub reachIn : Reach → searching.Reach
-reachIn r = record { order = take (r .count) (r .order); from = take (r .count) (r .from); seeds = r .seeds; shut = r .shut; goal = r .goal; last = r .last }
+abbrev pub evidenceIn : List ℕ → Ears → ℕ → List ℕ
+evidenceIn rows e k = cond (eqb k 0) [] (cond (eqb k 1) (treeNumbers (firstSearch rows)) (e .count ∷ lengthened (take (e .len) (e .flat)) .0))
 
-abbrev pub evidenceIn : Reach → Ears → ℕ → List ℕ
-evidenceIn tree e k = cond (eqb k 0) [] (cond (eqb k 1) (treeIn tree) (e .count ∷ lengthened (take (e .len) (e .flat)) .0))
+abbrev pub cutNumbersIn : List ℕ → Ears → Cut → List ℕ
+cutNumbersIn rows e c =
+    length (members (c .removed)) ∷ (members (c .removed) ++ (evidenceIn rows e (length (members (c .removed))) ++ sideNumbers (c .side)))
 
-abbrev pub cutNumbersIn : Reach → Ears → Cut → List ℕ
-cutNumbersIn tree e c =
-    length (members (c .removed)) ∷ (members (c .removed) ++ (evidenceIn tree e (length (members (c .removed))) ++ sideNumbers (c .side)))
-
-abbrev pub cutCertificateIn : Reach → List ℕ → VertexSet → Cut → List ℕ
-cutCertificateIn tree rows full c =
-    cond (ltb (count (c .removed .words)) 2) (cutNumbersIn tree (earsOf (making.eared [] 0 making.noCut)) c) (cutNumbersIn tree (earsOf (making.ears rows full)) (cutOf (chosen (making.ears rows full) (cutIn c))))
+abbrev pub cutCertificateIn : List ℕ → VertexSet → Cut → List ℕ
+cutCertificateIn rows full c =
+    cond (ltb (count (c .removed .words)) 2) (cutNumbersIn rows (earsOf (making.eared [] 0 making.noCut)) c) (cutNumbersIn rows (earsOf (making.ears rows full)) (cutOf (chosen (making.ears rows full) (cutIn c))))
 
 abbrev pub StartKept : Start → Type 0
 StartKept s = Kept (s .flat) (s .len)
@@ -123,12 +123,12 @@ StartKept s = Kept (s .flat) (s .len)
 abbrev pub startIn : Start → starting.Begun
 startIn s = record { four = s .four; flat = take (s .len) (s .flat); cutBy = cutIn (s .cut) }
 
-abbrev pub builtCertificateIn : Reach → List ℕ → ℕ → VertexSet → VertexSet → stepping.State → List ℕ
-builtCertificateIn tree rows n full four st =
-    cond (making.isCut (st .cutBy)) (cutCertificateIn tree rows full (cutOf (st .cutBy))) (buildNumbers four (stepping.finish rows n (st .flat)))
+abbrev pub builtCertificateIn : List ℕ → ℕ → VertexSet → VertexSet → stepping.State → List ℕ
+builtCertificateIn rows n full four st =
+    cond (making.isCut (st .cutBy)) (cutCertificateIn rows full (cutOf (st .cutBy))) (buildNumbers four (stepping.finish rows n (st .flat)))
 
-abbrev pub startCertificateIn : Reach → List ℕ → ℕ → VertexSet → Start → List ℕ
-startCertificateIn tree rows n full s = builtCertificateIn tree rows n full (s .four) (stepping.build rows full (startIn s))
+abbrev pub startCertificateIn : List ℕ → ℕ → VertexSet → Start → List ℕ
+startCertificateIn rows n full s = builtCertificateIn rows n full (s .four) (stepping.build rows full (startIn s))
 
 -- numbers that have a form of one or two bytes
 abbrev pub Small : List ℕ → Type 0

@@ -1,7 +1,7 @@
 -- THE MAKER (document 01): what it answers, and what it leaves in the lent buffer.
 use Prim.Native.Nat.{ℕ}
 use mathlib.Core.Bool.{cond}
-use mathlib.Core.List.{List}
+use mathlib.Core.List.{List, []}
 use lib.Dec.{ltb}
 use lib.ListN.{length, getD}
 use Rattle.record.specs.Write.{overwritten}
@@ -9,8 +9,11 @@ use Rattle.record.specs.declared.Answer.{Answer}
 use Rattle.record.specs.declared.Answer.the-variants.{Accepted, Grade, PlanFault, CertificateFault}
 use Rattle.graph.specs.Code.{wholePlan}
 use Rattle.graph.specs.declared.Graph.{Graph}
+use Rattle.search.specs.Arrays.{padded}
 use Rattle.making.specs.Certificate.{certificateNumbers, certificateRecord}
+use Rattle.certifier.specs.declared.Draft.{Draft}
 use Rattle.certifier.specs.declared.Made.{Made}
+use Rattle.certifier.specs.Code.{numberRoom}
 
 -- document 01: the length is at most 1,536, and a buffer below that is refused
 abbrev pub roomAsked : ℕ
@@ -48,3 +51,16 @@ filledBy buffer (CertificateFault r p) g = buffer
 
 abbrev pub filledFrom : List ℕ → List ℕ → List ℕ
 filledFrom s buffer = filledBy buffer (wholePlan s .answer) (wholePlan s .graph)
+
+-- what is decided before a byte is written
+abbrev pub draftOf : Answer → List ℕ → Draft
+draftOf answer l = record { answer = answer; items = padded numberRoom l; count = length l }
+
+unfoldable pub draftBy : ℕ → Answer → Graph → Draft
+draftBy room Accepted g = cond (ltb room roomAsked) (draftOf (PlanFault 30 0) []) (draftOf (Grade (gradeMade g)) (certificateNumbers (g .rows) (g .n)))
+draftBy room (Grade k) g = draftOf (Grade k) []
+draftBy room (PlanFault r p) g = draftOf (PlanFault r p) []
+draftBy room (CertificateFault r p) g = draftOf (CertificateFault r p) []
+
+abbrev pub draftFrom : List ℕ → ℕ → Draft
+draftFrom s room = draftBy room (wholePlan s .answer) (wholePlan s .graph)

@@ -6,19 +6,19 @@ ghost use Prim.Native.Nat.{_+_, _-_, _*_, _≤_, _<_};
 ghost use lib.ListN.{length, take, drop, getD};
 ghost use Rattle.record.specs.Number.{numberBytes, listBytes};
 ghost use Rattle.record.specs.Write.{overwritten};
-ghost use Rattle.vertexset.specs.Set.{withBit};
-ghost use Rattle.graph.specs.Plan.{maxVertices, maxEdges};
-ghost use Rattle.graph.specs.Rows.{rowBits, bareRows};
+ghost use Rattle.vertexset.specs.Set.{emptySet};
+ghost use Rattle.graph.specs.Plan.{maxEdges};
+ghost use Rattle.graph.specs.Rows.{bareRows};
 ghost use Rattle.search.specs.Arrays.{placed, placedEnd};
-ghost use Rattle.search.specs.Code.{pathOf, pathRoom};
+ghost use Rattle.search.specs.Code.{pathOf, pathRoom, searchSpace};
 ghost use Rattle.making.specs.Sets.{capacity, stop, pair, single, withAll, members, membersFrom, reversed, lastOf, placeOf};
 ghost use Rattle.making.specs.Search.{explore};
-ghost use Rattle.making.specs.Ears.{noCut, isCut, answered, wayOut, detour, cycle, eared, ears, pathSpace};
-ghost use Rattle.making.specs.Start.{joinedTwo, marked, linkIn, sorted, threePaths, thirdPath, across, begun, broken, startOn, begin};
-ghost use Rattle.making.specs.Steps.{state, extended, offLink, linkStep, turned, pairPlace, reroute, outStep, step, steps, addEdges, finish};
+ghost use Rattle.making.specs.Ears.{noCut, isCut, answered, wayOut, detour, cycle, pathSpace, addPath, eared, earsOn, ears};
+ghost use Rattle.making.specs.Start.{marked, linkIn, sorted, threePaths, thirdPath, across, begun, broken, startOn, crossed, thirded, begin};
+ghost use Rattle.making.specs.Steps.{state, extended, offLink, linkStep, turned, pairPlace, besidePlace, reroute, outStep, step, steps, addEdges, finish};
 ghost use Rattle.making.specs.Certificate.{lengthened, certificateNumbers, fullSet};
 ghost use Rattle.certifier.specs.Code.{cutOf, foundOf, earsOf, startOf, numbersOf, pushed, sideOf, putBetween, putBetweenEnd, Kept, FlatShows, stateIn, Shows, treeIn, evidenceIn, cutNumbersIn, cutCertificateIn, StartKept, startCertificateIn, Small};
-ghost use Rattle.certifier.specs.Made.{made, madeFrom, filledFrom};
+ghost use Rattle.certifier.specs.Made.{madeFrom, filledFrom, draftOf, draftFrom};
 use graph::Graph;
 use record::Answer;
 use record::Written;
@@ -81,6 +81,13 @@ struct Numbers {
     count: usize,
 }
 
+// What is decided before a byte is written: the answer, and the numbers of the certificate; none on refusal.
+struct Draft {
+    answer: Answer,
+    items: [u16; Numbers::ROOM],
+    count: usize,
+}
+
 // The answer, and the length of the certificate; 0 where none was written.
 pub struct Made {
     pub answer: Answer,
@@ -138,16 +145,20 @@ fn full_set(n: u16) -> VertexSet
     set
 }
 
+// The words are changed in place, so that no set is copied for a vertex.
 fn with_all(set: VertexSet, list: &[u16]) -> VertexSet
     ensures { λ r. ⌜ r ≡ withAll set (now (list .entry)) ⌝ }
 {
-    let mut all = set;
+    let mut words = set.words;
     let mut i = 0;
     while i < list.len() {
-        all = all.insert(list[i]);
+        let v = list[i];
         i += 1;
+        if v < VertexSet::CAPACITY {
+            words[(v / 64) as usize] |= 1u64 << (v % 64);
+        }
     }
-    all
+    VertexSet { words }
 }
 
 fn number_at(list: &[u16], i: usize) -> u16
@@ -193,18 +204,20 @@ fn push(p: Path, v: u16) -> Path
 }
 
 // A search, answered by a path or a cut.
-fn find(
-    rows: &[u64; Graph::ROW_WORDS],
+fn find<'a>(
+    rows: &'a [u64; Graph::ROW_WORDS],
+    space: &'a mut [u16],
     seeds: VertexSet,
     goals: VertexSet,
     removed: VertexSet,
 ) -> Found
+    requires { ⌜ length (now space) ≡ searchSpace ⌝ }
     ensures { λ r. ⌜ r ≡ foundOf (answered (explore (now (rows .entry)) seeds goals removed) removed []) ⌝ }
 {
-    let r = search::explore(rows, seeds, goals, removed);
+    let r = search::explore(rows, space, seeds, goals, removed);
     if r.goal < VertexSet::CAPACITY {
         return Found {
-            path: search::route(r),
+            path: search::route(space, r),
             cut: Cut::none(),
         };
     }
@@ -219,14 +232,21 @@ fn find(
 }
 
 // The same without one vertex, to which the path goes on.
-fn find_on(rows: &[u64; Graph::ROW_WORDS], seeds: VertexSet, goals: VertexSet, x: u16) -> Found
+fn find_on<'a>(
+    rows: &'a [u64; Graph::ROW_WORDS],
+    space: &'a mut [u16],
+    seeds: VertexSet,
+    goals: VertexSet,
+    x: u16,
+) -> Found
+    requires { ⌜ length (now space) ≡ searchSpace ⌝ }
     ensures { λ r. ⌜ r ≡ foundOf (answered (explore (now (rows .entry)) seeds goals (single x)) (single x) (x ∷ [])) ⌝ }
 {
     let removed = single(x);
-    let r = search::explore(rows, seeds, goals, removed);
+    let r = search::explore(rows, space, seeds, goals, removed);
     if r.goal < VertexSet::CAPACITY {
         return Found {
-            path: push(search::route(r), x),
+            path: push(search::route(space, r), x),
             cut: Cut::none(),
         };
     }
@@ -263,13 +283,20 @@ fn way_out(rows: &[u64; Graph::ROW_WORDS], set: VertexSet, outside: VertexSet) -
 }
 
 // Out of a set along an edge, and back to another of its vertices.
-fn detour(rows: &[u64; Graph::ROW_WORDS], full: VertexSet, set: VertexSet) -> Found
+fn detour<'a>(
+    rows: &'a [u64; Graph::ROW_WORDS],
+    space: &'a mut [u16],
+    full: VertexSet,
+    set: VertexSet,
+) -> Found
+    requires { ⌜ length (now space) ≡ searchSpace ⌝ }
     ensures { λ r. ⌜ r ≡ foundOf (detour (now (rows .entry)) full set) ⌝ }
 {
     let e = way_out(rows, set, full.minus(set));
     if e.inside < VertexSet::CAPACITY {
         return find_on(
             rows,
+            space,
             single(e.outside),
             set.minus(single(e.inside)),
             e.inside,
@@ -285,7 +312,8 @@ fn detour(rows: &[u64; Graph::ROW_WORDS], full: VertexSet, set: VertexSet) -> Fo
 }
 
 // A cycle through vertex 0.
-fn cycle(rows: &[u64; Graph::ROW_WORDS]) -> Found
+fn cycle<'a>(rows: &'a [u64; Graph::ROW_WORDS], space: &'a mut [u16]) -> Found
+    requires { ⌜ length (now space) ≡ searchSpace ⌝ }
     ensures { λ r. ⌜ r ≡ foundOf (cycle (now (rows .entry))) ⌝ }
 {
     let row = graph::row(rows, 0);
@@ -299,7 +327,7 @@ fn cycle(rows: &[u64; Graph::ROW_WORDS]) -> Found
         };
     }
     let x = row.next_from(0);
-    find_on(rows, single(x), row.minus(single(x)), 0)
+    find_on(rows, space, single(x), row.minus(single(x)), 0)
 }
 
 // A path behind the others, with a stop before it.
@@ -317,114 +345,107 @@ fn add_path<'a>(flat: &'a mut [u16], len: usize, path: &'a [u16]) -> usize
     search::put_all(flat, len + 1, path)
 }
 
-// Ears until every vertex is in; or a cut.
-fn find_ears(rows: &[u64; Graph::ROW_WORDS], full: VertexSet) -> Ears
-    ensures { λ r. ⌜ r ≡ earsOf (ears (now (rows .entry)) full) ⌝ }
+fn ears_of(flat: [u16; Numbers::PATHS], len: usize, count: u16, cut: Cut) -> Ears
+    ensures { λ r. ⌜ r ≡ record { flat = flat; len = len; count = count; cut = cut } ⌝ }
+{
+    Ears {
+        flat,
+        len,
+        count,
+        cut,
+    }
+}
+
+// Ears behind the first until every vertex is in; or a cut.
+fn more_ears<'a>(
+    rows: &'a [u64; Graph::ROW_WORDS],
+    space: &'a mut [u16],
+    full: VertexSet,
+    first: &'a [u16],
+) -> Ears
+    requires { ⌜ length (now space) ≡ searchSpace ⌝ }
+    ensures { λ r. ⌜ r ≡ earsOf (earsOn (now (rows .entry)) full capacity (addPath [] (now (first .entry))) 1 (withAll emptySet (now (first .entry)))) ⌝ }
 {
     let mut flat = [0u16; Numbers::PATHS];
-    let first = cycle(rows);
-    let broken = first.cut;
-    if broken.is_cut() {
-        return Ears {
-            flat,
-            len: 0,
-            count: 0,
-            cut: broken,
-        };
-    }
-    let ear = first.path;
-    let vertices = ear.vertices;
-    let k = ear.count;
-    let mut len = add_path(&mut flat, 0, &vertices[0..k]);
-    let mut set = with_all(VertexSet::empty(), &vertices[0..k]);
+    let mut len = add_path(&mut flat, 0, first);
+    let mut set = with_all(VertexSet::empty(), first);
     let mut count: u16 = 1;
     let mut left = VertexSet::CAPACITY;
     while 0 < left {
         left -= 1;
         if full.minus(set).is_empty() {
-            return Ears {
-                flat,
-                len,
-                count,
-                cut: Cut::none(),
-            };
+            return ears_of(flat, len, count, Cut::none());
         }
-        let d = detour(rows, full, set);
+        let d = detour(rows, space, full, set);
         let c = d.cut;
         if c.is_cut() {
-            return Ears {
-                flat,
-                len,
-                count,
-                cut: c,
-            };
+            return ears_of(flat, len, count, c);
         }
         let p = d.path;
-        let v = p.vertices;
+        let path = p.vertices;
         let k = p.count;
-        len = add_path(&mut flat, len, &v[0..k]);
-        set = with_all(set, &v[0..k]);
+        len = add_path(&mut flat, len, &path[0..k]);
+        set = with_all(set, &path[0..k]);
         count += 1;
     }
-    Ears {
-        flat,
-        len,
-        count,
-        cut: Cut::none(),
-    }
+    ears_of(flat, len, count, Cut::none())
 }
 
-fn set_bit(table: &mut [u64; Graph::ROW_WORDS], u: u16, v: u16)
-    requires { ⌜ (u < maxVertices) × (v < maxVertices) ⌝ }
-    ensures { λ r. ⌜ now (table .exit) ≡ withBit (now (table .entry)) (u * rowBits + v) ⌝ }
+// Ears until every vertex is in; or a cut.
+fn find_ears<'a>(rows: &'a [u64; Graph::ROW_WORDS], space: &'a mut [u16], full: VertexSet) -> Ears
+    requires { ⌜ length (now space) ≡ searchSpace ⌝ }
+    ensures { λ r. ⌜ r ≡ earsOf (ears (now (rows .entry)) full) ⌝ }
 {
-    let i = u as usize * VertexSet::WORDS + (v / 64) as usize;
-    let w = table[i];
-    table[i] = w | (1u64 << (v % 64));
+    let f = cycle(rows, space);
+    let c = f.cut;
+    if c.is_cut() {
+        return ears_of([0u16; Numbers::PATHS], 0, 0, c);
+    }
+    let p = f.path;
+    let path = p.vertices;
+    let k = p.count;
+    more_ears(rows, space, full, &path[0..k])
 }
 
-// Two vertices are joined in a table of rows; a stop is no vertex.
-fn join(table: &mut [u64; Graph::ROW_WORDS], u: u16, v: u16)
-    ensures { λ r. ⌜ now (table .exit) ≡ joinedTwo (now (table .entry)) u v ⌝ }
-{
-    if Graph::MAX_VERTICES <= u {
-        return;
-    }
-    if Graph::MAX_VERTICES <= v {
-        return;
-    }
-    set_bit(table, u, v);
-    set_bit(table, v, u);
-}
-
-// Neighbours in a list of paths are joined.
+// Neighbours in a list of paths are joined; a stop is no vertex.
 fn mark<'a>(table: &'a mut [u64; Graph::ROW_WORDS], list: &'a [u16])
     ensures { λ r. ⌜ now (table .exit) ≡ marked (now (table .entry)) (now (list .entry)) ⌝ }
 {
     let mut i = 1;
     while i < list.len() {
-        join(table, list[i - 1], list[i]);
+        graph::join(table, list[i - 1], list[i]);
         i += 1;
     }
 }
 
 // A third path from vertex 0 to the cycle through it.
-fn third_path(rows: &[u64; Graph::ROW_WORDS], around: &[u16]) -> Found
+fn third_path<'a>(
+    rows: &'a [u64; Graph::ROW_WORDS],
+    space: &'a mut [u16],
+    around: &'a [u16],
+) -> Found
+    requires { ⌜ length (now space) ≡ searchSpace ⌝ }
     ensures { λ r. ⌜ r ≡ foundOf (thirdPath (now (rows .entry)) (now (around .entry))) ⌝ }
 {
     let set = with_all(VertexSet::empty(), around);
     let z = graph::row(rows, 0).minus(set).next_from(0);
-    find_on(rows, single(z), set.minus(single(0)), 0)
+    find_on(rows, space, single(z), set.minus(single(0)), 0)
 }
 
 // A path from inside the third path across to the cycle.
-fn path_across<'a>(rows: &'a [u64; Graph::ROW_WORDS], around: &'a [u16], third: &'a [u16]) -> Found
+fn path_across<'a>(
+    rows: &'a [u64; Graph::ROW_WORDS],
+    space: &'a mut [u16],
+    around: &'a [u16],
+    third: &'a [u16],
+) -> Found
+    requires { ⌜ length (now space) ≡ searchSpace ⌝ }
     ensures { λ r. ⌜ r ≡ foundOf (across (now (rows .entry)) (now (around .entry)) (now (third .entry))) ⌝ }
 {
     let ends = pair(0, number_at(third, 0));
     let seeds = with_all(VertexSet::empty(), third).minus(ends);
     let goals = with_all(VertexSet::empty(), around).minus(ends);
-    find(rows, seeds, goals, ends)
+    find(rows, space, seeds, goals, ends)
 }
 
 // The table in which neighbours on the three paths are joined.
@@ -446,24 +467,27 @@ fn table_of<'a>(around: &'a [u16], third: &'a [u16], across: &'a [u16]) -> Table
 // The link between two branch vertices, behind the other links.
 fn add_link<'a>(
     table: &'a [u64; Graph::ROW_WORDS],
+    space: &'a mut [u16],
     four: VertexSet,
     flat: &'a mut [u16],
     len: usize,
     u: u16,
     w: u16,
 ) -> usize
+    requires { ⌜ length (now space) ≡ searchSpace ⌝ }
     ensures { λ r. ⌜ now (flat .exit) ≡ placed (now (flat .entry)) len (stop ∷ linkIn (now (table .entry)) four u w) ⌝ }
     ensures { λ r. ⌜ r ≡ placedEnd (now (flat .entry)) len (stop ∷ linkIn (now (table .entry)) four u w) ⌝ }
 {
-    let r = search::explore(table, single(w), single(u), four.minus(pair(u, w)));
-    let p = search::route(r);
+    let r = search::explore(table, space, single(w), single(u), four.minus(pair(u, w)));
+    let p = search::route(space, r);
     let vertices = p.vertices;
     let k = p.count;
     add_path(flat, len, &vertices[0..k])
 }
 
 // The six links in the order of the record.
-fn six_links(table: &[u64; Graph::ROW_WORDS], four: VertexSet) -> Start
+fn six_links<'a>(table: &'a [u64; Graph::ROW_WORDS], space: &'a mut [u16], four: VertexSet) -> Start
+    requires { ⌜ length (now space) ≡ searchSpace ⌝ }
     ensures { λ r. ⌜ r ≡ startOf (begun four (sorted (now (table .entry)) four)) ⌝ }
 {
     let mut flat = [0u16; Numbers::PATHS];
@@ -471,12 +495,12 @@ fn six_links(table: &[u64; Graph::ROW_WORDS], four: VertexSet) -> Start
     let q = four.next_from(p + 1);
     let r = four.next_from(q + 1);
     let s = four.next_from(r + 1);
-    let mut len = add_link(table, four, &mut flat, 0, p, q);
-    len = add_link(table, four, &mut flat, len, p, r);
-    len = add_link(table, four, &mut flat, len, p, s);
-    len = add_link(table, four, &mut flat, len, q, r);
-    len = add_link(table, four, &mut flat, len, q, s);
-    len = add_link(table, four, &mut flat, len, r, s);
+    let mut len = add_link(table, space, four, &mut flat, 0, p, q);
+    len = add_link(table, space, four, &mut flat, len, p, r);
+    len = add_link(table, space, four, &mut flat, len, p, s);
+    len = add_link(table, space, four, &mut flat, len, q, r);
+    len = add_link(table, space, four, &mut flat, len, q, s);
+    len = add_link(table, space, four, &mut flat, len, r, s);
     Start {
         four,
         flat,
@@ -497,19 +521,66 @@ fn broken(c: Cut) -> Start
 }
 
 // The start on three paths.
-fn start_on<'a>(around: &'a [u16], third: &'a [u16], across: &'a [u16]) -> Start
-    requires { ⌜ length (now around) ≤ pathRoom ⌝ }
+fn start_on<'a>(
+    space: &'a mut [u16],
+    around: &'a [u16],
+    third: &'a [u16],
+    across: &'a [u16],
+) -> Start
+    requires { ⌜ (length (now space) ≡ searchSpace) × (length (now around) ≤ pathRoom) ⌝ }
     ensures { λ r. ⌜ r ≡ startOf (startOn (now (around .entry)) (now (third .entry)) (now (across .entry))) ⌝ }
 {
     let four = pair(0, number_at(third, 0)).insert(number_at(across, 0))
         .insert(last_of(across));
     let t = table_of(around, third, across);
     let table = t.rows;
-    six_links(&table, four)
+    six_links(&table, space, four)
+}
+
+// The start on a cycle and a third path, from a path across; or a cut.
+fn begin_across<'a>(
+    rows: &'a [u64; Graph::ROW_WORDS],
+    space: &'a mut [u16],
+    around: &'a [u16],
+    third: &'a [u16],
+) -> Start
+    requires { ⌜ (length (now space) ≡ searchSpace) × (length (now around) ≤ pathRoom) ⌝ }
+    ensures { λ r. ⌜ r ≡ startOf (crossed (now (around .entry)) (now (third .entry)) (across (now (rows .entry)) (now (around .entry)) (now (third .entry)))) ⌝ }
+{
+    let f = path_across(rows, space, around, third);
+    let c = f.cut;
+    if c.is_cut() {
+        return broken(c);
+    }
+    let p = f.path;
+    let path = p.vertices;
+    let k = p.count;
+    start_on(space, around, third, &path[0..k])
+}
+
+// The start on a cycle through vertex 0; or a cut.
+fn begin_around<'a>(
+    rows: &'a [u64; Graph::ROW_WORDS],
+    space: &'a mut [u16],
+    around: &'a [u16],
+) -> Start
+    requires { ⌜ (length (now space) ≡ searchSpace) × (length (now around) ≤ pathRoom) ⌝ }
+    ensures { λ r. ⌜ r ≡ startOf (thirded (now (rows .entry)) (now (around .entry)) (thirdPath (now (rows .entry)) (now (around .entry)))) ⌝ }
+{
+    let f = third_path(rows, space, around);
+    let c = f.cut;
+    if c.is_cut() {
+        return broken(c);
+    }
+    let p = f.path;
+    let path = p.vertices;
+    let k = p.count;
+    begin_across(rows, space, around, &path[0..k])
 }
 
 // Four branch vertices and six links; or a cut.
-fn begin(rows: &[u64; Graph::ROW_WORDS]) -> Start
+fn begin<'a>(rows: &'a [u64; Graph::ROW_WORDS], space: &'a mut [u16]) -> Start
+    requires { ⌜ length (now space) ≡ searchSpace ⌝ }
     ensures { λ r. ⌜ r ≡ startOf (begin (now (rows .entry))) ⌝ }
 {
     let row = graph::row(rows, 0);
@@ -519,31 +590,15 @@ fn begin(rows: &[u64; Graph::ROW_WORDS]) -> Start
             side: single(0),
         });
     }
-    let a = cycle(rows);
-    let a_cut = a.cut;
-    if a_cut.is_cut() {
-        return broken(a_cut);
+    let f = cycle(rows, space);
+    let c = f.cut;
+    if c.is_cut() {
+        return broken(c);
     }
-    let a_path = a.path;
-    let around = a_path.vertices;
-    let a_count = a_path.count;
-    let t = third_path(rows, &around[0..a_count]);
-    let t_cut = t.cut;
-    if t_cut.is_cut() {
-        return broken(t_cut);
-    }
-    let t_path = t.path;
-    let third = t_path.vertices;
-    let t_count = t_path.count;
-    let x = path_across(rows, &around[0..a_count], &third[0..t_count]);
-    let x_cut = x.cut;
-    if x_cut.is_cut() {
-        return broken(x_cut);
-    }
-    let x_path = x.path;
-    let across = x_path.vertices;
-    let x_count = x_path.count;
-    start_on(&around[0..a_count], &third[0..t_count], &across[0..x_count])
+    let p = f.path;
+    let path = p.vertices;
+    let k = p.count;
+    begin_around(rows, space, &path[0..k])
 }
 
 // The first place from here on with a member of the set, or with none.
@@ -573,17 +628,18 @@ fn before(i: usize) -> usize
 // (a) From inside the link at the places i - 1 to j to the rest of the build, without the link's ends.
 fn off_link<'a>(
     rows: &'a [u64; Graph::ROW_WORDS],
+    space: &'a mut [u16],
     list: &'a [u16],
     built: VertexSet,
     i: usize,
     j: usize,
 ) -> Found
-    requires { ⌜ (i ≤ j) × (j ≤ length (now list)) ⌝ }
+    requires { ⌜ (length (now space) ≡ searchSpace) × ((i ≤ j) × (j ≤ length (now list))) ⌝ }
     ensures { λ r. ⌜ r ≡ foundOf (offLink (now (rows .entry)) (state (now (list .entry)) built built 0) i j) ⌝ }
 {
     let ends = pair(number_at(list, before(i)), number_at(list, j));
     let inner = with_all(VertexSet::empty(), &list[i..j]);
-    find(rows, inner, built.minus(inner).minus(ends), ends)
+    find(rows, space, inner, built.minus(inner).minus(ends), ends)
 }
 
 fn stopped(b: Progress, c: Cut) -> Progress
@@ -621,18 +677,19 @@ fn extend<'a>(flat: &'a mut [u16], b: Progress, path: &'a [u16], at: usize) -> P
 
 fn link_step<'a>(
     rows: &'a [u64; Graph::ROW_WORDS],
+    space: &'a mut [u16],
     flat: &'a mut [u16],
     b: Progress,
     i: usize,
 ) -> Progress
-    requires { ⌜ Kept (now flat) (b .len) × (i ≤ b .len) ⌝ }
+    requires { ⌜ (length (now space) ≡ searchSpace) × (Kept (now flat) (b .len) × (i ≤ b .len)) ⌝ }
     ensures { λ r. ⌜ Shows (now (flat .exit)) r (linkStep (now (rows .entry)) (stateIn (now (flat .entry)) b) i) ⌝ }
 {
     let len = b.len;
     let built = b.built;
     let branch = b.branch;
     let j = place_of(&flat[0..len], built.minus(branch), false, i);
-    let f = off_link(rows, &flat[0..len], built, i, j);
+    let f = off_link(rows, space, &flat[0..len], built, i, j);
     let c = f.cut;
     if c.is_cut() {
         return stopped(b, c);
@@ -655,6 +712,16 @@ fn pair_place(list: &[u16], x: u16, y: u16) -> usize
             return i;
         }
         i += 1;
+    }
+    list.len()
+}
+
+// Where two vertices stand side by side on a path, or the length; only where an edge joins them can they.
+fn beside<'a>(rows: &'a [u64; Graph::ROW_WORDS], list: &'a [u16], x: u16, y: u16) -> usize
+    ensures { λ r. ⌜ r ≡ besidePlace (now (rows .entry)) x y (now (list .entry)) ⌝ }
+{
+    if graph::adjacent(rows, x, y) {
+        return pair_place(list, x, y);
     }
     list.len()
 }
@@ -748,18 +815,19 @@ fn reroute<'a>(flat: &'a mut [u16], b: Progress, path: &'a [u16], k: usize) -> P
 // (b) Out of the build and back; or every vertex is in.
 fn out_step<'a>(
     rows: &'a [u64; Graph::ROW_WORDS],
+    space: &'a mut [u16],
     full: VertexSet,
     flat: &'a mut [u16],
     b: Progress,
 ) -> Progress
-    requires { ⌜ Kept (now flat) (b .len) ⌝ }
+    requires { ⌜ (length (now space) ≡ searchSpace) × Kept (now flat) (b .len) ⌝ }
     ensures { λ r. ⌜ Shows (now (flat .exit)) r (outStep (now (rows .entry)) full (stateIn (now (flat .entry)) b)) ⌝ }
 {
     let built = b.built;
     if full.minus(built).is_empty() {
         return stopped(b, Cut::none());
     }
-    let f = detour(rows, full, built);
+    let f = detour(rows, space, full, built);
     let c = f.cut;
     if c.is_cut() {
         return stopped(b, c);
@@ -768,7 +836,8 @@ fn out_step<'a>(
     let path = p.vertices;
     let count = p.count;
     let len = b.len;
-    let k = pair_place(
+    let k = beside(
+        rows,
         &flat[0..len],
         last_of(&path[0..count]),
         number_at(&path[0..count], 0),
@@ -782,11 +851,12 @@ fn out_step<'a>(
 // One step: (a) where an inner vertex is left, else (b).
 fn step<'a>(
     rows: &'a [u64; Graph::ROW_WORDS],
+    space: &'a mut [u16],
     full: VertexSet,
     flat: &'a mut [u16],
     b: Progress,
 ) -> Progress
-    requires { ⌜ Kept (now flat) (b .len) ⌝ }
+    requires { ⌜ (length (now space) ≡ searchSpace) × Kept (now flat) (b .len) ⌝ }
     ensures { λ r. ⌜ Shows (now (flat .exit)) r (step (now (rows .entry)) full (stateIn (now (flat .entry)) b)) ⌝ }
 {
     let len = b.len;
@@ -794,19 +864,20 @@ fn step<'a>(
     let branch = b.branch;
     let i = place_of(&flat[0..len], built.minus(branch), true, b.at);
     if i < len {
-        return link_step(rows, flat, b, i);
+        return link_step(rows, space, flat, b, i);
     }
-    out_step(rows, full, flat, b)
+    out_step(rows, space, full, flat, b)
 }
 
 // Steps until none is left.
 fn build<'a>(
     rows: &'a [u64; Graph::ROW_WORDS],
+    space: &'a mut [u16],
     full: VertexSet,
     flat: &'a mut [u16],
     first: Progress,
 ) -> Progress
-    requires { ⌜ Kept (now flat) (first .len) ⌝ }
+    requires { ⌜ (length (now space) ≡ searchSpace) × Kept (now flat) (first .len) ⌝ }
     ensures { λ r. ⌜ Shows (now (flat .exit)) r (steps (now (rows .entry)) full (maxEdges + 1) (stateIn (now (flat .entry)) first)) ⌝ }
 {
     let mut b = first;
@@ -815,7 +886,7 @@ fn build<'a>(
         if !b.going {
             return b;
         }
-        b = step(rows, full, flat, b);
+        b = step(rows, space, full, flat, b);
         left -= 1;
     }
     b
@@ -872,21 +943,19 @@ fn lengthen(flat: &mut [u16], len: usize)
     }
 }
 
-// The tree of the first search: vertex 0, and each other vertex with the one it was reached from.
-fn put_tree(items: &mut [u16], at: usize, tree: Reach) -> usize
-    requires { ⌜ (tree .count ≤ capacity) × (at + 2 * capacity ≤ length (now items)) ⌝ }
-    ensures { λ r. ⌜ now (items .exit) ≡ placed (now (items .entry)) at (treeIn tree) ⌝ }
-    ensures { λ r. ⌜ r ≡ placedEnd (now (items .entry)) at (treeIn tree) ⌝ }
+// The tree that a search from vertex 0 left: vertex 0, and each other vertex with the one it was reached from.
+fn put_tree<'a>(items: &'a mut [u16], at: usize, space: &'a [u16], count: usize) -> usize
+    requires { ⌜ (count ≤ capacity) × (at + 2 * capacity ≤ length (now items)) ⌝ }
+    ensures { λ r. ⌜ now (items .exit) ≡ placed (now (items .entry)) at (treeIn (now (space .entry)) count) ⌝ }
+    ensures { λ r. ⌜ r ≡ placedEnd (now (items .entry)) at (treeIn (now (space .entry)) count) ⌝ }
 {
-    let order = tree.order;
-    let from = tree.from;
-    let count = tree.count;
     items[at] = 0;
     let mut end = at + 1;
     let mut i = 1;
     while i < count {
-        items[end] = number_at(&order, i);
-        items[end + 1] = number_at(&order, number_at(&from, i) as usize);
+        items[end] = search::entry(space, 0, count, i);
+        let place = search::entry(space, Reach::HALF, count, i) as usize;
+        items[end + 1] = search::entry(space, 0, count, place);
         end += 2;
         i += 1;
     }
@@ -894,16 +963,30 @@ fn put_tree(items: &mut [u16], at: usize, tree: Reach) -> usize
 }
 
 // What stands between the removed vertices and the side: nothing, the tree, or the ears.
-fn put_evidence(items: &mut [u16], at: usize, tree: Reach, e: Ears, k: u16) -> usize
-    requires { ⌜ (tree .count ≤ capacity) × ((e .len ≤ pathSpace) × (at + 1 + pathSpace ≤ length (now items))) ⌝ }
-    ensures { λ r. ⌜ now (items .exit) ≡ placed (now (items .entry)) at (evidenceIn tree e k) ⌝ }
-    ensures { λ r. ⌜ r ≡ placedEnd (now (items .entry)) at (evidenceIn tree e k) ⌝ }
+fn put_evidence<'a>(
+    rows: &'a [u64; Graph::ROW_WORDS],
+    space: &'a mut [u16],
+    items: &'a mut [u16],
+    at: usize,
+    e: Ears,
+    k: u16,
+) -> usize
+    requires { ⌜ (length (now space) ≡ searchSpace) × ((e .len ≤ pathSpace) × (at + 1 + pathSpace ≤ length (now items))) ⌝ }
+    ensures { λ r. ⌜ now (items .exit) ≡ placed (now (items .entry)) at (evidenceIn (now (rows .entry)) e k) ⌝ }
+    ensures { λ r. ⌜ r ≡ placedEnd (now (items .entry)) at (evidenceIn (now (rows .entry)) e k) ⌝ }
 {
     if k == 0 {
         return at;
     }
     if k == 1 {
-        return put_tree(items, at, tree);
+        let tree = search::explore(
+            rows,
+            space,
+            single(0),
+            VertexSet::empty(),
+            VertexSet::empty(),
+        );
+        return put_tree(items, at, space, tree.count);
     }
     let len = e.len;
     let mut flat = e.flat;
@@ -913,9 +996,14 @@ fn put_evidence(items: &mut [u16], at: usize, tree: Reach, e: Ears, k: u16) -> u
 }
 
 // Kinds 0 to 2.
-fn cut_numbers(tree: Reach, e: Ears, c: Cut) -> Numbers
-    requires { ⌜ (tree .count ≤ capacity) × (e .len ≤ pathSpace) ⌝ }
-    ensures { λ r. ⌜ r ≡ numbersOf (cutNumbersIn tree e c) ⌝ }
+fn cut_numbers<'a>(
+    rows: &'a [u64; Graph::ROW_WORDS],
+    space: &'a mut [u16],
+    e: Ears,
+    c: Cut,
+) -> Numbers
+    requires { ⌜ (length (now space) ≡ searchSpace) × (e .len ≤ pathSpace) ⌝ }
+    ensures { λ r. ⌜ r ≡ numbersOf (cutNumbersIn (now (rows .entry)) e c) ⌝ }
 {
     let mut items = [0u16; Numbers::ROOM];
     let removed = c.removed;
@@ -923,7 +1011,7 @@ fn cut_numbers(tree: Reach, e: Ears, c: Cut) -> Numbers
     let k = removed.size();
     items[0] = k;
     let first = search::put_members(&mut items, 1, removed);
-    let second = put_evidence(&mut items, first, tree, e, k);
+    let second = put_evidence(rows, space, &mut items, first, e, k);
     let third = search::put_copies(&mut items, second, 1, side.size());
     let count = search::put_members(&mut items, third, side);
     Numbers { items, count }
@@ -941,20 +1029,25 @@ fn no_ears() -> Ears
 }
 
 // The certificate of a cut; where two vertices are removed, ears are asked for.
-fn cut_certificate(rows: &[u64; Graph::ROW_WORDS], full: VertexSet, tree: Reach, c: Cut) -> Numbers
-    requires { ⌜ tree .count ≤ capacity ⌝ }
-    ensures { λ r. ⌜ r ≡ numbersOf (cutCertificateIn tree (now (rows .entry)) full c) ⌝ }
+fn cut_certificate<'a>(
+    rows: &'a [u64; Graph::ROW_WORDS],
+    space: &'a mut [u16],
+    full: VertexSet,
+    c: Cut,
+) -> Numbers
+    requires { ⌜ length (now space) ≡ searchSpace ⌝ }
+    ensures { λ r. ⌜ r ≡ numbersOf (cutCertificateIn (now (rows .entry)) full c) ⌝ }
 {
     let removed = c.removed;
     if removed.size() < 2 {
-        return cut_numbers(tree, no_ears(), c);
+        return cut_numbers(rows, space, no_ears(), c);
     }
-    let e = find_ears(rows, full);
+    let e = find_ears(rows, space, full);
     let other = e.cut;
     if other.is_cut() {
-        return cut_numbers(tree, e, other);
+        return cut_numbers(rows, space, e, other);
     }
-    cut_numbers(tree, e, c)
+    cut_numbers(rows, space, e, c)
 }
 
 // Kind 3.
@@ -970,15 +1063,15 @@ fn build_numbers(four: VertexSet, list: &[u16]) -> Numbers
 }
 
 // The certificate of a build, or of the cut that it met.
-fn build_certificate(
-    rows: &[u64; Graph::ROW_WORDS],
+fn build_certificate<'a>(
+    rows: &'a [u64; Graph::ROW_WORDS],
+    space: &'a mut [u16],
     n: u16,
     full: VertexSet,
-    tree: Reach,
     s: Start,
 ) -> Numbers
-    requires { ⌜ (tree .count ≤ capacity) × ((n ≤ capacity) × StartKept s) ⌝ }
-    ensures { λ r. ⌜ r ≡ numbersOf (startCertificateIn tree (now (rows .entry)) n full s) ⌝ }
+    requires { ⌜ (length (now space) ≡ searchSpace) × ((n ≤ capacity) × StartKept s) ⌝ }
+    ensures { λ r. ⌜ r ≡ numbersOf (startCertificateIn (now (rows .entry)) n full s) ⌝ }
 {
     let mut flat = s.flat;
     let len = s.len;
@@ -991,37 +1084,44 @@ fn build_certificate(
         going: true,
         cut: Cut::none(),
     };
-    let b = build(rows, full, &mut flat, first);
+    let b = build(rows, space, full, &mut flat, first);
     let c = b.cut;
     if c.is_cut() {
-        return cut_certificate(rows, full, tree, c);
+        return cut_certificate(rows, space, full, c);
     }
     let end = finish(rows, n, &mut flat, b.len);
     lengthen(&mut flat, end);
     build_numbers(four, &flat[0..end])
 }
 
-// THE CERTIFICATE, as its numbers.
+// THE CERTIFICATE, as its numbers. All searches share one space.
 fn certificate(rows: &[u64; Graph::ROW_WORDS], n: u16) -> Numbers
     requires { ⌜ n ≤ capacity ⌝ }
     ensures { λ r. ⌜ r ≡ numbersOf (certificateNumbers (now (rows .entry)) n) ⌝ }
 {
+    let mut space = [0u16; Reach::SPACE];
     let full = full_set(n);
-    let tree = search::explore(rows, single(0), VertexSet::empty(), VertexSet::empty());
+    let tree = search::explore(
+        rows,
+        &mut space,
+        single(0),
+        VertexSet::empty(),
+        VertexSet::empty(),
+    );
     let shut = tree.shut;
     if !full.minus(shut).is_empty() {
         let c = Cut {
             removed: VertexSet::empty(),
             side: shut,
         };
-        return cut_certificate(rows, full, tree, c);
+        return cut_certificate(rows, &mut space, full, c);
     }
-    let s = begin(rows);
+    let s = begin(rows, &mut space);
     let c = s.cut;
     if c.is_cut() {
-        return cut_certificate(rows, full, tree, c);
+        return cut_certificate(rows, &mut space, full, c);
     }
-    build_certificate(rows, n, full, tree, s)
+    build_certificate(rows, &mut space, n, full, s)
 }
 
 // Numbers, one behind the other, as bytes.
@@ -1044,33 +1144,51 @@ fn write_numbers<'a>(out: &'a mut [u8], list: &'a [u16]) -> usize
     at
 }
 
-fn refused(answer: Answer) -> Made
-    ensures { λ r. ⌜ r ≡ made answer 0 ⌝ }
+fn no_draft(answer: Answer) -> Draft
+    ensures { λ r. ⌜ r ≡ draftOf answer [] ⌝ }
 {
-    Made { answer, length: 0 }
+    let items = [0u16; Numbers::ROOM];
+    let count = 0;
+    Draft {
+        answer,
+        items,
+        count,
+    }
 }
 
-// THE MAKER. A plan's fault comes before a buffer that is too short.
-pub fn certify<'a>(plan: &'a [u8], out: &'a mut [u8]) -> Made
-    ensures { λ r. ⌜ r ≡ madeFrom (now (plan .entry)) (now (out .entry)) ⌝ }
-    ensures { λ r. ⌜ now (out .exit) ≡ filledFrom (now (plan .entry)) (now (out .entry)) ⌝ }
+// A plan's fault comes before a buffer that is too short.
+fn decide(plan: &[u8], room: usize) -> Draft
+    ensures { λ r. ⌜ r ≡ draftFrom (now (plan .entry)) room ⌝ }
 {
     let p = graph::read_plan(plan);
     let answer = p.answer;
     let Answer::Accepted = answer else {
-        return refused(answer);
+        return no_draft(answer);
     };
-    if out.len() < Made::ROOM {
-        return refused(Answer::PlanFault(30, 0));
+    if room < Made::ROOM {
+        return no_draft(Answer::PlanFault(30, 0));
     }
     let g = p.graph;
     let rows = g.rows;
     let c = certificate(&rows, g.n);
     let items = c.items;
     let count = c.count;
-    let written = write_numbers(out, &items[0..count]);
-    Made {
+    Draft {
         answer: Answer::Grade(items[0] as u8),
-        length: written,
+        items,
+        count,
     }
+}
+
+// THE MAKER.
+pub fn certify<'a>(plan: &'a [u8], out: &'a mut [u8]) -> Made
+    ensures { λ r. ⌜ r ≡ madeFrom (now (plan .entry)) (now (out .entry)) ⌝ }
+    ensures { λ r. ⌜ now (out .exit) ≡ filledFrom (now (plan .entry)) (now (out .entry)) ⌝ }
+{
+    let d = decide(plan, out.len());
+    let answer = d.answer;
+    let items = d.items;
+    let count = d.count;
+    let length = write_numbers(out, &items[0..count]);
+    Made { answer, length }
 }

@@ -39,6 +39,10 @@ bareRows = replicate rowWords 0
 abbrev pub joined : List ℕ → ℕ × ℕ → List ℕ
 joined rows e = withBit (withBit rows (e .0 * rowBits + e .1)) (e .1 * rowBits + e .0)
 
+-- the same for any two numbers: one past the vertices joins nothing
+abbrev pub joinedRows : List ℕ → ℕ → ℕ → List ℕ
+joinedRows rows u v = cond (ltb u maxVertices && ltb v maxVertices) (joined rows (u, v)) rows
+
 -- the graph of a plan
 unfoldable pub graphOf : Plan → Graph
 graphOf p = record { n = p .n; m = length (p .edges); rows = folded joined bareRows (p .edges) }

@@ -7,7 +7,7 @@ ghost use Rattle.vertexset.specs.Set.{withBit, wordCount};
 ghost use Rattle.record.specs.Number.{numberBytes};
 ghost use Rattle.record.specs.Write.{overwritten};
 ghost use Rattle.graph.specs.Plan.{edge, edgeBytes, maxVertices};
-ghost use Rattle.graph.specs.Rows.{adjacentIn, rowOf, rowBits, rowWords, bareRows, noGraph, joined, pairAt, edgeAt, edgesOf};
+ghost use Rattle.graph.specs.Rows.{adjacentIn, rowOf, rowBits, rowWords, bareRows, noGraph, joinedRows, pairAt, edgeAt, edgesOf};
 ghost use Rattle.graph.specs.Code.{wholePlan, leadingPlan, edgeRead, testedEdge, edgeFault, refusedPlan, edgeLoop, sizeOf, edgesBytes, writtenPlan, withPlan};
 use record::Answer;
 use record::Number;
@@ -89,13 +89,27 @@ pub fn row(rows: &[u64; Graph::ROW_WORDS], u: u16) -> VertexSet
     set
 }
 
-fn join(rows: &mut [u64; Graph::ROW_WORDS], u: u16, v: u16)
-    requires { ⌜ (length (now rows) ≡ rowWords) × ((u < maxVertices) × (v < maxVertices)) ⌝ }
+fn set_bit(rows: &mut [u64; Graph::ROW_WORDS], u: u16, v: u16)
+    requires { ⌜ (u < maxVertices) × (v < maxVertices) ⌝ }
     ensures { λ r. ⌜ now (rows .exit) ≡ withBit (now (rows .entry)) (u * rowBits + v) ⌝ }
 {
     let i = u as usize * VertexSet::WORDS + (v / 64) as usize;
     let w = rows[i];
     rows[i] = w | (1u64 << (v % 64));
+}
+
+// Two vertices are joined in a table of rows; a number past the vertices joins nothing.
+pub fn join(rows: &mut [u64; Graph::ROW_WORDS], u: u16, v: u16)
+    ensures { λ r. ⌜ now (rows .exit) ≡ joinedRows (now (rows .entry)) u v ⌝ }
+{
+    if Graph::MAX_VERTICES <= u {
+        return;
+    }
+    if Graph::MAX_VERTICES <= v {
+        return;
+    }
+    set_bit(rows, u, v);
+    set_bit(rows, v, u);
 }
 
 // The edge from u to v that was read at a place, tested.
@@ -168,7 +182,6 @@ fn read_edges(s: &[u8], n: u16, m: u16, from: usize) -> PlanRead
             return edge_fault(x);
         };
         join(&mut rows, u, v);
-        join(&mut rows, v, u);
         lower = u;
         higher = v;
         at = next;

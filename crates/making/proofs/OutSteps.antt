@@ -12,23 +12,24 @@ use lib.Seq.{getD-at}
 use borrow.Author.Tests.{lt-ltb, le-ltb}
 use Rattle.vertexset.specs.Set.{has}
 use Rattle.graph.specs.Plan.{maxEdges}
+use Rattle.graph.specs.Rows.{adjacentIn}
 use Rattle.connectivity.specs.Lists.{In, NoDup}
 use Rattle.connectivity.specs.Graph.{Adj, edgeCount}
 use Rattle.connectivity.specs.Path.{Link, link, vertices, Along, IsPath, usedEdges}
 use Rattle.connectivity.proofs.Lists.{in-split, clash, bool?, rev, rev-in, in-rev, nodup-rev, length-rev}
-use Rattle.connectivity.proofs.Paths.{SamePair, Consecutive, builtVertices, branchVertices, branch-built, nodup-inner, ends-differ, along-rev, inner-in, end-or-inner}
-use Rattle.connectivity.proofs.Recorded.{Extends, branch-beside}
+use Rattle.connectivity.proofs.Paths.{SamePair, Consecutive, Neighbours, consecutive-edge, builtVertices, branchVertices, branch-built, nodup-inner, ends-differ, along-rev, inner-in, end-or-inner}
+use Rattle.connectivity.proofs.Recorded.{Extends, recorded-path, branch-beside}
 use Rattle.connectivity.proofs.Progress.{told}
 use Rattle.connectivity.proofs.FirstLinks.{reversed}
 use Rattle.making.specs.Sets.{stop, minus, empty, lastOf}
 use Rattle.making.specs.Ears.{noCut, Found, detour}
-use Rattle.making.specs.Steps.{State, stopped, extended, pairPlace, turned, reroute, outTaken, outStep}
+use Rattle.making.specs.Steps.{State, stopped, extended, pairPlace, besidePlace, turned, reroute, outTaken, outStep}
 use Rattle.making.specs.Certificate.{fullSet}
 use Rattle.making.proofs.Basics.{drawnGraph, Drawn, On, flatten}
 use Rattle.making.proofs.SetLaws.{sized-minus, on-low, on-minus, on-full, empty-none, last-snoc}
 use Rattle.making.proofs.Detours.{full-sized, no-cut, OutAndBack, OneCut, detour-law}
 use Rattle.making.proofs.Flat.{newestFirst, newest-in, Located, locate, consecutive-split, flat-place, rev-vertices, extends-reversed}
-use Rattle.making.proofs.Finding.{front-low, end-high, PairAt, pair-at, pair-low}
+use Rattle.making.proofs.Finding.{front-low, PairAt, pair-at, pair-low}
 use Rattle.making.proofs.StepLaws.{Going, Stepped, ends, cuts, below-stop, vertex-low, vertex-on, on-vertex, extended-step}
 use Rattle.making.proofs.Reroutes.{turned-same, turned-other, rerouted-step}
 
@@ -87,9 +88,15 @@ module _ (rows : List ℕ) (n : ℕ) (dr : Drawn rows n) (few : edgeCount (drawn
   branch-all : (z : ℕ) → In z (builtVertices (newestFirst ps)) → In z (branchVertices (newestFirst ps))
   branch-all z h = go .branch-on z (all-branch z (vertex-on rows n dr ms ps st go z h))
 
-  -- put in between x and y where they are neighbours on a path, else appended
-  abbrev placedAt : List ℕ → ℕ → ℕ → State
-  placedAt l x y = cond (ltb (pairPlace x y (st .flat)) (length (st .flat))) (reroute st l (pairPlace x y (st .flat))) (extended st l (length (st .flat)))
+  -- put in behind the place k where there is one, else appended
+  abbrev placedAt : List ℕ → ℕ → State
+  placedAt l k = cond (ltb k (length (st .flat))) (reroute st l k) (extended st l (length (st .flat)))
+
+  placed-low : (l : List ℕ) (k : ℕ) → k < length (st .flat) → Step (reroute st l k) → Step (placedAt l k)
+  placed-low l k h s = subst (λ (b : Bool). Step (cond b (reroute st l k) (extended st l (length (st .flat))))) (sym (lt-ltb k (length (st .flat)) h)) s
+
+  placed-end : (l : List ℕ) → Step (extended st l (length (st .flat))) → Step (placedAt l (length (st .flat)))
+  placed-end l s = subst (λ (b : Bool). Step (cond b (reroute st l (length (st .flat))) (extended st l (length (st .flat))))) (sym (le-ltb (length (st .flat)) (length (st .flat)) (same-most (length (st .flat))))) s
 
   -- a path out and back
   module _ (x : ℕ) (q : List ℕ) (y : ℕ) (x-on : On (st .built) x) (y-on : On (st .built) y) (path : IsPath (Adj (drawnGraph rows n)) (link x q y)) (some : 0 < length q) (new : (w : ℕ) → In w q → ¬ On (st .built) w) where
@@ -140,54 +147,71 @@ module _ (rows : List ℕ) (n : ℕ) (dr : Drawn rows n) (few : edgeCount (drawn
       put-step = subst (λ (l : List Link). Stepped rows n ms (length (usedEdges (newestFirst l))) (reroute st (listed x q y) (pairPlace x y (st .flat)))) (sym (loc .place))
           (rerouted-step rows n dr few ms (loc .before) (loc .path) (loc .behind) st go-there (loc .left) (p .a) (p .b) (behind .0) cut-there put (between-there .along) (between-there .nodup) put-new (pairPlace x y (st .flat) + 1) up-to-a all-branch (listed x q y) listed-in in-listed (between-there .some))
 
-    -- APPENDED
-    module _ (none : pairPlace x y (st .flat) ≡ length (st .flat)) where
-      not-beside : (M : Link) → In M ps → (a b : ℕ) → Consecutive M a b → SamePair a b x y → ⊥
-      not-beside M h a b c s = at (in-split M ps h) (consecutive-split M a b c)
-        where
-          at : ((A : List Link) × (B : List Link) × (ps ≡ A ++ (M ∷ B))) → ((l : List ℕ) × (r : List ℕ) × (vertices M ≡ l ++ (a ∷ (b ∷ r)))) → ⊥
-          at (A, B, e) (l, r, k) =
-              let f : st .flat ≡ (flatten A ++ (stop ∷ l)) ++ (a ∷ (b ∷ (r ++ flatten B))) = go .same-flat ∙ ap flatten e ∙ flat-place A M B ∙ ap (λ (j : List ℕ). flatten A ++ (stop ∷ (j ++ flatten B))) k ∙ simp append-assoc in
-              no-place (pairPlace x y (st .flat)) (length (st .flat)) (subst (λ (j : List ℕ). pairPlace x y j < length j) (sym f) (pair-low x y (flatten A ++ (stop ∷ l)) a b (r ++ flatten B) s)) none
+    abbrev NotBeside : Type 0
+    NotBeside = (M : Link) → In M (newestFirst ps) → ¬ Neighbours M x y
 
+    -- no path has them side by side where the list does not
+    none-beside : pairPlace x y (st .flat) ≡ length (st .flat) → NotBeside
+    none-beside none M h = ⊎-elim (λ c. off x y c (inl (refl, refl))) (λ c. off y x c (inr (refl, refl)))
+      where
+        off : (a b : ℕ) → Consecutive M a b → SamePair a b x y → ⊥
+        off a b c s = at (in-split M ps (newest-in ps M h)) (consecutive-split M a b c)
+          where
+            at : ((A : List Link) × (B : List Link) × (ps ≡ A ++ (M ∷ B))) → ((l : List ℕ) × (r : List ℕ) × (vertices M ≡ l ++ (a ∷ (b ∷ r)))) → ⊥
+            at (A, B, e) (l, r, k) =
+                let f : st .flat ≡ (flatten A ++ (stop ∷ l)) ++ (a ∷ (b ∷ (r ++ flatten B))) = go .same-flat ∙ ap flatten e ∙ flat-place A M B ∙ ap (λ (j : List ℕ). flatten A ++ (stop ∷ (j ++ flatten B))) k ∙ simp append-assoc in
+                no-place (pairPlace x y (st .flat)) (length (st .flat)) (subst (λ (j : List ℕ). pairPlace x y j < length j) (sym f) (pair-low x y (flatten A ++ (stop ∷ l)) a b (r ++ flatten B) s)) none
+
+    -- nor where no edge joins them
+    no-edge-beside : adjacentIn rows x y ≡ false → NotBeside
+    no-edge-beside e M h = ⊎-elim (λ c. clash (joins x y c) e) (λ c. clash (dr .simple .symmetric y x (joins y x c)) e)
+      where
+        joins : (a b : ℕ) → Consecutive M a b → Adj (drawnGraph rows n) a b
+        joins a b c = consecutive-edge (Adj (drawnGraph rows n)) M a b (recorded-path (Adj (drawnGraph rows n)) (newestFirst ps) (go .recorded) M h) c
+
+    -- APPENDED
+    module _ (not-beside : NotBeside) where
       out-extends : Extends (Adj (drawnGraph rows n)) (newestFirst ps) (link x q y)
       out-extends = record {
         is-path = path;
         from = on-vertex rows n dr ms ps st go x x-on;
         upto = on-vertex rows n dr ms ps st go y y-on;
         new = λ w h k. new w h (vertex-on rows n dr ms ps st go w k);
-        apart = ⊎-elim (λ f. f) (λ r. absurd (⊎-elim (λ c. not-beside (r .0) (newest-in ps (r .0) (r .1)) x y c (inl (refl, refl))) (λ c. not-beside (r .0) (newest-in ps (r .0) (r .1)) y x c (inr (refl, refl))) (r .2)))
+        apart = ⊎-elim (λ f. f) (λ r. absurd (not-beside (r .0) (r .1) (r .2)))
             (told (drawnGraph rows n) (dr .simple) (newestFirst ps) (go .recorded) branch-all x y (ends-differ (link x q y) (path .nodup)));
       }
 
       back-extends : Extends (Adj (drawnGraph rows n)) (newestFirst ps) (reversed (link x q y))
       back-extends = extends-reversed (Adj (drawnGraph rows n)) (dr .simple .symmetric) (newestFirst ps) (link x q y) out-extends
 
-      append-step : Step (extended st (listed x q y) (length (st .flat)))
-      append-step = extended-step rows n dr few ms ps st go (reversed (link x q y)) back-extends (length (st .flat)) (same-most (length (st .flat))) (λ w h k. all-branch w k) (listed x q y) refl
+      append-step : Step (placedAt (listed x q y) (length (st .flat)))
+      append-step = placed-end (listed x q y) (extended-step rows n dr few ms ps st go (reversed (link x q y)) back-extends (length (st .flat)) (same-most (length (st .flat))) (λ w h k. all-branch w k) (listed x q y) refl)
 
-    placed-listed : Step (placedAt (listed x q y) x y)
-    placed-listed = ⊎-elim
-        (λ p. told-by true (lt-ltb (pairPlace x y (st .flat)) (length (st .flat)) (front-low (pairPlace x y (st .flat)) (length (p .front)) (length (st .flat)) (length (p .b ∷ p .back)) (p .place) (ap length (p .is) ∙ length-append (p .front) (p .a ∷ (p .b ∷ p .back))))) (put-step p))
-        (λ e. told-by false (le-ltb (pairPlace x y (st .flat)) (length (st .flat)) (end-high (pairPlace x y (st .flat)) (length (st .flat)) e)) (append-step e)) (pair-at x y (st .flat))
+    placed-pair : PairAt x y (st .flat) ⊎ (pairPlace x y (st .flat) ≡ length (st .flat)) → Step (placedAt (listed x q y) (pairPlace x y (st .flat)))
+    placed-pair (inl p) = placed-low (listed x q y) (pairPlace x y (st .flat)) (front-low (pairPlace x y (st .flat)) (length (p .front)) (length (st .flat)) (length (p .b ∷ p .back)) (p .place) (ap length (p .is) ∙ length-append (p .front) (p .a ∷ (p .b ∷ p .back)))) (put-step p)
+    placed-pair (inr e) = subst (λ (k : ℕ). Step (placedAt (listed x q y) k)) (sym e) (append-step (none-beside e))
+
+    placed-listed : Step (placedAt (listed x q y) (besidePlace rows x y (st .flat)))
+    placed-listed = by (adjacentIn rows x y) refl
       where
-        told-by : (b : Bool) → ltb (pairPlace x y (st .flat)) (length (st .flat)) ≡ b → Step (cond b (reroute st (listed x q y) (pairPlace x y (st .flat))) (extended st (listed x q y) (length (st .flat)))) → Step (placedAt (listed x q y) x y)
-        told-by b e h = subst (λ (c : Bool). Step (cond c (reroute st (listed x q y) (pairPlace x y (st .flat))) (extended st (listed x q y) (length (st .flat))))) (sym e) h
+        by : (b : Bool) → adjacentIn rows x y ≡ b → Step (placedAt (listed x q y) (cond b (pairPlace x y (st .flat)) (length (st .flat))))
+        by true e = placed-pair (pair-at x y (st .flat))
+        by false e = append-step (no-edge-beside e)
 
-    placed-path : (l : List ℕ) → l ≡ rev (vertices (link x q y)) → Step (placedAt l (lastOf l) (getD l 0 0))
-    placed-path l e = subst (λ (k : List ℕ). Step (placedAt k (lastOf k) (getD k 0 0))) (sym (e ∙ rev-vertices (link x q y))) (subst (λ (z : ℕ). Step (placedAt (listed x q y) z y)) (sym (last-snoc (y ∷ rev q) x)) placed-listed)
+    placed-path : (l : List ℕ) → l ≡ rev (vertices (link x q y)) → Step (placedAt l (besidePlace rows (lastOf l) (getD l 0 0) (st .flat)))
+    placed-path l e = subst (λ (k : List ℕ). Step (placedAt k (besidePlace rows (lastOf k) (getD k 0 0) (st .flat)))) (sym (e ∙ rev-vertices (link x q y))) (subst (λ (z : ℕ). Step (placedAt (listed x q y) (besidePlace rows z y (st .flat)))) (sym (last-snoc (y ∷ rev q) x)) placed-listed)
 
   -- the state for the answer of the detour, cut or not
   abbrev takenBy : Found → Bool → State
-  takenBy f b = cond b (stopped st (f .cutBy)) (placedAt (f .path) (lastOf (f .path)) (getD (f .path) 0 0))
+  takenBy f b = cond b (stopped st (f .cutBy)) (placedAt (f .path) (besidePlace rows (lastOf (f .path)) (getD (f .path) 0 0) (st .flat)))
 
-  detoured : OutAndBack rows n (st .built) (detour rows (fullSet n) (st .built)) → Step (outTaken st (detour rows (fullSet n) (st .built)))
+  detoured : OutAndBack rows n (st .built) (detour rows (fullSet n) (st .built)) → Step (outTaken rows st (detour rows (fullSet n) (st .built)))
   detoured d = subst (λ (b : Bool). Step (takenBy (detour rows (fullSet n) (st .built)) b)) (sym (d .not-cut)) (placed-path (d .x) (d .q) (d .y) (d .x-on) (d .y-on) (d .is-path) (d .some) (d .new) (detour rows (fullSet n) (st .built) .path) (d .same))
 
-  detour-cuts : OneCut rows n (detour rows (fullSet n) (st .built) .cutBy) → Step (outTaken st (detour rows (fullSet n) (st .built)))
+  detour-cuts : OneCut rows n (detour rows (fullSet n) (st .built) .cutBy) → Step (outTaken rows st (detour rows (fullSet n) (st .built)))
   detour-cuts c = subst (λ (b : Bool). Step (takenBy (detour rows (fullSet n) (st .built)) b)) (sym (c .is .is-cut)) (cuts refl (c .is))
 
-  out-taken : empty (minus (fullSet n) (st .built)) ≡ false → Step (outTaken st (detour rows (fullSet n) (st .built)))
+  out-taken : empty (minus (fullSet n) (st .built)) ≡ false → Step (outTaken rows st (detour rows (fullSet n) (st .built)))
   out-taken e =
       let a = branch-beside (Adj (drawnGraph rows n)) (newestFirst ps) (go .recorded) [] (omega arith) in
       let b = branch-beside (Adj (drawnGraph rows n)) (newestFirst ps) (go .recorded) (a .0 ∷ []) (omega arith) in
@@ -211,5 +235,5 @@ module _ (rows : List ℕ) (n : ℕ) (dr : Drawn rows n) (few : edgeCount (drawn
   -- STEP (b)
   pub out-step : Step (outStep rows (fullSet n) st)
   unfolding outStep
-  out-step = ⊎-elim (λ e. subst Step (ap (λ (b : Bool). cond b (stopped st noCut) (outTaken st (detour rows (fullSet n) (st .built)))) (sym e)) (all-built e)) (λ e. subst Step (ap (λ (b : Bool). cond b (stopped st noCut) (outTaken st (detour rows (fullSet n) (st .built)))) (sym e)) (out-taken e))
+  out-step = ⊎-elim (λ e. subst Step (ap (λ (b : Bool). cond b (stopped st noCut) (outTaken rows st (detour rows (fullSet n) (st .built)))) (sym e)) (all-built e)) (λ e. subst Step (ap (λ (b : Bool). cond b (stopped st noCut) (outTaken rows st (detour rows (fullSet n) (st .built)))) (sym e)) (out-taken e))
       (bool? (empty (minus (fullSet n) (st .built))))

@@ -14,7 +14,7 @@ use borrow.Author.Tests.{eqb-true, eq-eqb, ltb-true, ltb-false, lt-ltb}
 use Rattle.vertexset.specs.Set.{has, withBit}
 use Rattle.vertexset.proofs.Laws.{Words, has-empty}
 use Rattle.graph.specs.Plan.{maxVertices}
-use Rattle.graph.specs.Rows.{adjacentIn, rowBits, rowWords, bareRows, joined}
+use Rattle.graph.specs.Rows.{adjacentIn, rowBits, rowWords, bareRows, joined, joinedRows}
 use Rattle.graph.proofs.Adjacency.{has-both, same-bit}
 use Rattle.connectivity.specs.Lists.{In}
 use Rattle.connectivity.specs.Graph.{isPair}
@@ -22,7 +22,7 @@ use Rattle.connectivity.specs.Path.{Link, edge, edgesAlong, usedEdges}
 use Rattle.connectivity.proofs.Lists.{clash, or-true, true-or, and-true, in-append, in-left, in-right, in-single}
 use Rattle.connectivity.proofs.Paths.{SamePair, edge-same, edge-comm}
 use Rattle.making.specs.Sets.{capacity}
-use Rattle.making.specs.Start.{joinedTwo, marked}
+use Rattle.making.specs.Start.{marked}
 use Rattle.making.proofs.Basics.{Drawn, flatten}
 use Rattle.making.proofs.SetLaws.{set-words, zeros-at}
 
@@ -37,14 +37,14 @@ Beside (a ∷ (b ∷ l)) u v = ((u ≡ a) × (v ≡ b)) ⊎ Beside (b ∷ l) u v
 pub words-bit : (ws : List ℕ) (v : ℕ) → Words ws → Words (withBit ws v)
 words-bit ws v h = set-words ws (v / 64) _ h (or-lt 64 _ _ (h (v / 64)) (pow-lt (mod-lt v (lit< tt))))
 
-two-size : (rows : List ℕ) (a b : ℕ) → length rows ≡ rowWords → length (joinedTwo rows a b) ≡ rowWords
+two-size : (rows : List ℕ) (a b : ℕ) → length rows ≡ rowWords → length (joinedRows rows a b) ≡ rowWords
 two-size rows a b l = go (ltb a maxVertices && ltb b maxVertices)
   where
     go : (t : Bool) → length (cond t (joined rows (a, b)) rows) ≡ rowWords
     go true = simp length-set l
     go false = l
 
-two-words : (rows : List ℕ) (a b : ℕ) → Words rows → Words (joinedTwo rows a b)
+two-words : (rows : List ℕ) (a b : ℕ) → Words rows → Words (joinedRows rows a b)
 two-words rows a b h = go (ltb a maxVertices && ltb b maxVertices)
   where
     go : (t : Bool) → Words (cond t (joined rows (a, b)) rows)
@@ -66,7 +66,7 @@ has-two rows a b x y l ha hb hy =
     ∙ ap (λ (t : Bool). has rows (bitOf x y) || (isPair (a, b) x y || t)) (same-bit x y (b, a) hy ha)
 
 module _ (rows : List ℕ) (a b x y : ℕ) (l : length rows ≡ rowWords) (hx : x < maxVertices) (hy : y < maxVertices) where
-  two-in : has (joinedTwo rows a b) (bitOf x y) ≡ true → (has rows (bitOf x y) ≡ true) ⊎ SamePair x y a b
+  two-in : has (joinedRows rows a b) (bitOf x y) ≡ true → (has rows (bitOf x y) ≡ true) ⊎ SamePair x y a b
   two-in = go (ltb a maxVertices) refl (ltb b maxVertices) refl
     where
       go : (p : Bool) → ltb a maxVertices ≡ p → (q : Bool) → ltb b maxVertices ≡ q → has (cond (p && q) (joined rows (a, b)) rows) (bitOf x y) ≡ true → (has rows (bitOf x y) ≡ true) ⊎ SamePair x y a b
@@ -75,7 +75,7 @@ module _ (rows : List ℕ) (a b x y : ℕ) (l : length rows ≡ rowWords) (hx : 
       go true p false q h = inl h
       go false p q e h = inl h
 
-  in-two : (has rows (bitOf x y) ≡ true) ⊎ SamePair x y a b → has (joinedTwo rows a b) (bitOf x y) ≡ true
+  in-two : (has rows (bitOf x y) ≡ true) ⊎ SamePair x y a b → has (joinedRows rows a b) (bitOf x y) ≡ true
   in-two = go (ltb a maxVertices) refl (ltb b maxVertices) refl
     where
       or-left : (s t : Bool) → s ≡ true → s || t ≡ true
@@ -100,13 +100,13 @@ pub marked-size : (rows flat : List ℕ) → length rows ≡ rowWords → length
 unfolding marked
 marked-size rows [] l = l
 marked-size rows (a ∷ []) l = l
-marked-size rows (a ∷ (b ∷ f)) l = marked-size (joinedTwo rows a b) (b ∷ f) (two-size rows a b l)
+marked-size rows (a ∷ (b ∷ f)) l = marked-size (joinedRows rows a b) (b ∷ f) (two-size rows a b l)
 
 pub marked-words : (rows flat : List ℕ) → Words rows → Words (marked rows flat)
 unfolding marked
 marked-words rows [] h = h
 marked-words rows (a ∷ []) h = h
-marked-words rows (a ∷ (b ∷ f)) h = marked-words (joinedTwo rows a b) (b ∷ f) (two-words rows a b h)
+marked-words rows (a ∷ (b ∷ f)) h = marked-words (joinedRows rows a b) (b ∷ f) (two-words rows a b h)
 
 marked-in : (rows flat : List ℕ) (x y : ℕ) → length rows ≡ rowWords → x < maxVertices → y < maxVertices → has (marked rows flat) (bitOf x y) ≡ true
     → (has rows (bitOf x y) ≡ true) ⊎ (Beside flat x y ⊎ Beside flat y x)
@@ -115,7 +115,7 @@ marked-in rows [] x y l hx hy h = inl h
 marked-in rows (a ∷ []) x y l hx hy h = inl h
 marked-in rows (a ∷ (b ∷ f)) x y l hx hy h =
     ⊎-elim (λ k. ⊎-map (λ j. j) (λ (j : SamePair x y a b). ⊎-map inl (λ e. inl (e .1, e .0)) j) (two-in rows a b x y l hx hy k)) (λ k. inr (⊎-map inr inr k))
-    (marked-in (joinedTwo rows a b) (b ∷ f) x y (two-size rows a b l) hx hy h)
+    (marked-in (joinedRows rows a b) (b ∷ f) x y (two-size rows a b l) hx hy h)
 
 in-marked : (rows flat : List ℕ) (x y : ℕ) → length rows ≡ rowWords → x < maxVertices → y < maxVertices → (has rows (bitOf x y) ≡ true) ⊎ (Beside flat x y ⊎ Beside flat y x)
     → has (marked rows flat) (bitOf x y) ≡ true
@@ -126,12 +126,12 @@ in-marked rows [] x y l hx hy (inr (inr h)) = absurd h
 in-marked rows (a ∷ []) x y l hx hy (inl h) = h
 in-marked rows (a ∷ []) x y l hx hy (inr (inl h)) = absurd h
 in-marked rows (a ∷ []) x y l hx hy (inr (inr h)) = absurd h
-in-marked rows (a ∷ (b ∷ f)) x y l hx hy h = in-marked (joinedTwo rows a b) (b ∷ f) x y (two-size rows a b l) hx hy (go h)
+in-marked rows (a ∷ (b ∷ f)) x y l hx hy h = in-marked (joinedRows rows a b) (b ∷ f) x y (two-size rows a b l) hx hy (go h)
   where
-    two : (has rows (bitOf x y) ≡ true) ⊎ SamePair x y a b → has (joinedTwo rows a b) (bitOf x y) ≡ true
+    two : (has rows (bitOf x y) ≡ true) ⊎ SamePair x y a b → has (joinedRows rows a b) (bitOf x y) ≡ true
     two = in-two rows a b x y l hx hy
 
-    go : (has rows (bitOf x y) ≡ true) ⊎ (Beside (a ∷ (b ∷ f)) x y ⊎ Beside (a ∷ (b ∷ f)) y x) → (has (joinedTwo rows a b) (bitOf x y) ≡ true) ⊎ (Beside (b ∷ f) x y ⊎ Beside (b ∷ f) y x)
+    go : (has rows (bitOf x y) ≡ true) ⊎ (Beside (a ∷ (b ∷ f)) x y ⊎ Beside (a ∷ (b ∷ f)) y x) → (has (joinedRows rows a b) (bitOf x y) ≡ true) ⊎ (Beside (b ∷ f) x y ⊎ Beside (b ∷ f) y x)
     go (inl h) = inl (two (inl h))
     go (inr (inl (inl e))) = inl (two (inr (inl e)))
     go (inr (inl (inr k))) = inr (inl k)

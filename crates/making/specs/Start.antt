@@ -1,25 +1,21 @@
 -- The start of a build: a cycle through vertex 0, a third path from 0 to the cycle, a path across; six links between four vertices.
 use Prim.Native.Nat.{ℕ, _+_}
-use mathlib.Core.Bool.{Bool, cond, _&&_}
+use mathlib.Core.Bool.{Bool, cond}
 use mathlib.Core.List.{List, [], _∷_, _++_}
 use lib.Dec.{ltb}
 use lib.ListN.{getD}
 use Rattle.vertexset.specs.Set.{emptySet, inserted, count, next}
 use Rattle.vertexset.specs.declared.VertexSet.{VertexSet}
-use Rattle.graph.specs.Plan.{maxVertices}
-use Rattle.graph.specs.Rows.{rowOf, bareRows, joined}
+use Rattle.graph.specs.Rows.{rowOf, bareRows, joinedRows}
 use Rattle.making.specs.Sets.{stop, minus, single, pair, setOf, least, lastOf}
 use Rattle.making.specs.Search.{explore, route}
 use Rattle.making.specs.Ears.{Cut, cut, noCut, isCut, Found, failed, answered, cycle, addPath}
 
 -- rows of bits, as a graph's, in which neighbours on a path are joined; no edge has a stop as its end
-abbrev pub joinedTwo : List ℕ → ℕ → ℕ → List ℕ
-joinedTwo table u v = cond (ltb u maxVertices && ltb v maxVertices) (joined table (u, v)) table
-
 unfoldable pub marked : List ℕ → List ℕ → List ℕ
 marked table [] = table
 marked table (u ∷ []) = table
-marked table (u ∷ (v ∷ l)) = marked (joinedTwo table u v) (v ∷ l)
+marked table (u ∷ (v ∷ l)) = marked (joinedRows table u v) (v ∷ l)
 
 -- A start: its four branch vertices and its six paths, a stop before each; or a cut.
 pub record Begun : Type 0 where

@@ -7,7 +7,7 @@ use lib.ListN.{length, getD, take, drop}
 use Rattle.vertexset.specs.Set.{has, inserted}
 use Rattle.vertexset.specs.declared.VertexSet.{VertexSet}
 use Rattle.graph.specs.Plan.{maxEdges}
-use Rattle.graph.specs.Rows.{rowOf, bareRows}
+use Rattle.graph.specs.Rows.{adjacentIn, rowOf, bareRows}
 use Rattle.connectivity.specs.Lists.{below}
 use Rattle.making.specs.Sets.{stop, minus, pair, withAll, setOf, membersFrom, empty, reversed, lastOf, placeOf}
 use Rattle.making.specs.Search.{explore}
@@ -62,6 +62,10 @@ pairPlace x y [] = 0
 pairPlace x y (a ∷ []) = 1
 pairPlace x y (a ∷ (b ∷ l)) = cond ((eqb a x && eqb b y) || (eqb a y && eqb b x)) 0 (pairPlace x y (b ∷ l) + 1)
 
+-- the same for two vertices of a build: only where an edge joins them can they stand side by side
+abbrev pub besidePlace : List ℕ → ℕ → ℕ → List ℕ → ℕ
+besidePlace rows x y flat = cond (adjacentIn rows x y) (pairPlace x y flat) (length flat)
+
 -- the new vertices in the direction of the path, on which z stands before them
 abbrev pub turned : List ℕ → ℕ → List ℕ
 turned path z = cond (eqb z (getD path 0 0)) (segment path 1 (length path - 1)) (reversed (segment path 1 (length path - 1)))
@@ -73,16 +77,16 @@ abbrev pub reroute : State → List ℕ → ℕ → State
 reroute st path k =
     state (putIn (st .flat) (k + 1) (turned path (getD (st .flat) k 0))) (st .branch) (withAll (st .built) path) (k + 1)
 
-abbrev pub outTaken : State → Found → State
-outTaken st f =
+abbrev pub outTaken : List ℕ → State → Found → State
+outTaken rows st f =
     cond (isCut (f .cutBy))
     (stopped st (f .cutBy))
-    (cond (ltb (pairPlace (lastOf (f .path)) (getD (f .path) 0 0) (st .flat)) (length (st .flat)))
-    (reroute st (f .path) (pairPlace (lastOf (f .path)) (getD (f .path) 0 0) (st .flat)))
+    (cond (ltb (besidePlace rows (lastOf (f .path)) (getD (f .path) 0 0) (st .flat)) (length (st .flat)))
+    (reroute st (f .path) (besidePlace rows (lastOf (f .path)) (getD (f .path) 0 0) (st .flat)))
     (extended st (f .path) (length (st .flat))))
 
 unfoldable pub outStep : List ℕ → VertexSet → State → State
-outStep rows full st = cond (empty (minus full (st .built))) (stopped st noCut) (outTaken st (detour rows full (st .built)))
+outStep rows full st = cond (empty (minus full (st .built))) (stopped st noCut) (outTaken rows st (detour rows full (st .built)))
 
 -- ONE STEP
 abbrev pub innerPlace : State → ℕ

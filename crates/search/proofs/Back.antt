@@ -4,7 +4,8 @@ use mathlib.Core.List.{List, [], _∷_, _++_, append-assoc, append-nil}
 use mathlib.Core.Bool.{cond}
 use mathlib.Core.Path.{_≡_, refl, sym, ap, _∙_}
 use native.Mathlib.Omega.{arith}
-use lib.ListN.{length, getD, set, replicate, length-append}
+use lib.ListN.{length, getD, set, take, drop, replicate, length-append, length-take, length-drop, List·getD-eq-default}
+use lib.Seq.{getD-take, getD-drop}
 use lib.Dec.{ltb}
 use borrow.Author.Tests.{lt-ltb, le-ltb}
 use Rattle.making.specs.Sets.{capacity}
@@ -13,6 +14,20 @@ use Rattle.search.specs.Arrays.{padded}
 use Rattle.search.specs.Code.{pathRoom, pathOf}
 use Rattle.search.specs.declared.Path.{Path}
 use Rattle.search.proofs.Placed.{padded-set}
+
+-- ---- the list that stands in an array from a place on
+
+module _ (items : List ℕ) (start count i : ℕ) where
+  pub entry-past : count ≤ i → 0 ≡ getD (take count (drop start items)) i 0
+  entry-past h = sym (List·getD-eq-default (take count (drop start items)) 0 (omega (arith, length-take count (drop start items))))
+
+  pub entry-out : length items ≤ start + i → 0 ≡ getD (take count (drop start items)) i 0
+  entry-out h = sym (List·getD-eq-default (take count (drop start items)) 0 (omega (arith, length-take count (drop start items), length-drop start items)))
+
+  pub entry-in : i < count → getD items (start + i) 0 ≡ getD (take count (drop start items)) i 0
+  entry-in h = sym (getD-take count (drop start items) i 0 h ∙ getD-drop start items i 0)
+
+-- ---- the loop
 
 abbrev pub pathIn : List ℕ → ℕ → Path
 pathIn vertices count = record { vertices = vertices; count = count }

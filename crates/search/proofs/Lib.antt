@@ -1,7 +1,9 @@
 pub mod Back
 pub mod Filling
-pub mod Grown
+pub mod Lent
 pub mod Members
 pub mod Placed
 pub mod Puts
+pub mod Sizes
+pub mod Spaces
 pub mod Visits

@@ -11,7 +11,6 @@ use borrow.Author.Tests.{leb-true, ltb-true, ltb-false}
 use Rattle.record.specs.Write.{hasRoom, overwritten}
 use Rattle.record.proofs.Write.{overwritten-length}
 use Rattle.making.specs.Sets.{added}
-use Rattle.making.specs.Search.{back}
 use Rattle.search.specs.Arrays.{padded, placed, placedEnd}
 
 pub placed-length : (items : List ℕ) (at : ℕ) (l : List ℕ) → length (placed items at l) ≡ length items
@@ -87,10 +86,3 @@ pub padded-set : (size : ℕ) (l : List ℕ) (v : ℕ) → length l < size → s
 padded-set size l v h =
     let n : size - length l ≡ suc (size - length (l ++ (v ∷ []))) = omega (arith, length-append l (v ∷ [])) in
     rw n (set-at l 0 (zeros (size - length (l ++ (v ∷ [])))) v (length l) refl ∙ sym (append-snoc l v (zeros (size - length (l ++ (v ∷ []))))))
-
--- behind a list stand zeros, which is what a list gives behind its end: the way back is the same
-pub back-padded : (k : ℕ) (order from : List ℕ) (a b seeds i : ℕ) → back k (padded a order) (padded b from) seeds i ≡ back k order from seeds i
-unfolding back
-back-padded zero order from a b seeds i = refl
-back-padded (suc k) order from a b seeds i =
-    rw (padded-at a order i, padded-at b from i, back-padded k order from a b seeds (getD from i 0))

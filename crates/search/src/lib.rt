@@ -1,23 +1,30 @@
 // One search serves the certifier: from seeds to the nearest goal, with vertices removed; a path, or the closed set that was reached.
 ghost use mathlib.Core.Path.{_≡_};
-ghost use lib.ListN.{getD, length, replicate};
+ghost use Prim.Native.Nat.{_≤_};
+ghost use lib.ListN.{getD, length, replicate, take, drop};
 ghost use Rattle.making.specs.Sets.{members, capacity};
 ghost use Rattle.making.specs.Search.{explore};
 ghost use Rattle.search.specs.Arrays.{placed, placedEnd};
-ghost use Rattle.search.specs.Code.{reachOf, pathOf, routeIn};
+ghost use Rattle.search.specs.Code.{reachOf, pathOf, routeIn, searchSpace, spaceAfter, leftIn, answerIn, reachedAfter, reachedEnd, visitsIn};
 use graph::Graph;
 use vertexset::VertexSet;
 
-// What a search leaves: the vertices reached, the seeds first, and for each the place of the one it was reached from; the vertices
-// reached or removed; the goal that was met, or CAPACITY, and the place of the vertex next to it.
+// What a search answers: how many vertices it reached, and how many of them are seeds; the vertices reached or removed; the goal that
+// was met, or CAPACITY, and the place of the vertex next to it.
 pub struct Reach {
-    pub order: [u16; VertexSet::CAPACITY as usize],
-    pub from: [u16; VertexSet::CAPACITY as usize],
     pub count: usize,
     pub seeds: usize,
     pub shut: VertexSet,
     pub goal: u16,
     pub last: usize,
+}
+
+impl Reach {
+    // The space that a search is lent: the vertices reached, in order, the seeds first; and from HALF on, for each the place of
+    // the one it was reached from.
+    pub const SPACE: usize = 2 * Reach::HALF;
+
+    pub const HALF: usize = VertexSet::CAPACITY as usize;
 }
 
 // A list of vertices.
@@ -90,68 +97,112 @@ pub fn put_copies(items: &mut [u16], at: usize, times: usize, v: u16) -> usize
     at + i
 }
 
-// THE SEARCH. It stops at the first goal.
-pub fn explore(
-    rows: &[u64; Graph::ROW_WORDS],
-    seeds: VertexSet,
-    goals: VertexSet,
-    removed: VertexSet,
-) -> Reach
-    ensures { λ r. ⌜ r ≡ reachOf (explore (now (rows .entry)) seeds goals removed) ⌝ }
+// Vertices reached from the one at a place, behind the others.
+fn put_reached(space: &mut [u16], at: usize, set: VertexSet, from: u16) -> usize
+    requires { ⌜ length (now space) ≡ searchSpace ⌝ }
+    ensures { λ r. ⌜ now (space .exit) ≡ reachedAfter (now (space .entry)) at (members set) from ⌝ }
+    ensures { λ r. ⌜ r ≡ reachedEnd at (members set) ⌝ }
 {
-    let mut order = [0u16; VertexSet::CAPACITY as usize];
-    let mut from = [0u16; VertexSet::CAPACITY as usize];
-    let mut count = put_members(&mut order, 0, seeds);
-    let first = count;
-    let mut shut = seeds.union(removed);
+    let k = set.size() as usize;
+    if k == 0 {
+        return at;
+    }
+    if Reach::HALF < at {
+        return at;
+    }
+    if Reach::HALF - at < k {
+        return at;
+    }
+    put_members(space, at, set);
+    put_copies(space, Reach::HALF + at, k, from);
+    at + k
+}
+
+// The visits, from the seeds on, which stand in the space already; to the first goal.
+fn visit<'a>(
+    rows: &'a [u64; Graph::ROW_WORDS],
+    space: &'a mut [u16],
+    goals: VertexSet,
+    seeds: usize,
+    closed: VertexSet,
+) -> Reach
+    requires { ⌜ (length (now space) ≡ searchSpace) × (seeds ≤ capacity) ⌝ }
+    ensures { λ r. ⌜ now (space .exit) ≡ spaceAfter (now (space .entry)) (visitsIn (now (rows .entry)) goals seeds (now (space .entry)) closed) ⌝ }
+    ensures { λ r. ⌜ r ≡ reachOf (visitsIn (now (rows .entry)) goals seeds (now (space .entry)) closed) ⌝ }
+{
+    let mut count = seeds;
+    let mut shut = closed;
     let mut head = 0;
     while head < count {
-        let row = graph::row(rows, order[head]);
+        let row = graph::row(rows, space[head]);
         let goal = row.minus(row.minus(goals)).next_from(0);
         if goal < VertexSet::CAPACITY {
             return Reach {
-                order,
-                from,
                 count,
-                seeds: first,
+                seeds,
                 shut,
                 goal,
                 last: head,
             };
         }
-        let next = put_members(&mut order, count, row.minus(shut));
-        put_copies(&mut from, count, next - count, head as u16);
-        count = next;
+        count = put_reached(space, count, row.minus(shut), head as u16);
         shut = shut.union(row);
         head += 1;
     }
     Reach {
-        order,
-        from,
         count,
-        seeds: first,
+        seeds,
         shut,
         goal: VertexSet::CAPACITY,
         last: head,
     }
 }
 
-fn entry(items: &[u16; VertexSet::CAPACITY as usize], i: usize) -> u16
-    requires { ⌜ length (now items) ≡ capacity ⌝ }
-    ensures { λ r. ⌜ r ≡ getD (now (items .entry)) i 0 ⌝ }
+// THE SEARCH. What stands in the space is not read, and only what is reached is written: nothing is cleared. In a space of another
+// size nothing is searched.
+pub fn explore<'a>(
+    rows: &'a [u64; Graph::ROW_WORDS],
+    space: &'a mut [u16],
+    seeds: VertexSet,
+    goals: VertexSet,
+    removed: VertexSet,
+) -> Reach
+    ensures { λ r. ⌜ now (space .exit) ≡ leftIn (now (space .entry)) (explore (now (rows .entry)) seeds goals removed) ⌝ }
+    ensures { λ r. ⌜ r ≡ answerIn (now (space .entry)) (explore (now (rows .entry)) seeds goals removed) ⌝ }
 {
-    if i < VertexSet::CAPACITY as usize {
-        return items[i];
+    if space.len() != Reach::SPACE {
+        return Reach {
+            count: 0,
+            seeds: 0,
+            shut: VertexSet::empty(),
+            goal: VertexSet::CAPACITY,
+            last: 0,
+        };
     }
-    0
+    let count = put_reached(space, 0, seeds, 0);
+    visit(rows, space, goals, count, seeds.union(removed))
 }
 
-// The path that was found, from its goal back to a seed.
-pub fn route(r: Reach) -> Path
-    ensures { λ p. ⌜ p ≡ pathOf (routeIn r) ⌝ }
+// The number at place i of the list of this length that begins at a place; 0 behind its end.
+pub fn entry(items: &[u16], start: usize, count: usize, i: usize) -> u16
+    ensures { λ r. ⌜ r ≡ getD (take count (drop start (now (items .entry)))) i 0 ⌝ }
 {
-    let order = r.order;
-    let from = r.from;
+    if count <= i {
+        return 0;
+    }
+    if items.len() < start {
+        return 0;
+    }
+    if items.len() - start <= i {
+        return 0;
+    }
+    items[start + i]
+}
+
+// The path that was found, from its goal back to a seed, out of the space that the search left.
+pub fn route(space: &[u16], r: Reach) -> Path
+    ensures { λ p. ⌜ p ≡ pathOf (routeIn (now (space .entry)) r) ⌝ }
+{
     let mut vertices = [0u16; Path::ROOM];
     vertices[0] = r.goal;
     let mut count = 1;
@@ -159,12 +210,12 @@ pub fn route(r: Reach) -> Path
     let mut left = VertexSet::CAPACITY;
     while 0 < left {
         left -= 1;
-        vertices[count] = entry(&order, i);
+        vertices[count] = entry(space, 0, r.count, i);
         count += 1;
         if i < r.seeds {
             return Path { vertices, count };
         }
-        i = entry(&from, i) as usize;
+        i = entry(space, Reach::HALF, r.count, i) as usize;
     }
     Path { vertices, count }
 }

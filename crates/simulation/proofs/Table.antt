@@ -12,9 +12,9 @@ use borrow.Author.Tests.{eqb-true, eq-eqb, lt-ltb, ltb-true, not-true}
 use Rattle.vertexset.specs.Set.{has, withBit}
 use Rattle.vertexset.proofs.Laws.{has-insert, has-remove}
 use Rattle.graph.specs.Plan.{maxVertices}
-use Rattle.graph.specs.Rows.{adjacentIn, rowBits, rowWords, joined}
+use Rattle.graph.specs.Rows.{adjacentIn, rowBits, rowWords, joined, joinedRows}
 use Rattle.connectivity.proofs.Lists.{and-true, or-true, true-or, clash}
-use Rattle.build.specs.State.{linkedWith, linkedWithout, withoutBit}
+use Rattle.build.specs.State.{linkedWithout, withoutBit}
 use Rattle.connectivity.proofs.Paths.{SamePair}
 use Rattle.simulation.proofs.Tests.{same-test, samePair, pair-tells, both-true, left-true, false-of}
 
@@ -90,15 +90,15 @@ module _ (T : List ℕ) (long : length T ≡ rowWords) (x y : ℕ) (h : Low x y)
   other-place : (U : List ℕ) → length U ≡ length T → y * rowBits + x < 64 * length U
   other-place U l = omega (arith, h)
 
-  pub with-length : length (linkedWith T x y) ≡ rowWords
+  pub with-length : length (joinedRows T x y) ≡ rowWords
   with-length = rw (lt-ltb x maxVertices (h .0), lt-ltb y maxVertices (h .1)) (simp length-set long)
 
   pub without-length : length (linkedWithout T x y) ≡ rowWords
   without-length = rw (lt-ltb x maxVertices (h .0), lt-ltb y maxVertices (h .1)) (simp length-set long)
 
   -- one link more
-  linked-with : (u v : ℕ) → adjacentIn (linkedWith T x y) u v ≡ (adjacentIn T u v || samePair u v x y)
-  linked-with = changed x y h _||_ refl T (linkedWith T x y) (λ i. rw (lt-ltb x maxVertices (h .0), lt-ltb y maxVertices (h .1)) (at i))
+  linked-with : (u v : ℕ) → adjacentIn (joinedRows T x y) u v ≡ (adjacentIn T u v || samePair u v x y)
+  linked-with = changed x y h _||_ refl T (joinedRows T x y) (λ i. rw (lt-ltb x maxVertices (h .0), lt-ltb y maxVertices (h .1)) (at i))
     where
       at : (i : ℕ) → has (joined T (x, y)) i ≡ (has T i || (eqb i (x * rowBits + y) || eqb i (y * rowBits + x)))
       at i =
@@ -116,7 +116,7 @@ module _ (T : List ℕ) (long : length T ≡ rowWords) (x y : ℕ) (h : Low x y)
           has-remove U (y * rowBits + x) (other-place U (simp length-set)) i
           ∙ ap (λ (t : Bool). t && not (eqb i (y * rowBits + x))) (has-remove T (x * rowBits + y) first-place i) ∙ neither (has T i) (eqb i (x * rowBits + y)) (eqb i (y * rowBits + x))
 
-  pub with-tells : (u v : ℕ) → (adjacentIn (linkedWith T x y) u v ≡ true) ↔ ((adjacentIn T u v ≡ true) ⊎ SamePair u v x y)
+  pub with-tells : (u v : ℕ) → (adjacentIn (joinedRows T x y) u v ≡ true) ↔ ((adjacentIn T u v ≡ true) ⊎ SamePair u v x y)
   with-tells u v = (λ e. ⊎-map (λ k. k) (pair-tells u v x y .0) (or-true (adjacentIn T u v) (samePair u v x y) (sym (linked-with u v) ∙ e)), λ k. linked-with u v ∙ ⊎-elim (left-true (samePair u v x y)) (λ p. true-or (adjacentIn T u v) (samePair u v x y) (pair-tells u v x y .1 p)) k)
 
   pub without-tells : (u v : ℕ) → (adjacentIn (linkedWithout T x y) u v ≡ true) ↔ ((adjacentIn T u v ≡ true) × (¬ SamePair u v x y))

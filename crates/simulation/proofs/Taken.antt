@@ -13,7 +13,7 @@ use Rattle.vertexset.specs.Set.{has, emptySet, inserted, wordCount}
 use Rattle.vertexset.specs.declared.VertexSet.{VertexSet}
 use Rattle.vertexset.proofs.Laws.{has-empty, has-union, inserted-has, inserted-length, wordwise-length}
 use Rattle.graph.specs.Plan.{maxVertices}
-use Rattle.graph.specs.Rows.{adjacentIn}
+use Rattle.graph.specs.Rows.{adjacentIn, joinedRows}
 use Rattle.connectivity.specs.Lists.{In, NoDup, member}
 use Rattle.connectivity.specs.Graph.{Adj}
 use Rattle.connectivity.specs.Path.{vertices, End}
@@ -28,7 +28,7 @@ use Rattle.certificates.specs.Tests.{inBuild, isBranch}
 use Rattle.build.specs.declared.Build.{Build}
 use Rattle.build.specs.declared.Addition.the-variants.{VertexVertex, EdgeVertex, EdgeEdge}
 use Rattle.build.specs.Ends.{linkEnd, sameLink}
-use Rattle.build.specs.State.{pathAddition, linkedWith, linkedWithout, splitAt, splitBy, pointBack, pointOn, entered, raised, pathTaken}
+use Rattle.build.specs.State.{pathAddition, linkedWithout, splitAt, splitBy, pointBack, pointOn, entered, raised, pathTaken}
 use Rattle.simulation.proofs.Tests.{iff-test, false-of, left-true, built-tells, branch-tells}
 use Rattle.simulation.proofs.Pointers.{Back, On, back-cut, on-cut, back-same, on-same, back-other, on-other, back-set, on-set, back-length, on-length}
 use Rattle.simulation.proofs.Table.{Low, with-length, without-length, with-tells, without-tells}
@@ -45,7 +45,7 @@ module _ (T : List ℕ) (links : List Path) (h : Listed T links) where
       let c = low x (inner-in x K (one .inside)) in
       let T1 = linkedWithout T (K .s) (K .t) in
       let l1 = without-length T (h .long) (K .s) (K .t) (a, b) in
-      let T2 = linkedWith T1 (K .s) x in
+      let T2 = joinedRows T1 (K .s) x in
       let l2 = with-length T1 l1 (K .s) x (a, c) in
       record {
         long = with-length T2 l2 x (K .t) (c, b);
@@ -60,7 +60,7 @@ module _ (T : List ℕ) (links : List Path) (h : Listed T links) where
             );
       }
 
-  pub listed-more : (P : Path) → AllLow (vertices P) → Listed (linkedWith T (P .s) (P .t)) (P ∷ links)
+  pub listed-more : (P : Path) → AllLow (vertices P) → Listed (joinedRows T (P .s) (P .t)) (P ∷ links)
   listed-more P low =
       let d : Low (P .s) (P .t) = (low (P .s) (end-s P), low (P .t) (end-t P)) in
       record {

@@ -21,7 +21,7 @@ point-on-requires c κs =
 returns : tie.Need-returns
 returns c =
     let p = c .before .before .before in
-    (refl, same-build refl (c .union .ensures) (p .before .before .before .point-back .ensures) (p .point-on .ensures) (c .before .add-link .ensures))
+    (refl, same-build refl (c .union .ensures) (p .before .before .before .point-back .ensures) (p .point-on .ensures) (c .before .join .ensures))
 
 pub enter-spec : {M : Type 1} → statement M
 enter-spec = tie.close (tie.spec point-back-requires point-on-requires (λ c κs. search needs) (λ c κs. search needs) returns)

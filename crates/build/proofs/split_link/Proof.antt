@@ -5,7 +5,7 @@ use Rattle.build.proofs.split_link.Statement.{statement}
 use Rattle.build.proofs.split_link.Tie as tie
 
 returns : tie.Need-returns
-returns c = c .add-link2 .ensures ∙ rw (c .before .before .add-link .ensures, c .before .before .before .before .remove-link .ensures)
+returns c = c .join2 .ensures ∙ rw (c .before .before .join .ensures, c .before .before .before .before .remove-link .ensures)
 
 pub split-link-spec : {M : Type 1} → statement M
 split-link-spec = tie.close (tie.spec (λ c κs. search needs) (λ c κs. search needs) (λ c κs. search needs) returns)

@@ -1,65 +1,65 @@
 -- `certifier::certificate` meets its contract. Assumes nothing.
-use mathlib.Core.Path.{ap, _∙_}
+use Prim.Native.Nat.{ℕ}
+use mathlib.Core.Path.{_≡_, ap, _∙_}
+use lib.ListN.{length, replicate, length-replicate}
 use borrow.Author.Needs.{needs}
+use Rattle.search.specs.Code.{searchSpace}
 use Rattle.certifier.specs.Code.{numbersOf}
-use Rattle.certifier.proofs.Certificates.{tree-is, tree-low, begin-kept, whole-apart, whole-cut, whole-built}
+use Rattle.certifier.proofs.Answered.{tree-is}
+use Rattle.certifier.proofs.Certificates.{begin-kept, whole-apart, whole-cut, whole-built}
 use Rattle.certifier.proofs.certificate.Statement.{statement}
 use Rattle.certifier.proofs.certificate.Tie as tie
 
-cut-certificate-requires : tie.Need-cut-certificate-requires
-cut-certificate-requires c κs =
-    let x = c .before .before .before .before .before in
-    let s = x .before .before .before .before .before in
-    tree-low (s .args .rows .now) (tree-is (s .args .rows .now) (x .before .before .before .single .ensures) (x .before .before .empty .ensures) (x .before .empty2 .ensures) (x .explore .ensures))
-
 returns : tie.Need-returns
 returns c =
-    let x = c .before .before .before .before .before .before in
-    let s = x .before .before .before .before .before in
-    let t = tree-is (s .args .rows .now) (x .before .before .before .single .ensures) (x .before .before .empty .ensures) (x .before .empty2 .ensures) (x .explore .ensures) in
-    let e = c .before .before .before in
-    c .cut-certificate .ensures ∙ ap numbersOf
-    (whole-apart (s .args .rows .now) (s .args .n) (x .before .before .before .before .full-set .ensures) t (e .before .minus .ensures) (e .is-empty .ensures) (c .before .before .if1 .taken) (c .before .empty3 .ensures))
-
-cut-certificate-requires-2 : tie.Need-cut-certificate-requires-2
-cut-certificate-requires-2 c κs =
-    let x = c .before .before .before .before .before .before .before .before in
-    let s = x .before .before .before .before .before in
-    tree-low (s .args .rows .now) (tree-is (s .args .rows .now) (x .before .before .before .single .ensures) (x .before .before .empty .ensures) (x .before .empty2 .ensures) (x .explore .ensures))
+    let i = c .before .before .before .before in
+    let m = i .before .before in
+    let x = m .before .before .before in
+    let s = x .before .before .before .before .before .before in
+    let a = s .args in
+    let z : length {A = ℕ} (replicate searchSpace 0) ≡ searchSpace = length-replicate {A = ℕ} searchSpace 0 in
+    let t = tree-is (a .rows .now) (replicate searchSpace 0) z (x .before .before .before .single .ensures) (x .before .before .empty .ensures) (x .before .empty2 .ensures) (x .explore .ensures .1) in
+    c .before .cut-certificate .ensures ∙ ap numbersOf
+    (whole-apart (a .rows .now) (a .n) (x .before .before .before .before .before .full-set .ensures) t (m .minus .ensures) (i .before .is-empty .ensures) (i .if1 .taken) (c .before .before .before .empty3 .ensures))
 
 returns-2 : tie.Need-returns-2
 returns-2 c =
-    let y = c .before .before .before .before in
-    let x = y .before .before .before .before .before in
-    let s = x .before .before .before .before .before in
-    let t = tree-is (s .args .rows .now) (x .before .before .before .single .ensures) (x .before .before .empty .ensures) (x .before .empty2 .ensures) (x .explore .ensures) in
-    let e = y .before .before in
-    c .cut-certificate2 .ensures ∙ ap numbersOf
-    (whole-cut (s .args .rows .now) (s .args .n) (x .before .before .before .before .full-set .ensures) t (e .before .minus .ensures) (e .is-empty .ensures) (y .before .if1 .left) (y .begin .ensures)
-    (c .before .before .is-cut .ensures) (c .before .if2 .taken))
+    let y = c .before .before .before .before .before .before .before in
+    let i = y .before .before in
+    let m = i .before .before in
+    let x = m .before .before .before in
+    let s = x .before .before .before .before .before .before in
+    let a = s .args in
+    let z : length {A = ℕ} (replicate searchSpace 0) ≡ searchSpace = length-replicate {A = ℕ} searchSpace 0 in
+    let t = tree-is (a .rows .now) (replicate searchSpace 0) z (x .before .before .before .single .ensures) (x .before .before .empty .ensures) (x .before .empty2 .ensures) (x .explore .ensures .1) in
+    c .before .cut-certificate2 .ensures ∙ ap numbersOf
+    (whole-cut (a .rows .now) (a .n) (x .before .before .before .before .before .full-set .ensures) t (m .minus .ensures) (i .before .is-empty .ensures) (i .if1 .left) (y .begin .ensures)
+    (c .before .before .before .before .is-cut .ensures) (c .before .before .before .if2 .taken))
 
 build-certificate-requires : tie.Need-build-certificate-requires
 build-certificate-requires c κs =
-    let y = c .before .before .before in
-    let x = y .before .before .before .before .before in
-    let s = x .before .before .before .before .before in
-    let t = tree-is (s .args .rows .now) (x .before .before .before .single .ensures) (x .before .before .empty .ensures) (x .before .empty2 .ensures) (x .explore .ensures) in
-    (tree-low (s .args .rows .now) t, (s .pre, begin-kept (s .args .rows .now) (y .begin .result) (y .begin .ensures)))
+    let y = c .before .before .before .before .before in
+    let s = y .before .before .before .before .before .before .before .before .before .before .before .before .before in
+    (search needs, (s .pre, begin-kept (s .args .rows .now) (y .begin .result) (y .begin .ensures)))
 
 returns-3 : tie.Need-returns-3
 returns-3 c =
-    let y = c .before .before .before .before in
-    let x = y .before .before .before .before .before in
-    let s = x .before .before .before .before .before in
-    let t = tree-is (s .args .rows .now) (x .before .before .before .single .ensures) (x .before .before .empty .ensures) (x .before .empty2 .ensures) (x .explore .ensures) in
-    let e = y .before .before in
-    c .build-certificate .ensures ∙ ap numbersOf
-    (whole-built (s .args .rows .now) (s .args .n) (x .before .before .before .before .full-set .ensures) t (e .before .minus .ensures) (e .is-empty .ensures) (y .before .if1 .left) (y .begin .ensures)
-    (c .before .before .is-cut .ensures) (c .before .if2 .left))
+    let y = c .before .before .before .before .before .before .before in
+    let i = y .before .before in
+    let m = i .before .before in
+    let x = m .before .before .before in
+    let s = x .before .before .before .before .before .before in
+    let a = s .args in
+    let z : length {A = ℕ} (replicate searchSpace 0) ≡ searchSpace = length-replicate {A = ℕ} searchSpace 0 in
+    let t = tree-is (a .rows .now) (replicate searchSpace 0) z (x .before .before .before .single .ensures) (x .before .before .empty .ensures) (x .before .empty2 .ensures) (x .explore .ensures .1) in
+    c .before .build-certificate .ensures ∙ ap numbersOf
+    (whole-built (a .rows .now) (a .n) (x .before .before .before .before .before .full-set .ensures) t (m .minus .ensures) (i .before .is-empty .ensures) (i .if1 .left) (y .begin .ensures)
+    (c .before .before .before .before .is-cut .ensures) (c .before .before .before .if2 .left))
 
 pub certificate-spec : {M : Type 1} → statement M
 certificate-spec =
     tie.close
     (tie.spec
-    (λ c κs. search needs) (λ c κs. search needs) (λ c κs. search needs) (λ c κs. search needs) (λ c κs. search needs) (λ c κs. search needs) (λ c κs. search needs) (λ c κs. search needs)
-    cut-certificate-requires returns (λ c κs. search needs) (λ c κs. search needs) cut-certificate-requires-2 returns-2 build-certificate-requires returns-3)
+    (λ c κs. search needs) (λ c. search needs) (λ c κs. search needs) (λ c κs. search needs) (λ c κs. search needs) (λ c κs. search needs) (λ c κs. search needs)
+    (λ c κs. search needs) (λ c κs. search needs) (λ c. search needs) (λ c κs. search needs) returns (λ c. search needs) (λ c κs. search needs) (λ c κs. search needs)
+    (λ c. search needs) (λ c κs. search needs) returns-2 (λ c. search needs) build-certificate-requires returns-3)

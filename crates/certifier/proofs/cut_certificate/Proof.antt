@@ -7,48 +7,50 @@ use Rattle.certifier.proofs.cut_certificate.Statement.{statement}
 use Rattle.certifier.proofs.cut_certificate.Tie as tie
 
 cut-numbers-requires : tie.Need-cut-numbers-requires
-cut-numbers-requires c κs = (c .before .before .before .before .pre, none-short (c .no-ears .result) (c .no-ears .ensures))
+cut-numbers-requires c κs = (c .before .before .before .before .before .before .pre, none-short (c .no-ears .result) (c .no-ears .ensures))
 
 returns : tie.Need-returns
 returns c =
-    let e = c .before in
-    let n = e .before .before in
-    let a = n .before .before .args in
-    c .cut-numbers .ensures ∙ ap numbersOf (few-removed (a .tree) (a .rows .now) (a .full) (a .c) (n .size .ensures) (e .before .if1 .taken) (e .no-ears .result) (e .no-ears .ensures))
+    let e = c .before .before .before in
+    let n = e .before .before .before in
+    let a = n .before .before .before .args in
+    c .before .before .cut-numbers .ensures ∙ ap numbersOf (few-removed (a .rows .now) (a .full) (a .c) (n .size .ensures) (e .before .before .if1 .taken) (e .no-ears .result) (e .no-ears .ensures))
 
 cut-numbers-requires-2 : tie.Need-cut-numbers-requires-2
 cut-numbers-requires-2 c κs =
-    let e = c .before .before .before in
-    let s = e .before .before .before .before in
-    (s .pre, found-short (s .args .rows .now) (s .args .full) (e .find-ears .result) (e .find-ears .ensures))
+    let e = c .before .before .before .before .before .before in
+    let s = e .before .before .before .before .before .before in
+    (search needs, found-short (s .args .rows .now) (s .args .full) (e .find-ears .result) (e .find-ears .ensures))
 
 returns-2 : tie.Need-returns-2
 returns-2 c =
-    let e = c .before .before .before .before in
-    let n = e .before .before in
-    let a = n .before .before .args in
-    c .cut-numbers2 .ensures
+    let i = c .before .before .before .before in
+    let e = i .before .before .before .before .before in
+    let n = e .before .before .before in
+    let a = n .before .before .before .args in
+    c .before .before .cut-numbers2 .ensures
     ∙ ap numbersOf
-    (ears-fail (a .tree) (a .rows .now) (a .full) (a .c) (n .size .ensures) (e .before .if1 .left) (e .find-ears .result) (e .find-ears .ensures) (c .before .before .is-cut .ensures) (c .before .if2 .taken))
+    (ears-fail (a .rows .now) (a .full) (a .c) (n .size .ensures) (e .before .before .if1 .left) (e .find-ears .result) (e .find-ears .ensures) (i .before .is-cut .ensures) (i .if2 .taken))
 
 cut-numbers-requires-3 : tie.Need-cut-numbers-requires-3
 cut-numbers-requires-3 c κs =
-    let e = c .before .before .before in
-    let s = e .before .before .before .before in
-    (s .pre, found-short (s .args .rows .now) (s .args .full) (e .find-ears .result) (e .find-ears .ensures))
+    let e = c .before .before .before .before .before .before in
+    let s = e .before .before .before .before .before .before in
+    (search needs, found-short (s .args .rows .now) (s .args .full) (e .find-ears .result) (e .find-ears .ensures))
 
 returns-3 : tie.Need-returns-3
 returns-3 c =
-    let e = c .before .before .before .before in
-    let n = e .before .before in
-    let a = n .before .before .args in
-    c .cut-numbers3 .ensures
+    let i = c .before .before .before .before in
+    let e = i .before .before .before .before .before in
+    let n = e .before .before .before in
+    let a = n .before .before .before .args in
+    c .before .before .cut-numbers3 .ensures
     ∙ ap numbersOf
-    (ears-stand (a .tree) (a .rows .now) (a .full) (a .c) (n .size .ensures) (e .before .if1 .left) (e .find-ears .result) (e .find-ears .ensures) (c .before .before .is-cut .ensures) (c .before .if2 .left))
+    (ears-stand (a .rows .now) (a .full) (a .c) (n .size .ensures) (e .before .before .if1 .left) (e .find-ears .result) (e .find-ears .ensures) (i .before .is-cut .ensures) (i .if2 .left))
 
 pub cut-certificate-spec : {M : Type 1} → statement M
 cut-certificate-spec =
     tie.close
     (tie.spec
-    (λ c κs. search needs) (λ c κs. search needs) cut-numbers-requires returns (λ c κs. search needs) (λ c κs. search needs)
-    cut-numbers-requires-2 returns-2 cut-numbers-requires-3 returns-3)
+    (λ c κs. search needs) (λ c κs. search needs) cut-numbers-requires (λ c. search needs) returns (λ c κs. search needs) (λ c κs. search needs)
+    cut-numbers-requires-2 (λ c. search needs) returns-2 cut-numbers-requires-3 (λ c. search needs) returns-3)

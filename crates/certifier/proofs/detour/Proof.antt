@@ -8,18 +8,20 @@ use Rattle.certifier.proofs.detour.Tie as tie
 
 returns : tie.Need-returns
 returns c =
-    let e = c .before .before .before .before .before .before in
-    let a = e .before .before .args in
-    c .find-on .ensures
+    let f = c .before .before in
+    let i = f .before .before .before .before .before in
+    let e = i .before .before in
+    let a = e .before .before .before .args in
+    f .find-on .ensures
     ∙ ap foundOf
     (detour-found (a .rows .now) (a .full) (a .set) (e .before .minus .result) (e .way-out .result .inside) (e .way-out .result .outside)
-    (e .before .minus .ensures) (e .way-out .ensures .0) (e .way-out .ensures .1) _ _ _ (c .before .before .before .before .if1 .taken)
-    (c .before .before .before .single .ensures) (c .before .before .single2 .ensures) (c .before .minus2 .ensures))
+    (e .before .minus .ensures) (e .way-out .ensures .0) (e .way-out .ensures .1) _ _ _ (i .if1 .taken)
+    (f .before .before .before .single .ensures) (f .before .before .single2 .ensures) (f .before .minus2 .ensures))
 
 returns-2 : tie.Need-returns-2
 returns-2 c =
     let e = c .before .before .before .before in
-    let a = e .before .before .args in
+    let a = e .before .before .before .args in
     rw (c .before .no-path .ensures, c .empty .ensures)
     (ap foundOf
     (detour-none (a .rows .now) (a .full) (a .set) (e .before .minus .result) (e .way-out .result .inside) (e .way-out .result .outside)
@@ -30,4 +32,4 @@ detour-spec =
     tie.close
     (tie.spec
     (λ c κs. search needs) (λ c κs. search needs) (λ c κs. search needs) (λ c κs. search needs) (λ c κs. search needs) (λ c κs. search needs)
-    returns (λ c κs. search needs) (λ c κs. search needs) returns-2)
+    (λ c. search needs) returns (λ c κs. search needs) (λ c κs. search needs) returns-2)

@@ -8,14 +8,14 @@ use Rattle.certifier.proofs.off_link.Tie as tie
 
 returns : tie.Need-returns
 returns c =
-    let w = c .before .before .before in
+    let w = c .before .before .before .before .before .before in
     let p = w .before .before .before in
     let n = p .before .before .before in
-    let a = n .before .before .args in
-    c .find .ensures
+    let a = n .before .before .before .args in
+    c .before .before .find .ensures
     ∙ ap foundOf
     (off-found (a .rows .now) (a .list .now) (a .built) (a .i) (a .j) (n .before2 .ensures) (p .before .before .number-at .ensures) (p .before .number-at2 .ensures)
-    (p .pair .ensures) (w .before .before .empty .ensures) (w .with-all .ensures) (c .before .before .minus .ensures) (c .before .minus2 .ensures))
+    (p .pair .ensures) (w .before .before .empty .ensures) (w .with-all .ensures) (c .before .before .before .before .minus .ensures) (c .before .before .before .minus2 .ensures))
 
 pub off-link-spec : {M : Type 1} → statement M
 off-link-spec =
@@ -23,4 +23,4 @@ off-link-spec =
     (tie.spec
     (λ c κs. search needs) (λ c κs. search needs) (λ c κs. search needs) (λ c κs. search needs) (λ c κs. search needs)
     (λ c. search needs) (λ c. search needs) (λ c. search needs) (λ c. search needs)
-    (λ c κs. search needs) (λ c κs. search needs) (λ c κs. search needs) (λ c κs. search needs) returns)
+    (λ c κs. search needs) (λ c κs. search needs) (λ c κs. search needs) (λ c κs. search needs) (λ c. search needs) returns)

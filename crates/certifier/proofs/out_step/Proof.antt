@@ -10,78 +10,84 @@ use Rattle.certifier.proofs.out_step.Tie as tie
 returns : tie.Need-returns
 returns c =
     let e = c .before .before .before in
-    let s = e .before .before .before .before in
+    let s = e .before .before .before .before .before in
     let a = s .args in
-    out-done (a .rows .now) (a .full) (a .flat .now) (a .b) (s .pre) (e .before .minus .ensures) (e .is-empty .ensures) (c .before .before .if1 .taken)
+    out-done (a .rows .now) (a .full) (a .flat .now) (a .b) (s .pre .1) (e .before .minus .ensures) (e .is-empty .ensures) (c .before .before .if1 .taken)
     (c .before .none .ensures) (c .stopped .ensures)
 
 returns-2 : tie.Need-returns-2
 returns-2 c =
-    let d = c .before .before .before .before in
-    let e = d .before .before in
-    let s = e .before .before .before .before in
+    let d = c .before .before .before .before .before .before in
+    let e = d .before .before .before in
+    let s = e .before .before .before .before .before in
     let a = s .args in
-    out-stops (a .rows .now) (a .full) (a .flat .now) (a .b) (s .pre) (e .before .minus .ensures) (e .is-empty .ensures) (d .before .if1 .left)
+    out-stops (a .rows .now) (a .full) (a .flat .now) (a .b) (s .pre .1) (e .before .minus .ensures) (e .is-empty .ensures) (d .before .before .if1 .left)
     (d .detour .ensures) (c .before .before .is-cut .ensures) (c .before .if2 .taken) (c .stopped2 .ensures)
 
-part-pair-place-end : tie.Need-part-pair-place-end
-part-pair-place-end c =
-    let s = c .before .before .before .before .before .before .before .before .before .before .before .before in
-    omega (arith, kept-length (s .args .flat .now) (s .args .b .len) (s .pre), s .pre .1)
+part-beside-end : tie.Need-part-beside-end
+part-beside-end c =
+    let s = c .before .before .before .before .before .before .before .before .before .before .before .before .before .before .before .before in
+    omega (arith, kept-length (s .args .flat .now) (s .args .b .len) (s .pre .1), s .pre .1 .1)
 
 part-last-of-end : tie.Need-part-last-of-end
 part-last-of-end c =
-    let d = c .before .before .before .before .before .before .before .before in
-    let a = d .before .before .before .before .before .before .args in
+    let d = c .before .before .before .before .before .before .before .before .before .before in
+    let a = d .before .before .before .before .before .before .before .before .args in
     detour-fits (a .rows .now) (a .full) (a .b .built) (d .detour .result) (d .detour .ensures)
 
 part-number-at-end : tie.Need-part-number-at-end
 part-number-at-end c =
-    let d = c .before .before .before .before .before .before .before .before .before .before .before in
-    let a = d .before .before .before .before .before .before .args in
+    let d = c .before .before .before .before .before .before .before .before .before .before .before .before .before in
+    let a = d .before .before .before .before .before .before .before .before .args in
     detour-fits (a .rows .now) (a .full) (a .b .built) (d .detour .result) (d .detour .ensures)
 
 part-reroute-end : tie.Need-part-reroute-end
 part-reroute-end c =
-    let d = c .before .before .before .before .before .before .before .before .before .before .before .before .before .before .before .before .before in
-    let a = d .before .before .before .before .before .before .args in
+    let d = c .before .before .before .before .before .before .before .before .before .before .before .before .before .before .before .before .before .before .before in
+    let a = d .before .before .before .before .before .before .before .before .args in
     detour-fits (a .rows .now) (a .full) (a .b .built) (d .detour .result) (d .detour .ensures)
 
 reroute-requires : tie.Need-reroute-requires
 reroute-requires c κs =
-    let d = c .before .before .before .before .before .before .before .before .before .before .before .before .before .before .before .before .before .before in
-    let s = d .before .before .before .before .before .before in
+    let d = c .before .before .before .before .before .before .before .before .before .before .before .before .before .before .before .before .before .before .before .before in
+    let s = d .before .before .before .before .before .before .before .before in
     let a = s .args in
-    (s .pre, (c .before .before .before .if3 .taken, part-short (a .rows .now) (a .full) (a .b .built) (d .detour .result) (d .detour .ensures)))
+    (s .pre .1, (c .before .before .before .if3 .taken, part-short (a .rows .now) (a .full) (a .b .built) (d .detour .result) (d .detour .ensures)))
+
+same-length-2 : tie.Need-same-length-2
+same-length-2 c = c .before .before .before .before .before .before .before .before .before .before .before .before .before .before .before .before .before .before .before .before .before .before .space .given
 
 returns-3 : tie.Need-returns-3
 returns-3 c =
     let k = c .before .before .before .before .before .before .before in
     let t = k .before .before .before .before .before .before .before .before .before .before .before in
-    let d = t .before .before .before in
-    let e = d .before .before in
-    let s = e .before .before .before .before in
+    let d = t .before .before .before .before .before in
+    let e = d .before .before .before in
+    let s = e .before .before .before .before .before in
     let a = s .args in
-    out-reroutes (a .rows .now) (a .full) (a .flat .now) (a .b) (s .pre) (e .before .minus .ensures) (e .is-empty .ensures) (d .before .if1 .left)
-    (d .detour .ensures) (t .before .is-cut .ensures) (t .if2 .left) (k .before .before .before .before .last-of .ensures) (k .before .number-at .ensures) (k .pair-place .ensures)
+    out-reroutes (a .rows .now) (a .full) (a .flat .now) (a .b) (s .pre .1) (e .before .minus .ensures) (e .is-empty .ensures) (d .before .before .if1 .left)
+    (d .detour .ensures) (t .before .is-cut .ensures) (t .if2 .left) (k .before .before .before .before .last-of .ensures) (k .before .number-at .ensures) (k .beside .ensures)
     (c .before .before .before .before .before .before .if3 .taken) (c .before .before .reroute .ensures)
 
 part-extend-end : tie.Need-part-extend-end
 part-extend-end c =
-    let d = c .before .before .before .before .before .before .before .before .before .before .before .before .before .before .before .before .before in
-    let a = d .before .before .before .before .before .before .args in
+    let d = c .before .before .before .before .before .before .before .before .before .before .before .before .before .before .before .before .before .before .before in
+    let a = d .before .before .before .before .before .before .before .before .args in
     detour-fits (a .rows .now) (a .full) (a .b .built) (d .detour .result) (d .detour .ensures)
+
+same-length-4 : tie.Need-same-length-4
+same-length-4 c = c .before .before .before .before .before .before .before .before .before .before .before .before .before .before .before .before .before .before .before .before .before .before .space .given
 
 returns-4 : tie.Need-returns-4
 returns-4 c =
     let k = c .before .before .before .before .before .before .before in
     let t = k .before .before .before .before .before .before .before .before .before .before .before in
-    let d = t .before .before .before in
-    let e = d .before .before in
-    let s = e .before .before .before .before in
+    let d = t .before .before .before .before .before in
+    let e = d .before .before .before in
+    let s = e .before .before .before .before .before in
     let a = s .args in
-    out-extends (a .rows .now) (a .full) (a .flat .now) (a .b) (s .pre) (e .before .minus .ensures) (e .is-empty .ensures) (d .before .if1 .left)
-    (d .detour .ensures) (t .before .is-cut .ensures) (t .if2 .left) (k .before .before .before .before .last-of .ensures) (k .before .number-at .ensures) (k .pair-place .ensures)
+    out-extends (a .rows .now) (a .full) (a .flat .now) (a .b) (s .pre .1) (e .before .minus .ensures) (e .is-empty .ensures) (d .before .before .if1 .left)
+    (d .detour .ensures) (t .before .is-cut .ensures) (t .if2 .left) (k .before .before .before .before .last-of .ensures) (k .before .number-at .ensures) (k .beside .ensures)
     (c .before .before .before .before .before .before .if3 .left) (c .before .before .extend .ensures)
 
 pub out-step-spec : {M : Type 1} → statement M
@@ -89,7 +95,7 @@ out-step-spec =
     tie.close
     (tie.spec
     (λ c κs. search needs) (λ c κs. search needs) (λ c κs. search needs) (λ c κs. search needs) returns (λ c κs. search needs)
-    (λ c κs. search needs) (λ c κs. search needs) returns-2 (λ c. search needs) (λ c. search needs) part-pair-place-end
+    (λ c κs. search needs) (λ c κs. search needs) (λ c. search needs) returns-2 (λ c. search needs) (λ c. search needs) part-beside-end
     (λ c. search needs) (λ c. search needs) part-last-of-end (λ c κs. search needs) (λ c. search needs) (λ c. search needs) part-number-at-end
-    (λ c κs. search needs) (λ c κs. search needs) (λ c. search needs) (λ c. search needs) part-reroute-end reroute-requires (λ c. search needs) returns-3
-    (λ c. search needs) (λ c. search needs) part-extend-end (λ c κs. search needs) (λ c. search needs) returns-4)
+    (λ c κs. search needs) (λ c κs. search needs) (λ c. search needs) (λ c. search needs) part-reroute-end reroute-requires same-length-2 (λ c. search needs) returns-3
+    (λ c. search needs) (λ c. search needs) part-extend-end (λ c κs. search needs) same-length-4 (λ c. search needs) returns-4)

@@ -8,21 +8,23 @@ use Rattle.certifier.proofs.path_across.Tie as tie
 
 returns : tie.Need-returns
 returns c =
-    let w = c .before .before in
+    let f = c .before .before in
+    let g = f .before .before in
+    let w = g .before in
     let m = w .before .before in
     let p = m .before .before .before in
     let n = p .before in
-    let a = n .before .before .before .args in
-    c .find .ensures
+    let a = n .before .before .before .before .args in
+    f .find .ensures
     ∙ ap foundOf
-    (across-found (a .rows .now) (a .around .now) (a .third .now) (p .pair .result) (m .minus .result) (c .before .minus2 .result)
+    (across-found (a .rows .now) (a .around .now) (a .third .now) (p .pair .result) (m .minus .result) (g .minus2 .result)
     (m .before .with-all .result) (w .with-all2 .result) (w .before .empty2 .result) (m .before .before .empty .result) (n .number-at .result)
     (n .number-at .ensures) (p .pair .ensures) (m .before .before .empty .ensures) (m .before .with-all .ensures) (m .minus .ensures)
-    (w .before .empty2 .ensures) (w .with-all2 .ensures) (c .before .minus2 .ensures))
+    (w .before .empty2 .ensures) (w .with-all2 .ensures) (g .minus2 .ensures))
 
 pub path-across-spec : {M : Type 1} → statement M
 path-across-spec =
     tie.close
     (tie.spec
     (λ c κs. search needs) (λ c κs. search needs) (λ c κs. search needs) (λ c κs. search needs) (λ c κs. search needs) (λ c κs. search needs)
-    (λ c κs. search needs) (λ c κs. search needs) (λ c κs. search needs) returns)
+    (λ c κs. search needs) (λ c κs. search needs) (λ c κs. search needs) (λ c. search needs) returns)

@@ -1,6 +1,6 @@
 -- `certifier::six_links` meets its contract: one link after the other, at the front of the array. Assumes nothing.
 use Prim.Native.Nat.{_+_}
-use mathlib.Core.Path.{_≡_, refl}
+use mathlib.Core.Path.{_≡_, _∙_}
 use native.Mathlib.Omega.{arith}
 use borrow.Author.Needs.{needs}
 use lib.ListN.{length}
@@ -13,32 +13,49 @@ use Rattle.certifier.proofs.six_links.Tie as tie
 
 add-next-from : tie.Need-add-next-from
 add-next-from c =
-    let a = c .before .args in
+    let a = c .before .before .args in
     let l : length (a .four .words) ≡ wordCount = search needs in
     omega (arith, next-low (a .four) 0 l, c .next-from .ensures)
 
 add-next-from-2 : tie.Need-add-next-from-2
 add-next-from-2 c =
-    let a = c .before .before .args in
+    let a = c .before .before .before .args in
     let l : length (a .four .words) ≡ wordCount = search needs in
     omega (arith, next-low (a .four) (c .before .next-from .result + 1) l, c .next-from2 .ensures)
 
 add-next-from-3 : tie.Need-add-next-from-3
 add-next-from-3 c =
-    let a = c .before .before .before .args in
+    let a = c .before .before .before .before .args in
     let l : length (a .four .words) ≡ wordCount = search needs in
     omega (arith, next-low (a .four) (c .before .next-from2 .result + 1) l, c .next-from3 .ensures)
 
+add-link-requires-5 : tie.Need-add-link-requires-5
+add-link-requires-5 c κs = omega (arith, c .before .before .before .before .before .before .before .before .before .before .before .before .before .before .before .before .before .before .before .before .before .before .before .before .before .before .before .before .before .before .before .pre)
+
+add-link-requires-6 : tie.Need-add-link-requires-6
+add-link-requires-6 c κs = omega (arith, c .before .before .before .before .before .before .before .before .before .before .before .before .before .before .before .before .before .before .before .before .before .before .before .before .before .before .before .before .before .before .before .before .before .before .before .before .before .pre)
+
+same-length : tie.Need-same-length
+same-length c =
+    let y6 = c .before .before .before .before in
+    let y5 = y6 .before .before .before .before .before .before in
+    let y4 = y5 .before .before .before .before .before .before in
+    let y3 = y4 .before .before .before .before .before .before in
+    let y2 = y3 .before .before .before .before .before .before in
+    let y1 = y2 .before .before .before .before .before .before in
+    y6 .add-link6 .kept .1 .0 ∙ y5 .add-link5 .kept .1 .0 ∙ y4 .add-link4 .kept .1 .0
+    ∙ y3 .add-link3 .kept .1 .0 ∙ y2 .add-link2 .kept .1 .0 ∙ y1 .add-link .kept .1 .0
+
 returns : tie.Need-returns
 returns c =
-    let y6 = c .before .before in
-    let y5 = y6 .before .before .before in
-    let y4 = y5 .before .before .before in
-    let y3 = y4 .before .before .before in
-    let y2 = y3 .before .before .before in
-    let y1 = y2 .before .before .before in
-    let n = y1 .before .before in
-    let a = n .before .before .before .before .args in
+    let y6 = c .before .before .before .before in
+    let y5 = y6 .before .before .before .before .before .before in
+    let y4 = y5 .before .before .before .before .before .before in
+    let y3 = y4 .before .before .before .before .before .before in
+    let y2 = y3 .before .before .before .before .before .before in
+    let y1 = y2 .before .before .before .before .before .before in
+    let n = y1 .before .before .before in
+    let a = n .before .before .before .before .before .args in
     let t = a .table .now in
     let p = n .before .before .before .next-from in
     let q = n .before .before .next-from2 in
@@ -58,4 +75,5 @@ six-links-spec =
     (tie.spec
     (λ c κs. search needs) add-next-from (λ c κs. search needs) add-next-from-2 (λ c κs. search needs) add-next-from-3 (λ c κs. search needs)
     (λ c. search needs) (λ c κs. search needs) (λ c. search needs) (λ c κs. search needs) (λ c. search needs) (λ c κs. search needs)
-    (λ c. search needs) (λ c κs. search needs) (λ c. search needs) (λ c κs. search needs) (λ c. search needs) (λ c κs. search needs) (λ c κs. search needs) returns)
+    (λ c. search needs) (λ c κs. search needs) (λ c. search needs) add-link-requires-5 (λ c. search needs) add-link-requires-6
+    (λ c κs. search needs) same-length returns)

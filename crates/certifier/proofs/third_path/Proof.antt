@@ -8,20 +8,22 @@ use Rattle.certifier.proofs.third_path.Tie as tie
 
 returns : tie.Need-returns
 returns c =
-    let s = c .before .before .before in
-    let m = s .before .before in
+    let f = c .before .before in
+    let s = f .before .before .before in
+    let x = s .before .before in
+    let m = x .before in
     let w = m .before .before in
-    let a = w .before .before .before .args in
-    c .find-on .ensures
+    let a = w .before .before .before .before .args in
+    f .find-on .ensures
     ∙ ap foundOf
     (third-found (a .rows .now) (a .around .now) (w .with-all .result) (m .before .row .result) (m .minus .result) (s .single .result)
-    (c .before .before .single2 .result) (c .before .minus2 .result) (w .before .empty .result) (s .before .next-from .result)
-    (w .before .empty .ensures) (w .with-all .ensures) (m .before .row .ensures) (m .minus .ensures) (s .before .next-from .ensures)
-    (s .single .ensures) (c .before .before .single2 .ensures) (c .before .minus2 .ensures))
+    (f .before .before .single2 .result) (f .before .minus2 .result) (w .before .empty .result) (x .next-from .result)
+    (w .before .empty .ensures) (w .with-all .ensures) (m .before .row .ensures) (m .minus .ensures) (x .next-from .ensures)
+    (s .single .ensures) (f .before .before .single2 .ensures) (f .before .minus2 .ensures))
 
 pub third-path-spec : {M : Type 1} → statement M
 third-path-spec =
     tie.close
     (tie.spec
     (λ c κs. search needs) (λ c κs. search needs) (λ c κs. search needs) (λ c κs. search needs) (λ c κs. search needs) (λ c κs. search needs)
-    (λ c κs. search needs) (λ c κs. search needs) (λ c κs. search needs) returns)
+    (λ c κs. search needs) (λ c κs. search needs) (λ c κs. search needs) (λ c. search needs) returns)

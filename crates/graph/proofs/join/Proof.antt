@@ -1,20 +1,20 @@
 -- `graph::join` meets its contract. Assumes nothing.
-use Prim.Native.Nat.{_%_}
+use mathlib.Core.Path.{_∙_}
+use mathlib.Core.Bool.{and-false}
 use borrow.Author.Needs.{needs}
-use native.Mathlib.Omega.{arith}
-use native.Mathlib.Nat.{one-mul}
-use lib.Dec.{lit<}
-use lib.Pow.{shl-exact}
-use Rattle.graph.proofs.Rows.{word-of, bit-of}
+use borrow.Author.Tests.{lt-ltb, le-ltb}
 use Rattle.graph.proofs.join.Statement.{statement}
 use Rattle.graph.proofs.join.Tie as tie
 
 returns : tie.Need-returns
-returns c =
-    let a = c .before .args in
-    rw (word-of (a .u) (a .v), bit-of (a .u) (a .v), shl-exact {a = 1} 1 (a .v % 64) 64 (lit< tt) (omega arith), one-mul)
+returns c = rw (le-ltb _ _ (c .if1 .taken))
+
+returns-2 : tie.Need-returns-2
+returns-2 c = rw (le-ltb _ _ (c .if2 .taken), and-false)
+
+returns-3 : tie.Need-returns-3
+returns-3 c =
+    c .set-bit2 .ensures ∙ rw (lt-ltb _ _ (c .before .before .before .before .before .if1 .left), lt-ltb _ _ (c .before .before .before .before .if2 .left), c .before .before .set-bit .ensures)
 
 pub join-spec : {M : Type 1} → statement M
-join-spec = tie.close (tie.spec
-    (λ c. search needs) (λ c. search needs) (λ c. search needs) (λ c. search needs) (λ c. search needs)
-    (λ c. search needs) (λ c. search needs) (λ c. search needs) (λ c. search needs) returns)
+join-spec = tie.close (tie.spec returns returns-2 (λ c κs. search needs) (λ c κs. search needs) returns-3)

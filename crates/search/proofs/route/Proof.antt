@@ -1,32 +1,34 @@
 -- `search::route` meets its contract: what was put so far, with the way back that is left, is the whole route. Assumes nothing.
-use borrow.Author.Needs.{needs}
 use native.Mathlib.Omega.{arith}
+use lib.ListN.{take, drop}
+use borrow.Author.Needs.{needs}
+use Rattle.making.specs.Sets.{capacity}
 use Rattle.search.specs.Code.{routeIn}
 use Rattle.search.proofs.Back.{Going, going-first, going-end, going-seed, going-on}
 use Rattle.search.proofs.route.Statement.{statement}
 use Rattle.search.proofs.route.Tie as tie
 
 abbrev Inv-loop : tie.InvT-loop
-Inv-loop r order from vertices₀ count₀ i₀ left₀ vertices count i left = Going order from (r .seeds) (routeIn r) vertices count i left
+Inv-loop space r vertices₀ count₀ i₀ left₀ vertices count i left = Going (take (r .count) space) (take (r .count) (drop capacity space)) (r .seeds) (routeIn space r) vertices count i left
 
 abbrev μ-loop : tie.MeasureT-loop
-μ-loop r order from vertices₀ count₀ i₀ left₀ vertices count i left = left
+μ-loop space r vertices₀ count₀ i₀ left₀ vertices count i left = left
 
 loop-holds : tie.Need-loop-holds Inv-loop μ-loop
-loop-holds c = let r = c .before .before .args .r in going-first (r .order) (r .from) (r .seeds) (r .goal) (r .last)
+loop-holds c = going-first _ _ _ _ _
 
 array-write-vertices-2 : tie.Need-array-write-vertices-2 Inv-loop μ-loop
-array-write-vertices-2 c = omega (arith, c .before .before .before .loop .inv .room)
+array-write-vertices-2 c = omega (arith, c .before .before .loop .inv .room)
 
 returns : tie.Need-returns Inv-loop μ-loop
 returns c =
-    let l = c .before .before .before .before .before .loop in
-    going-seed _ _ _ _ (l .vertices) (l .count) (l .i) (l .left) (l .inv) _ (c .before .before .entry .ensures) (c .before .before .before .before .loop-test .taken) (c .if1 .taken)
+    let l = c .before .before .before .before .loop in
+    going-seed _ _ _ _ (l .vertices) (l .count) (l .i) (l .left) (l .inv) _ (c .before .before .entry .ensures) (c .before .before .before .loop-test .taken) (c .if1 .taken)
 
 loop-again : tie.Need-loop-again Inv-loop μ-loop
 loop-again c =
-    let l = c .before .before .before .before .before .before .before .loop in
-    going-on _ _ _ _ (l .vertices) (l .count) (l .i) (l .left) (l .inv) _ (c .before .before .before .before .entry .ensures) (c .before .before .before .before .before .before .loop-test .taken) (c .before .before .if1 .left) (c .entry2 .ensures)
+    let l = c .before .before .before .before .before .loop in
+    going-on _ _ _ _ (l .vertices) (l .count) (l .i) (l .left) (l .inv) _ (c .before .before .before .entry .ensures) (c .before .before .before .before .loop-test .taken) (c .before .if1 .left) (c .entry2 .ensures)
 
 returns-2 : tie.Need-returns-2 Inv-loop μ-loop
 returns-2 c =

@@ -1,13 +1,13 @@
--- `build::set_bit` meets its contract. Assumes nothing.
+-- `graph::set_bit` meets its contract. Assumes nothing.
 use Prim.Native.Nat.{_%_}
 use borrow.Author.Needs.{needs}
 use native.Mathlib.Omega.{arith}
 use native.Mathlib.Nat.{one-mul}
 use lib.Dec.{lit<}
 use lib.Pow.{shl-exact}
 use Rattle.graph.proofs.Rows.{word-of, bit-of}
-use Rattle.build.proofs.set_bit.Statement.{statement}
-use Rattle.build.proofs.set_bit.Tie as tie
+use Rattle.graph.proofs.set_bit.Statement.{statement}
+use Rattle.graph.proofs.set_bit.Tie as tie
 
 returns : tie.Need-returns
 returns c =
