@@ -27,7 +27,7 @@ use Rattle.certificates.proofs.Sides.{decided-law, count-law, vertex-la
 use Rattle.certificates.proofs.Paths.{EarOk, ear-law, further-path-law}
 use Rattle.certificates.proofs.Items.{checked-law, decide-pair, decide-branch, pair-read-law, each-tree, tree-each, each-ears, ears-each, ears-inside, each-steps, steps-each, start-law}
 
-kind-low : (x : Certificate) → kind x ≤ 3
+pub kind-low : (x : Certificate) → kind x ≤ 3
 kind-low (separation S) = omega arith
 kind-low (tree c f ps S) = omega arith
 kind-low (ears c d P es S) = omega arith

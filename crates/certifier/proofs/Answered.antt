@@ -1,7 +1,7 @@
 -- What a search found, as the code's struct holds it. Assumes nothing.
 use Prim.Native.Nat.{ℕ, _≤_, _<_}
-use mathlib.Core.Path.{_≡_, sym, ap, subst, _∙_}
-use mathlib.Core.Bool.{true, false}
+use mathlib.Core.Path.{_≡_, refl, sym, ap, subst, _∙_}
+use mathlib.Core.Bool.{Bool, true, false, cond}
 use mathlib.Core.List.{List, [], _∷_, _++_, append-nil}
 use native.Mathlib.Omega.{arith}
 use lib.Dec.{ltb}
@@ -17,8 +17,9 @@ use Rattle.search.proofs.Lent.{answer-is, order-is, from-is}
 use Rattle.search.proofs.Sizes.{explore-sized}
 use Rattle.making.specs.Sets.{capacity, minus, single, pair, withAll, least, members}
 use Rattle.making.specs.Search as searching
-use Rattle.making.specs.Search.{explore, route}
-use Rattle.making.specs.Ears.{noCut, failed, answered, wayOut, backFrom, detour, cycle}
+use Rattle.making.specs.Search.{explore, route, isFound, reached}
+use Rattle.making.specs.Ears as making
+use Rattle.making.specs.Ears.{noCut, found, failed, answered, wayOut, backFrom, detour, cycle}
 use Rattle.making.specs.Start.{thirdPath, across}
 use Rattle.making.specs.Certificate.{treeNumbers}
 use Rattle.certifier.specs.Code.{cutOf, foundOf, pushed, treeIn, firstSearch}
@@ -35,6 +36,10 @@ cutAt removed side = record { removed = removed; side = side }
 
 -- ---- a search, answered
 
+found-with : (m : searching.Reach) (removed : VertexSet) → isFound m ≡ true → (more : List ℕ) (p : Path) (c : Cut) → p ≡ pathOf (route m ++ more) → c ≡ cutOf noCut
+    → foundIn p c ≡ foundOf (answered m removed more)
+found-with m removed t more p c q n = rw (t, q, n)
+
 module _ (m : searching.Reach) (removed : VertexSet) (r : Reach) (e : r ≡ reachOf m) where
   met : r .goal < capacity → ltb (m .goal) capacity ≡ true
   met h = lt-ltb (m .goal) capacity (subst (λ (x : Reach). x .goal < capacity) e h)
@@ -42,23 +47,39 @@ module _ (m : searching.Reach) (removed : VertexSet) (r : Reach) (e : r ≡ reac
   unmet : capacity ≤ r .goal → ltb (m .goal) capacity ≡ false
   unmet h = le-ltb (m .goal) capacity (subst (λ (x : Reach). capacity ≤ x .goal) e h)
 
-  found-with : (more : List ℕ) (p : Path) (c : Cut) → r .goal < capacity → p ≡ pathOf (route m ++ more) → c ≡ cutOf noCut
-      → foundIn p c ≡ foundOf (answered m removed more)
-  found-with more p c h q n = rw (met h, q, n)
-
   pub found-here : (p : Path) (c : Cut) → r .goal < capacity → p ≡ pathOf (route m) → c ≡ cutOf noCut → foundIn p c ≡ foundOf (answered m removed [])
-  found-here p c h q n = found-with [] p c h (q ∙ ap pathOf (sym (append-nil (route m)))) n
+  found-here p c h q n = found-with m removed (met h) [] p c (q ∙ ap pathOf (sym (append-nil (route m)))) n
 
-  pub found-on : (x : ℕ) (p q : Path) (c : Cut) → r .goal < capacity → p ≡ pathOf (route m) → q ≡ pushed p x → c ≡ cutOf noCut
-      → foundIn q c ≡ foundOf (answered m removed (x ∷ []))
-  found-on x p q c h a b n =
-      found-with (x ∷ []) q c h (b ∙ ap (λ (y : Path). pushed y x) a ∙ pushed-path (route m) x (omega (arith, route-short m))) n
-
-  pub found-none : (more : List ℕ) (p : Path) (side : VertexSet) → capacity ≤ r .goal → p ≡ pathOf [] → side ≡ minus (r .shut) removed
-      → foundIn p (cutAt removed side) ≡ foundOf (answered m removed more)
-  found-none more p side h q s =
+  pub found-none : (p : Path) (side : VertexSet) → capacity ≤ r .goal → p ≡ pathOf [] → side ≡ minus (r .shut) removed
+      → foundIn p (cutAt removed side) ≡ foundOf (answered m removed [])
+  found-none p side h q s =
       let t : side ≡ minus (m .shut) removed = s ∙ ap (λ (x : Reach). minus (x .shut) removed) e in
       rw (unmet h, q, t)
+
+-- ---- one vertex more; a search that failed leaves no path
+
+module _ (m : searching.Reach) (removed : VertexSet) (x : ℕ) {f : Found} (e : f ≡ foundOf (answered m removed [])) where
+  abbrev by : Bool → List ℕ → making.Found
+  by b more = cond b (found (route m ++ more)) (failed removed (reached m removed))
+
+  told : {b : Bool} → isFound m ≡ b → f ≡ foundOf (by b [])
+  told t = e ∙ ap (λ (b : Bool). foundOf (by b [])) t
+
+  pub on-none : f .path .count ≡ 0 → f ≡ foundOf (answered m removed (x ∷ []))
+  on-none h = go (isFound m) refl
+    where
+      go : (b : Bool) → isFound m ≡ b → f ≡ foundOf (answered m removed (x ∷ []))
+      go true t = let z = ap (λ (y : Found). y .path .count) (told t) in absurd (omega arith)
+      go false t = told t ∙ sym (ap (λ (b : Bool). foundOf (by b (x ∷ []))) t)
+
+  pub on-more : (f .path .count ≡ 0 → ⊥) → {p : Path} {c : Cut} → p ≡ pushed (f .path) x → c ≡ cutOf noCut → foundIn p c ≡ foundOf (answered m removed (x ∷ []))
+  on-more h {p} {c} q n = go (isFound m) refl
+    where
+      go : (b : Bool) → isFound m ≡ b → foundIn p c ≡ foundOf (answered m removed (x ∷ []))
+      go true t =
+          let r : f .path ≡ pathOf (route m) = ap (λ (y : Found). y .path) (told t) ∙ ap pathOf (append-nil (route m)) in
+          found-with m removed t (x ∷ []) p c (q ∙ ap (λ (y : Path). pushed y x) r ∙ pushed-path (route m) x (omega (arith, route-short m))) n
+      go false t = absurd (h (ap (λ (y : Found). y .path .count) (told t)))
 
 -- ---- out and back
 

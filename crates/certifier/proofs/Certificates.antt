@@ -1,29 +1,26 @@
 -- The numbers of a certificate, from the code's structs and from the definition's. Assumes nothing.
-use Prim.Native.Nat.{ℕ, zero, suc, _+_, _-_, _≤_}
-use mathlib.Core.Path.{_≡_, refl, sym, ap, subst, _∙_}
+use Prim.Native.Nat.{ℕ, _+_, _-_, _≤_}
+use mathlib.Core.Path.{_≡_, refl, sym, ap, _∙_}
 use mathlib.Core.Bool.{Bool, true, false, cond, not}
 use mathlib.Core.List.{List, [], _∷_, _++_}
 use native.Mathlib.Omega.{arith}
 use lib.Dec.{ltb, eqb}
-use lib.ListN.{length, take, getD, replicate}
+use lib.ListN.{length, take, replicate}
 use lib.Seq.{take-append-seam}
 use Rattle.vertexset.specs.Set.{emptySet, count}
 use Rattle.vertexset.specs.declared.VertexSet.{VertexSet}
 use Rattle.graph.specs.Rows.{rowOf, bareRows}
-use Rattle.making.specs.Sets.{capacity, stop, single, minus, plus, common, members, least, empty, added}
+use Rattle.making.specs.Sets.{stop, single, minus, members, least, empty}
 use Rattle.making.specs.Search as searching
-use Rattle.making.specs.Search.{visit, explore}
 use Rattle.making.specs.Ears as making
 use Rattle.making.specs.Ears.{noCut, cut, isCut, eared, ears, cycle, pathSpace}
 use Rattle.making.specs.Start.{Begun, begin, sorted, broken, sixLinks, addLink, nextAfter, crossed, thirdPath, across, around, startOn, marked, threePaths, fourOf}
 use Rattle.making.specs.Start as starting
 use Rattle.making.specs.Steps as stepping
-use Rattle.making.specs.Certificate.{pairsFrom, treeNumbers, evidence, lengthened, cutNumbers, cutCertificate, buildCertificate, begunCertificate, chosen, sideNumbers, buildNumbers, certificateNumbers, fullSet}
-use Rattle.search.specs.Arrays.{padded}
+use Rattle.making.specs.Certificate.{treeNumbers, evidence, lengthened, cutNumbers, cutCertificate, buildCertificate, begunCertificate, chosen, sideNumbers, buildNumbers, certificateNumbers, fullSet}
 use Rattle.search.specs.Code.{reachOf}
 use Rattle.search.specs.declared.Reach.{Reach}
-use Rattle.search.proofs.Placed.{padded-at, added-length}
-use Rattle.search.proofs.Members.{members-low}
+use Rattle.search.proofs.Placed.{added-length}
 use Rattle.certifier.specs.Code.{cutOf, cutIn, earsOf, startOf, flatOf, StartKept, firstSearch, evidenceIn, cutNumbersIn, cutCertificateIn, builtCertificateIn, startCertificateIn}
 use Rattle.certifier.specs.declared.Cut.{Cut}
 use Rattle.certifier.specs.declared.Start.{Start}

@@ -7,9 +7,9 @@ use native.Mathlib.Numerals.{add-one}
 use native.Mathlib.Omega.{arith}
 use lib.Bits.{bitOr}
 use lib.Dec.{eqb}
-use lib.ListN.{length, take, drop, getD, set, replicate, length-append, length-drop, length-set, drop-of-length-le, take-append-drop, List·getD-append}
-use lib.Seq.{set-out, take-suc, take-suc-set, drop-set-lt, append-snoc, set-at, length-take-le, getD-take}
-use borrow.Author.Tests.{lt-ltb, le-leb}
+use lib.ListN.{length, take, drop, getD, set, replicate, length-append, length-drop, drop-of-length-le, take-append-drop, List·getD-append}
+use lib.Seq.{set-out, take-suc, append-snoc, set-at, length-take-le, getD-take}
+use borrow.Author.Tests.{lt-ltb}
 use Rattle.record.specs.Read.{folded}
 use Rattle.vertexset.specs.Set.{has, inserted}
 use Rattle.vertexset.specs.declared.VertexSet.{VertexSet}
@@ -18,9 +18,8 @@ use Rattle.connectivity.specs.Lists.{upFrom}
 use Rattle.search.specs.Arrays.{padded, placed, placedEnd}
 use Rattle.search.specs.Code.{pathOf, pathRoom}
 use Rattle.search.proofs.Placed.{padded-set, placed-padded, placed-end-padded, padded-none}
-use Rattle.search.proofs.Puts.{put-none}
 use Rattle.search.proofs.Back.{pathIn}
-use Rattle.making.specs.Sets.{stop, withAll, reversed, lastOf, placeOf}
+use Rattle.making.specs.Sets.{withAll, reversed, lastOf, placeOf}
 use Rattle.making.specs.Steps.{pairPlace}
 use Rattle.making.proofs.SetLaws.{added-room}
 use Rattle.certifier.specs.Code.{pushed, sideOf}
@@ -191,21 +190,3 @@ module _ (size : ℕ) (l : List ℕ) (h : length l ≤ size) where
 
   pub put-first-end : placedEnd (replicate size 0) 0 l ≡ length l
   put-first-end = ap (λ (k : List ℕ). placedEnd k 0 l) (sym (padded-none size)) ∙ placed-end-padded size [] l (omega arith) ∙ ap length (added-room size [] l (omega arith))
-
--- a path with its stop, in one or in two
-module _ (items : List ℕ) (len : ℕ) (path : List ℕ) where
-  pub stop-none : length items ≤ len + length path → (items ≡ placed items len (stop ∷ path)) × (len ≡ placedEnd items len (stop ∷ path))
-  stop-none h = put-none items len (stop ∷ path) (omega arith)
-
-  pub stop-put : len + length path < length items
-      → (placed (set items len stop) (len + 1) path ≡ placed items len (stop ∷ path)) × (placedEnd (set items len stop) (len + 1) path ≡ placedEnd items len (stop ∷ path))
-  stop-put h =
-      let a : len + 1 + length path ≤ length (set items len stop) = omega (arith, length-set items len stop) in
-      let b : len + suc (length path) ≤ length items = omega arith in
-      let i : len < length items = omega arith in
-      let j : len < len + 1 + length path = omega arith in
-      let k : len + 1 + length path ≡ len + suc (length path) = omega arith in (
-        rw (le-leb (len + 1 + length path) (length (set items len stop)) a, le-leb (len + suc (length path)) (length items) b)
-            (rw (drop-set-lt (len + 1 + length path) items len stop j, add-one len, take-suc-set items len stop i, ← (add-one len), k) (rw (append-snoc (take len items) stop path))),
-        rw (le-leb (len + 1 + length path) (length (set items len stop)) a, le-leb (len + suc (length path)) (length items) b) k,
-      )

@@ -21,7 +21,7 @@ use Rattle.graph.specs.Code.{wholePlan}
 use Rattle.graph.specs.declared.Graph.{Graph}
 use Rattle.graph.specs.declared.PlanRead.{PlanRead}
 use Rattle.graph.proofs.Plans.{accepted}
-use Rattle.connectivity.specs.Certificate.{Certificate, Certificate.separation, Certificate.tree, Certificate.ears, Certificate.build, kind}
+use Rattle.certificates.proofs.Accepted.{kind-low}
 use Rattle.making.specs.Sets.{capacity}
 use Rattle.making.specs.Certificate.{certificateNumbers}
 use Rattle.making.proofs.CertificateLaws.{Certified, certified}
@@ -39,12 +39,6 @@ bytes-many : (l : List ℕ) → length l ≤ length (listBytes numberBytes l)
 unfolding listBytes
 bytes-many [] = omega arith
 bytes-many (v ∷ l) = omega (arith, bytes-many l, some-bytes v, length-append (numberBytes v) (listBytes numberBytes l))
-
-kind-low : (x : Certificate) → kind x ≤ 3
-kind-low (separation S) = omega arith
-kind-low (tree c f ps S) = omega arith
-kind-low (ears c d P es S) = omega arith
-kind-low (build p q r s ps qs) = omega arith
 
 -- ---- what is decided
 

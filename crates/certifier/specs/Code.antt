@@ -10,7 +10,7 @@ use Rattle.vertexset.specs.declared.VertexSet.{VertexSet}
 use Rattle.search.specs.Arrays.{padded}
 use Rattle.search.specs.Code.{pathOf, pathRoom}
 use Rattle.search.specs.declared.Path.{Path}
-use Rattle.making.specs.Sets.{capacity, stop, single, members}
+use Rattle.making.specs.Sets.{capacity, single, members}
 use Rattle.making.specs.Ears as making
 use Rattle.making.specs.Ears.{pathSpace}
 use Rattle.making.specs.Start as starting

@@ -242,21 +242,14 @@ fn find_on<'a>(
     requires { ⌜ length (now space) ≡ searchSpace ⌝ }
     ensures { λ r. ⌜ r ≡ foundOf (answered (explore (now (rows .entry)) seeds goals (single x)) (single x) (x ∷ [])) ⌝ }
 {
-    let removed = single(x);
-    let r = search::explore(rows, space, seeds, goals, removed);
-    if r.goal < VertexSet::CAPACITY {
-        return Found {
-            path: push(search::route(space, r), x),
-            cut: Cut::none(),
-        };
+    let f = find(rows, space, seeds, goals, single(x));
+    let p = f.path;
+    if p.count == 0 {
+        return f;
     }
-    let shut = r.shut;
     Found {
-        path: no_path(),
-        cut: Cut {
-            removed,
-            side: shut.minus(removed),
-        },
+        path: push(p, x),
+        cut: Cut::none(),
     }
 }
 

@@ -1,6 +1,6 @@
 -- The answer beside the rows of an accepted plan's graph is the definition's answer beside the plan. Assumes nothing.
 use Prim.Native.Nat.{ℕ, zero, suc, _+_, _-_, _<_, _≤_}
-use mathlib.Core.List.{List, []}
+use mathlib.Core.List.{List}
 use mathlib.Core.Bool.{Bool, true, false, cond, _||_, _&&_}
 use mathlib.Core.Path.{_≡_, refl, sym, ap, _∙_}
 use native.Mathlib.Omega.{arith}
@@ -23,9 +23,8 @@ use Rattle.graph.specs.declared.Graph.{Graph as Built}
 use Rattle.graph.proofs.Plans.{plan-law}
 use Rattle.connectivity.proofs.Edges.{fromEdges-count}
 use Rattle.graph.proofs.Adjacency.{network-listed, edge-list}
-use Rattle.certificates.specs.Records.{body, certificate, furtherCount}
+use Rattle.certificates.specs.Records.{body, certificate}
 use Rattle.paths.specs.Items.{endRead, limited, rowsGraph}
-use Rattle.paths.specs.declared.Item.{Item}
 use Rattle.build.specs.State.{buildBody}
 use Rattle.simulation.proofs.Kind3.{kind-3}
 use Rattle.checker.specs.Check.{planGraph, onCertificate, certificateAnswer, onPlan, checkOf, onLeading, gradeOf}

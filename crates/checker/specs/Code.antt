@@ -1,10 +1,10 @@
 -- What the checker's inner functions give, on the rows of a graph.
 use Prim.Native.Nat.{ℕ, zero, suc, _+_, _-_}
 use mathlib.Core.List.{List}
-use mathlib.Core.Bool.{Bool, cond, _||_, _&&_}
+use mathlib.Core.Bool.{cond, _||_}
 use lib.Dec.{ltb, leb}
 use lib.ListN.{length}
-use Rattle.record.specs.Read.{Read, Read.Got, Read.Refused, Reader, onRead}
+use Rattle.record.specs.Read.{Read, Read.Got, Read.Refused}
 use Rattle.record.specs.Number.{number}
 use Rattle.record.specs.declared.Answer.{Answer}
 use Rattle.record.specs.declared.Answer.the-variants.{Grade, CertificateFault}

@@ -1,12 +1,10 @@
 -- DEMAND 2, both ways, and that every grade the checker accepts is the plan's connectivity. Assumes nothing.
 use Prim.Native.Nat.{ℕ, _<_}
 use mathlib.Core.List.{List}
-use mathlib.Core.Path.{_≡_, refl, sym, ap, _∙_}
+use mathlib.Core.Path.{_≡_, refl, sym, _∙_}
 use mathlib.Core.Logic.{_↔_}
 use native.Mathlib.Omega.{arith}
-use lib.ListN.{length}
 use Rattle.record.specs.Read.{Read, Read.Got, Read.Refused, Bytes, ended}
-use Rattle.record.specs.declared.Answer.{Answer}
 use Rattle.record.specs.declared.Answer.the-variants.{Grade}
 use Rattle.record.proofs.Laws.{ended-there, ended-back}
 use Rattle.connectivity.specs.Graph.{Simple}

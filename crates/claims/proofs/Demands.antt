@@ -3,15 +3,13 @@ use Prim.Native.Nat.{ℕ, _≤_, _<_, _+_}
 use mathlib.Core.List.{List, [], _∷_, _++_}
 use mathlib.Core.Bool.{Bool, true, false, cond}
 use mathlib.Core.Path.{_≡_, refl, sym, ap, _∙_, subst}
-use mathlib.Core.Logic.{_↔_}
 use native.Mathlib.Omega.{arith}
 use lib.Dec.{ltb}
 use lib.ListN.{length, drop}
-use borrow.Author.Tests.{lt-ltb, le-ltb, ltb-true, ltb-false}
+use borrow.Author.Tests.{lt-ltb, le-ltb}
 use Rattle.record.specs.Read.{Read, Read.Got, Read.Refused, Bytes, ended}
 use Rattle.record.specs.Write.{overwritten}
-use Rattle.record.specs.declared.Answer.{Answer}
-use Rattle.record.specs.declared.Answer.the-variants.{Accepted, Grade, PlanFault, CertificateFault}
+use Rattle.record.specs.declared.Answer.the-variants.{Accepted, Grade, PlanFault}
 use Rattle.record.proofs.Laws.{ended-there}
 use Rattle.connectivity.specs.Graph.{Graph}
 use Rattle.connectivity.specs.Connectivity.{connectivity}
@@ -19,7 +17,6 @@ use Rattle.connectivity.specs.Certificate.{Rules}
 use Rattle.graph.specs.Plan.{Plan, Allowed, plan, planBytes}
 use Rattle.graph.specs.Rows.{graphOf}
 use Rattle.graph.specs.Code.{wholePlan, planRead}
-use Rattle.graph.specs.declared.Graph.{Graph as RowGraph}
 use Rattle.graph.specs.declared.PlanRead.{PlanRead}
 use Rattle.graph.proofs.Plans.{plan-law, accepted, accepts, injective}
 use Rattle.graph.proofs.Adjacency.{network-listed}
@@ -28,9 +25,9 @@ use Rattle.making.proofs.CertificateLaws as making
 use Rattle.making.proofs.CertificateLaws.{certified}
 use Rattle.checker.specs.Check.{planGraph, checkOf}
 use Rattle.certifier.specs.declared.Made.{Made}
-use Rattle.certifier.specs.Made.{roomAsked, made, madeOn, madeBy, madeFrom, filledBy, filledFrom, certificateOf, gradeMade}
+use Rattle.certifier.specs.Made.{roomAsked, made, madeBy, madeFrom, filledBy, filledFrom, certificateOf, gradeMade}
 use Rattle.claims.specs.Certified.{IsPlan, IsGrade}
-use Rattle.claims.specs.Demands.{Demand2, PlanAccepted, AcceptedGrade, AcceptedGrade.checked, AcceptedGrade.made-for, AcceptedGrade.closed-on, GradeIsFigure, SameGrades, Writes, MakerWrites, SameCertificate, MakerRefuses, RefusedKeeps}
+use Rattle.claims.specs.Demands.{Demand2, PlanAccepted, AcceptedGrade, AcceptedGrade.checked, AcceptedGrade.made-for, AcceptedGrade.closed-on, GradeIsFigure, SameGrades, Writes, MakerWrites, SameCertificate, RefusedKeeps}
 use Rattle.claims.proofs.Checking.{demand-2, certified-grade, certified-sound, grade-sound}
 use Rattle.claims.proofs.Sessions.{closing-sound}
 

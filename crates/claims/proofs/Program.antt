@@ -1,17 +1,17 @@
 -- The checking program: a plan and, directly after it, a certificate. Assumes nothing.
 use Prim.Native.Nat.{ℕ, _+_}
 use mathlib.Core.List.{List, _++_}
-use mathlib.Core.Path.{_≡_, refl, sym, ap, _∙_}
+use mathlib.Core.Path.{_≡_, refl, ap}
 use native.Mathlib.Omega.{arith}
 use lib.ListN.{length, drop}
 use lib.Seq.{drop-append-seam, getD-drop}
-use Rattle.record.specs.Read.{Read, Read.Got, Read.Refused, Bytes, ended}
+use Rattle.record.specs.Read.{Read, Read.Got, Read.Refused, Bytes}
 use Rattle.record.specs.declared.Answer.the-variants.{Grade}
 use Rattle.record.proofs.Laws.{ended-back}
 use Rattle.record.proofs.Parts.{leads-there, leads-back}
 use Rattle.graph.specs.Plan.{Plan, Allowed, plan, planBytes}
 use Rattle.graph.proofs.Plans.{plan-law}
-use Rattle.checker.specs.Check.{certificateAnswer, onPlan, checkOf, onLeading, gradeOf}
+use Rattle.checker.specs.Check.{checkOf, onLeading, gradeOf}
 use Rattle.checker.specs.declared.Graded.{Graded}
 use Rattle.claims.specs.Certified.{IsGrade}
 use Rattle.claims.proofs.Checking.{answer-sound}

@@ -1,9 +1,9 @@
 -- The word and the buffer for a plan, by its answer. Assumes nothing.
 use Prim.Native.Nat.{ℕ}
 use mathlib.Core.List.{List}
-use mathlib.Core.Path.{_≡_, refl, sym, ap, _∙_}
+use mathlib.Core.Path.{_≡_, sym, ap, _∙_}
 use Rattle.record.specs.declared.Answer.{Answer}
-use Rattle.record.specs.declared.Answer.the-variants.{Accepted, Grade, PlanFault, CertificateFault}
+use Rattle.record.specs.declared.Answer.the-variants.{Accepted}
 use Rattle.graph.specs.Code.{wholePlan, withPlan}
 use Rattle.graph.specs.declared.PlanRead.{PlanRead}
 use Rattle.script.specs.Replay.{answerWord}

@@ -3,7 +3,7 @@ ghost use mathlib.Core.Path.{_≡_};
 ghost use Prim.Native.Nat.{_+_, _*_, _≤_, _<_};
 ghost use lib.ListN.{length};
 ghost use Rattle.record.specs.Loop.{runs};
-ghost use Rattle.vertexset.specs.Set.{withBit, wordCount};
+ghost use Rattle.vertexset.specs.Set.{withBit};
 ghost use Rattle.record.specs.Number.{numberBytes};
 ghost use Rattle.record.specs.Write.{overwritten};
 ghost use Rattle.graph.specs.Plan.{edge, edgeBytes, maxVertices};

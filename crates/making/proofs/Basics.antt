@@ -15,7 +15,7 @@ use Rattle.connectivity.proofs.Lists.{rev}
 use Rattle.connectivity.proofs.Search as searching
 use Rattle.connectivity.proofs.Progress.{Separated}
 use Rattle.making.specs.Sets.{capacity, stop, members}
-use Rattle.making.specs.Search.{Reach, explore, isFound, route, reached}
+use Rattle.making.specs.Search.{explore, isFound, route, reached}
 use Rattle.making.specs.Ears.{Cut, isCut}
 
 -- the graph of n vertices with these rows

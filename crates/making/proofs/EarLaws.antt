@@ -9,10 +9,10 @@ use lib.ListN.{length, length-append}
 use Rattle.vertexset.specs.Set.{has, emptySet}
 use Rattle.vertexset.specs.declared.VertexSet.{VertexSet}
 use Rattle.connectivity.specs.Lists.{In, NoDup}
-use Rattle.connectivity.specs.Graph.{Adj, Graph, Simple}
-use Rattle.connectivity.specs.Path.{Link, link, vertices, IsPath}
+use Rattle.connectivity.specs.Graph.{Adj, Graph}
+use Rattle.connectivity.specs.Path.{Link, link, vertices}
 use Rattle.connectivity.specs.Certificate.{Cycle, Ear, Ears, inside}
-use Rattle.connectivity.proofs.Lists.{rev, rev-in, nodup-rev, nodup-snoc, length-rev, bool?, clash, beside, full, at-most, in-append, in-left, in-right}
+use Rattle.connectivity.proofs.Lists.{rev, rev-in, nodup-snoc, length-rev, bool?, clash, beside, full, at-most, in-append, in-left, in-right}
 use Rattle.connectivity.proofs.Paths.{along-rev, along-join, end-or-inner, inner-in, two-vertices}
 use Rattle.connectivity.proofs.Edges.{path-low}
 use Rattle.connectivity.proofs.FirstLinks.{reversed}

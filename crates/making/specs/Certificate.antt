@@ -1,14 +1,14 @@
 -- THE CERTIFICATE OF A GRAPH, as the numbers of its record.
 use Prim.Native.Nat.{ℕ, zero, suc, _+_, _-_}
-use mathlib.Core.Bool.{Bool, cond, not}
+use mathlib.Core.Bool.{cond}
 use mathlib.Core.List.{List, [], _∷_, _++_}
 use lib.Dec.{ltb, eqb}
 use lib.ListN.{length, getD}
 use Rattle.record.specs.Number.{numberBytes, listBytes}
-use Rattle.vertexset.specs.Set.{emptySet, inserted, count}
+use Rattle.vertexset.specs.Set.{emptySet, count}
 use Rattle.vertexset.specs.declared.VertexSet.{VertexSet}
 use Rattle.connectivity.specs.Lists.{below}
-use Rattle.making.specs.Sets.{stop, minus, single, members, setOf, empty, added}
+use Rattle.making.specs.Sets.{stop, minus, single, members, setOf, empty}
 use Rattle.making.specs.Search.{Reach, explore}
 use Rattle.making.specs.Ears.{Cut, cut, noCut, isCut, Eared, ears}
 use Rattle.making.specs.Start.{Begun, begin}

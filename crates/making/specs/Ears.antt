@@ -3,7 +3,6 @@ use Prim.Native.Nat.{ℕ, zero, suc, _+_}
 use mathlib.Core.Bool.{Bool, cond, not}
 use mathlib.Core.List.{List, [], _∷_, _++_}
 use lib.Dec.{ltb}
-use lib.ListN.{length}
 use Rattle.vertexset.specs.Set.{emptySet, count}
 use Rattle.vertexset.specs.declared.VertexSet.{VertexSet}
 use Rattle.graph.specs.Rows.{rowOf}

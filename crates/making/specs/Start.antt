@@ -1,7 +1,7 @@
 -- The start of a build: a cycle through vertex 0, a third path from 0 to the cycle, a path across; six links between four vertices.
 use Prim.Native.Nat.{ℕ, _+_}
-use mathlib.Core.Bool.{Bool, cond}
-use mathlib.Core.List.{List, [], _∷_, _++_}
+use mathlib.Core.Bool.{cond}
+use mathlib.Core.List.{List, [], _∷_}
 use lib.Dec.{ltb}
 use lib.ListN.{getD}
 use Rattle.vertexset.specs.Set.{emptySet, inserted, count, next}
@@ -9,7 +9,7 @@ use Rattle.vertexset.specs.declared.VertexSet.{VertexSet}
 use Rattle.graph.specs.Rows.{rowOf, bareRows, joinedRows}
 use Rattle.making.specs.Sets.{stop, minus, single, pair, setOf, least, lastOf}
 use Rattle.making.specs.Search.{explore, route}
-use Rattle.making.specs.Ears.{Cut, cut, noCut, isCut, Found, failed, answered, cycle, addPath}
+use Rattle.making.specs.Ears.{Cut, cut, noCut, isCut, Found, answered, cycle, addPath}
 
 -- rows of bits, as a graph's, in which neighbours on a path are joined; no edge has a stop as its end
 unfoldable pub marked : List ℕ → List ℕ → List ℕ

@@ -2,14 +2,14 @@
 use Prim.Native.Nat.{ℕ, zero, suc, _+_, _-_, _*_, _/_, _%_, _^_, _<_, _≤_}
 use mathlib.Core.List.{List, [], _∷_}
 use mathlib.Core.Bool.{Bool, true, false, cond}
-use mathlib.Core.Path.{_≡_, refl, sym, ap, _∙_, subst}
+use mathlib.Core.Path.{_≡_, refl, ap, subst}
 use native.Mathlib.Omega.{arith}
 use native.Mathlib.Nat.{pow-suc, one-le-pow}
 use lib.ListN.{length, getD}
 use lib.Dec.{ltb, eqb, lit<}
-use borrow.Author.Tests.{ltb-true, ltb-false, eqb-true, eqb-false, lt-ltb, le-ltb, ne-eqb}
-use Rattle.record.specs.Read.{Read, Read.Got, Reader, Bytes}
-use Rattle.record.specs.Number.{onByte, onHigher, group, higherGroups, numberIn, maxGroups, numberAt, asRead, number, groupsOf, numberBytes}
+use borrow.Author.Tests.{ltb-true, ltb-false, eqb-false, lt-ltb, le-ltb, ne-eqb}
+use Rattle.record.specs.Read.{Read.Got, Bytes}
+use Rattle.record.specs.Number.{onByte, onHigher, group, higherGroups, numberIn, maxGroups, asRead, number, groupsOf, numberBytes}
 use Rattle.record.specs.declared.Number.{Number}
 use Rattle.record.specs.declared.Number.the-variants.{Value, Ended, Padded, Overlong}
 use Rattle.record.proofs.Laws.{Spans, Spans.none, Spans.more, Reads, drop-spans}

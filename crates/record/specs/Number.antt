@@ -1,7 +1,7 @@
 -- A number of a record: groups of seven bits, lowest group first; a byte of 128 or more says that another follows.
 use Prim.Native.Nat.{ℕ, zero, suc, _+_, _-_, _*_, _/_, _%_}
 use mathlib.Core.List.{List, [], _∷_, _++_}
-use mathlib.Core.Bool.{Bool, true, false, cond}
+use mathlib.Core.Bool.{cond}
 use lib.ListN.{length, getD}
 use lib.Dec.{ltb, eqb}
 use Rattle.record.specs.Read.{Read, Read.Got, Read.Refused, Reader}

@@ -1,5 +1,5 @@
 -- What a caller has of a search in a space of the right size: the definition's answer, lists and route. Assumes nothing.
-use mathlib.Core.Path.{_≡_, sym, ap, _∙_}
+use mathlib.Core.Path.{_≡_, ap, _∙_}
 use mathlib.Core.List.{List, _∷_}
 use Prim.Native.Nat.{ℕ}
 use lib.ListN.{length, take, drop}

@@ -7,3 +7,4 @@ pub mod Puts
 pub mod Sizes
 pub mod Spaces
 pub mod Visits
+pub mod Walking

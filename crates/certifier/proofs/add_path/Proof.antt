@@ -3,18 +3,20 @@ use mathlib.Core.Path.{ap, _∙_}
 use native.Mathlib.Omega.{arith}
 use borrow.Author.Needs.{needs}
 use lib.ListN.{length, set, length-set}
-use Prim.Native.Nat.{_+_}
+use Prim.Native.Nat.{suc, _+_, _≤_}
+use mathlib.Core.List.{_∷_}
 use Rattle.making.specs.Sets.{stop}
 use Rattle.search.proofs.Placed.{placed-length}
-use Rattle.certifier.proofs.Lists.{stop-none, stop-put}
+use Rattle.search.proofs.Puts.{put-none}
+use Rattle.certifier.proofs.Written.{first-put, first-end}
 use Rattle.certifier.proofs.add_path.Statement.{statement}
 use Rattle.certifier.proofs.add_path.Tie as tie
 
 returns : tie.Need-returns
-returns c = stop-none _ _ (c .before .before .before .args .path .now) (omega arith)
+returns c = let a = c .before .before .before .args in put-none (a .flat .now) (a .len) (stop ∷ a .path .now) (omega arith)
 
 returns-2 : tie.Need-returns-2
-returns-2 c = stop-none _ _ (c .before .before .before .before .args .path .now) (omega arith)
+returns-2 c = let a = c .before .before .before .before .args in put-none (a .flat .now) (a .len) (stop ∷ a .path .now) (omega arith)
 
 same-length : tie.Need-same-length
 same-length c =
@@ -26,8 +28,8 @@ returns-3 : tie.Need-returns-3
 returns-3 c =
     let p = c .before .before .put-all in
     let a = c .before .before .before .before .before .before .before .before .args in
-    let r = stop-put (a .flat .now) (a .len) (a .path .now) (omega arith) in
-    (p .ensures .0 ∙ r .0, p .ensures .1 ∙ r .1)
+    let h : a .len + suc (length (a .path .now)) ≤ length (a .flat .now) = omega arith in
+    (p .ensures .0 ∙ first-put (a .flat .now) (a .len) stop (a .path .now) h, p .ensures .1 ∙ first-end (a .flat .now) (a .len) stop (a .path .now) h)
 
 pub add-path-spec : {M : Type 1} → statement M
 add-path-spec =

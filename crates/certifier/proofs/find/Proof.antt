@@ -24,7 +24,7 @@ returns-2 c =
     let s = x .before .before .before in
     let a = s .args in
     found-none (explore (a .rows .now) (a .seeds) (a .goals) (a .removed)) (a .removed) (x .explore .result)
-    (answer-is (a .rows .now) (a .space .now) (a .seeds) (a .goals) (a .removed) (s .pre) (x .explore .ensures .1)) _ _ _ (i .if1 .left)
+    (answer-is (a .rows .now) (a .space .now) (a .seeds) (a .goals) (a .removed) (s .pre) (x .explore .ensures .1)) _ _ (i .if1 .left)
     (c .before .no-path .ensures) (c .minus .ensures)
 
 pub find-spec : {M : Type 1} → statement M

@@ -1,7 +1,6 @@
 -- `certifier::mark` meets its contract: what is joined so far, with what is left of the list, is the whole. Assumes nothing.
 use Prim.Native.Nat.{_-_, _<_}
 use mathlib.Core.Path.{_≡_, refl, _∙_, sym}
-use native.Mathlib.Omega.{arith}
 use lib.ListN.{length, drop}
 use borrow.Author.Needs.{needs}
 use Rattle.making.specs.Start.{marked}

@@ -1,8 +1,6 @@
 -- `checker::check_certificate` meets its contract: the kind is read and tested, then the body is read. Assumes nothing.
-use Prim.Native.Nat.{_≤_, _<_}
-use mathlib.Core.Path.{_≡_, sym, ap, _∙_}
+use mathlib.Core.Path.{sym, ap, _∙_}
 use borrow.Author.Needs.{needs}
-use native.Mathlib.Omega.{arith}
 use lib.ListN.{length}
 use Rattle.paths.specs.Items.{rowsGraph}
 use Rattle.record.proofs.Faults.{unread}

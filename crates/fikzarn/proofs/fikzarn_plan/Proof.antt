@@ -1,7 +1,5 @@
 -- `fikzarn::fikzarn_plan` meets its contract. Assumes nothing.
 use mathlib.Core.Path.{sym, ap}
-use mathlib.Core.List.{List}
-use Prim.Native.Nat.{ℕ}
 use borrow.Author.Needs.{needs}
 use Rattle.record.specs.declared.Answer.{Answer}
 use Rattle.fikzarn.specs.Words.{rewritten}

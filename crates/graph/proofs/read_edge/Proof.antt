@@ -1,5 +1,5 @@
 -- `graph::read_edge` meets its contract: a number that can't be read ends the reading. Assumes nothing.
-use mathlib.Core.Path.{_≡_, _∙_, sym, ap}
+use mathlib.Core.Path.{_∙_, sym, ap}
 use borrow.Author.Needs.{needs}
 use Rattle.record.proofs.Faults.{unread}
 use Rattle.graph.specs.Code.{edgeRead}

@@ -1,5 +1,5 @@
 -- `graph::read_leading_plan` meets its contract: a number that can't be read, or is out of its range, ends the reading. Assumes nothing.
-use mathlib.Core.Path.{_≡_, _∙_, sym, ap}
+use mathlib.Core.Path.{_∙_, sym, ap}
 use borrow.Author.Needs.{needs}
 use native.Mathlib.Omega.{arith}
 use Rattle.record.proofs.Faults.{unread}

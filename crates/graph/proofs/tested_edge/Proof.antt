@@ -1,5 +1,4 @@
 -- `graph::tested_edge` meets its contract: the tests that led to a return pick the case. Assumes nothing.
-use borrow.Author.Needs.{needs}
 use borrow.Author.Tests.{lt-ltb, le-ltb, eq-eqb, ne-eqb}
 use Rattle.graph.specs.Code.{edgeRead}
 use Rattle.graph.proofs.tested_edge.Statement.{statement}

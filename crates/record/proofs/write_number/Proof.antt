@@ -5,7 +5,6 @@ use lib.ListN.{length}
 use borrow.Author.Needs.{needs}
 use native.Mathlib.Numerals.{add-one}
 use native.Mathlib.Omega.{arith}
-use Rattle.record.specs.Number.{numberBytes}
 use Rattle.record.specs.declared.Written.the-variants.{Next}
 use Rattle.record.proofs.Write.{one-byte, two-bytes, no-room, too-large, too-short, some-bytes, room}
 use Rattle.record.proofs.write_number.Statement.{statement}

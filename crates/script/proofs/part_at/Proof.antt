@@ -1,12 +1,11 @@
 -- `script::part_at` meets its contract. Assumes nothing.
-use Prim.Native.Nat.{_+_, _*_, _≤_}
+use Prim.Native.Nat.{_+_, _≤_}
 use mathlib.Core.Path.{_≡_}
 use borrow.Author.Needs.{needs}
 use borrow.Author.Tests.{le-leb, lt-leb}
 use native.Mathlib.Omega.{arith}
-use lib.ListN.{length, getD}
+use lib.ListN.{length}
 use Rattle.script.specs.Script.{sizeAt, partAt}
-use Rattle.script.specs.declared.Part.the-variants.{Within}
 use Rattle.script.proofs.part_at.Statement.{statement}
 use Rattle.script.proofs.part_at.Tie as tie
 
