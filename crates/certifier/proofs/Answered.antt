@@ -15,13 +15,13 @@ use Rattle.search.specs.declared.Path.{Path}
 use Rattle.search.specs.declared.Reach.{Reach}
 use Rattle.search.proofs.Lent.{answer-is, order-is, from-is}
 use Rattle.search.proofs.Sizes.{explore-sized}
-use Rattle.making.specs.Sets.{capacity, minus, single, pair, withAll, least, members}
-use Rattle.making.specs.Search as searching
-use Rattle.making.specs.Search.{explore, route, isFound, reached}
-use Rattle.making.specs.Ears as making
-use Rattle.making.specs.Ears.{noCut, found, failed, answered, wayOut, backFrom, detour, cycle}
-use Rattle.making.specs.Start.{thirdPath, across}
-use Rattle.making.specs.Certificate.{treeNumbers}
+use Rattle.construction.specs.Sets.{capacity, minus, single, pair, withAll, least, members}
+use Rattle.construction.specs.Search as searching
+use Rattle.construction.specs.Search.{explore, route, isFound, reached}
+use Rattle.construction.specs.Ears as construction
+use Rattle.construction.specs.Ears.{noCut, found, failed, answered, wayOut, backFrom, detour, cycle}
+use Rattle.construction.specs.Start.{thirdPath, across}
+use Rattle.construction.specs.Certificate.{treeNumbers}
 use Rattle.certifier.specs.Code.{cutOf, foundOf, pushed, treeIn, firstSearch}
 use Rattle.certifier.specs.declared.Cut.{Cut}
 use Rattle.certifier.specs.declared.Found.{Found}
@@ -59,7 +59,7 @@ module _ (m : searching.Reach) (removed : VertexSet) (r : Reach) (e : r ≡ reac
 -- ---- one vertex more; a search that failed leaves no path
 
 module _ (m : searching.Reach) (removed : VertexSet) (x : ℕ) {f : Found} (e : f ≡ foundOf (answered m removed [])) where
-  abbrev by : Bool → List ℕ → making.Found
+  abbrev by : Bool → List ℕ → construction.Found
   by b more = cond b (found (route m ++ more)) (failed removed (reached m removed))
 
   told : {b : Bool} → isFound m ≡ b → f ≡ foundOf (by b [])

@@ -11,10 +11,10 @@ use borrow.Author.Tests.{ltb-true, ltb-false}
 use Rattle.vertexset.specs.Set.{wordCount, inserted, next, firstFrom, has}
 use Rattle.vertexset.specs.declared.VertexSet.{VertexSet}
 use Rattle.graph.specs.Rows.{bareRows}
-use Rattle.making.specs.Sets.{capacity, stop, single, pair, minus, least, lastOf}
-use Rattle.making.specs.Search.{explore, route}
-use Rattle.making.specs.Ears.{noCut, pathSpace}
-use Rattle.making.specs.Start.{linkIn, addLink, sixLinks, sorted, nextAfter, begun, marked, threePaths, fourOf, startOn}
+use Rattle.construction.specs.Sets.{capacity, stop, single, pair, minus, least, lastOf}
+use Rattle.construction.specs.Search.{explore, route}
+use Rattle.construction.specs.Ears.{noCut, pathSpace}
+use Rattle.construction.specs.Start.{linkIn, addLink, sixLinks, sorted, nextAfter, begun, marked, threePaths, fourOf, startOn}
 use Rattle.search.specs.Arrays.{placed, placedEnd}
 use Rattle.search.specs.Code.{pathOf, pathRoom}
 use Rattle.search.specs.declared.Path.{Path}

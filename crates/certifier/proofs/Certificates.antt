@@ -10,14 +10,14 @@ use lib.Seq.{take-append-seam}
 use Rattle.vertexset.specs.Set.{emptySet, count}
 use Rattle.vertexset.specs.declared.VertexSet.{VertexSet}
 use Rattle.graph.specs.Rows.{rowOf, bareRows}
-use Rattle.making.specs.Sets.{stop, single, minus, members, least, empty}
-use Rattle.making.specs.Search as searching
-use Rattle.making.specs.Ears as making
-use Rattle.making.specs.Ears.{noCut, cut, isCut, eared, ears, cycle, pathSpace}
-use Rattle.making.specs.Start.{Begun, begin, sorted, broken, sixLinks, addLink, nextAfter, crossed, thirdPath, across, around, startOn, marked, threePaths, fourOf}
-use Rattle.making.specs.Start as starting
-use Rattle.making.specs.Steps as stepping
-use Rattle.making.specs.Certificate.{treeNumbers, evidence, lengthened, cutNumbers, cutCertificate, buildCertificate, begunCertificate, chosen, sideNumbers, buildNumbers, certificateNumbers, fullSet}
+use Rattle.construction.specs.Sets.{stop, single, minus, members, least, empty}
+use Rattle.construction.specs.Search as searching
+use Rattle.construction.specs.Ears as construction
+use Rattle.construction.specs.Ears.{noCut, cut, isCut, eared, ears, cycle, pathSpace}
+use Rattle.construction.specs.Start.{Begun, begin, sorted, broken, sixLinks, addLink, nextAfter, crossed, thirdPath, across, around, startOn, marked, threePaths, fourOf}
+use Rattle.construction.specs.Start as starting
+use Rattle.construction.specs.Steps as stepping
+use Rattle.construction.specs.Certificate.{treeNumbers, evidence, lengthened, cutNumbers, cutCertificate, buildCertificate, begunCertificate, chosen, sideNumbers, buildNumbers, certificateNumbers, fullSet}
 use Rattle.search.specs.Code.{reachOf}
 use Rattle.search.specs.declared.Reach.{Reach}
 use Rattle.search.proofs.Placed.{added-length}
@@ -30,14 +30,14 @@ use Rattle.certifier.specs.declared.Start.{Start}
 flat-same : (l : List ℕ) → take (length l) (flatOf l) ≡ l
 flat-same l = take-append-seam l (replicate (pathSpace - length l) 0)
 
-evidence-same : (rows : List ℕ) (e : making.Eared) (k : ℕ) → evidenceIn rows (earsOf e) k ≡ evidence (firstSearch rows) e k
+evidence-same : (rows : List ℕ) (e : construction.Eared) (k : ℕ) → evidenceIn rows (earsOf e) k ≡ evidence (firstSearch rows) e k
 evidence-same rows e k = ap (λ (l : List ℕ). cond (eqb k 0) [] (cond (eqb k 1) (treeNumbers (firstSearch rows)) (e .count ∷ lengthened l .0))) (flat-same (e .flat))
 
-numbers-same : (rows : List ℕ) (e : making.Eared) (c : making.Cut) → cutNumbersIn rows (earsOf e) (cutOf c) ≡ cutNumbers (firstSearch rows) e c
+numbers-same : (rows : List ℕ) (e : construction.Eared) (c : construction.Cut) → cutNumbersIn rows (earsOf e) (cutOf c) ≡ cutNumbers (firstSearch rows) e c
 numbers-same rows e c =
     ap (λ (l : List ℕ). length (members (c .removed)) ∷ (members (c .removed) ++ (l ++ sideNumbers (c .side)))) (evidence-same rows e (length (members (c .removed))))
 
-pub cut-same : (rows : List ℕ) (full : VertexSet) (c : making.Cut) → cutCertificateIn rows full (cutOf c) ≡ cutCertificate (firstSearch rows) rows full c
+pub cut-same : (rows : List ℕ) (full : VertexSet) (c : construction.Cut) → cutCertificateIn rows full (cutOf c) ≡ cutCertificate (firstSearch rows) rows full c
 cut-same rows full c =
     ap (λ (l : List ℕ). cond (ltb (count (c .removed .words)) 2) l (cutNumbersIn rows (earsOf (ears rows full)) (cutOf (chosen (ears rows full) c)))) (numbers-same rows (eared [] 0 noCut) c)
     ∙ ap (λ (l : List ℕ). cond (ltb (count (c .removed .words)) 2) (cutNumbers (firstSearch rows) (eared [] 0 noCut) c) l) (numbers-same rows (ears rows full) (chosen (ears rows full) c))
@@ -72,17 +72,17 @@ sorted-short table four = go (least four) (nextAfter four (least four)) (nextAft
 abbrev Short : Begun → Type 0
 Short b = length (b .flat) ≤ pathSpace
 
-broken-short : (c : making.Cut) → Short (broken c)
+broken-short : (c : construction.Cut) → Short (broken c)
 broken-short c = omega arith
 
-crossed-short : (around third : List ℕ) (f : making.Found) → Short (crossed around third f)
+crossed-short : (around third : List ℕ) (f : construction.Found) → Short (crossed around third f)
 crossed-short around third f = go (isCut (f .cutBy))
   where
     go : (p : Bool) → Short (cond p (broken (f .cutBy)) (startOn around third (f .path)))
     go true = broken-short (f .cutBy)
     go false = sorted-short (marked bareRows (threePaths around third (f .path))) (fourOf third (f .path))
 
-around-short : (rows : List ℕ) (f : making.Found) → Short (around rows f)
+around-short : (rows : List ℕ) (f : construction.Found) → Short (around rows f)
 around-short rows f = go (isCut (f .cutBy)) (isCut (thirdPath rows (f .path) .cutBy)) (crossed-short (f .path) (thirdPath rows (f .path) .path) (across rows (f .path) (thirdPath rows (f .path) .path)))
   where
     go : (p q : Bool) → Short (crossed (f .path) (thirdPath rows (f .path) .path) (across rows (f .path) (thirdPath rows (f .path) .path)))
@@ -115,7 +115,7 @@ module _ (rows : List ℕ) (n : ℕ) {full rest : VertexSet} {tree : Reach} (f :
   test =
       ap (λ (v : VertexSet). empty (minus v (firstSearch rows .shut))) (sym f) ∙ ap (λ (x : Reach). empty (minus full (x .shut))) (sym t) ∙ ap empty (sym m) ∙ sym y
 
-  cut-is : (c : making.Cut) → cutCertificateIn rows full (cutOf c) ≡ cutCertificate (firstSearch rows) rows (fullSet n) c
+  cut-is : (c : construction.Cut) → cutCertificateIn rows full (cutOf c) ≡ cutCertificate (firstSearch rows) rows (fullSet n) c
   cut-is c = ap (λ (v : VertexSet). cutCertificateIn rows v (cutOf c)) f ∙ cut-same rows (fullSet n) c
 
   -- a vertex was not reached

@@ -12,13 +12,13 @@ use Rattle.vertexset.specs.Set.{emptySet, count}
 use Rattle.vertexset.specs.declared.VertexSet.{VertexSet}
 use Rattle.graph.specs.Plan.{maxEdges}
 use Rattle.search.proofs.Placed.{added-length}
-use Rattle.making.specs.Sets.{capacity, stop, minus, withAll, members, empty}
-use Rattle.making.specs.Ears as making
-use Rattle.making.specs.Ears.{noCut, isCut, detour, cycle, pathSpace, addPath, eared, earsOn, ears}
-use Rattle.making.specs.Start as starting
-use Rattle.making.specs.Steps as stepping
-use Rattle.making.specs.Steps.{State, steps, firstState}
-use Rattle.making.specs.Certificate.{lengthened, chosen, buildNumbers}
+use Rattle.construction.specs.Sets.{capacity, stop, minus, withAll, members, empty}
+use Rattle.construction.specs.Ears as construction
+use Rattle.construction.specs.Ears.{noCut, isCut, detour, cycle, pathSpace, addPath, eared, earsOn, ears}
+use Rattle.construction.specs.Start as starting
+use Rattle.construction.specs.Steps as stepping
+use Rattle.construction.specs.Steps.{State, steps, firstState}
+use Rattle.construction.specs.Certificate.{lengthened, chosen, buildNumbers}
 use Rattle.certifier.specs.Code.{cutOf, cutIn, earsOf, FlatShows, Shows, stateIn, cutNumbersIn, cutCertificateIn, StartKept, startIn, builtCertificateIn}
 use Rattle.certifier.specs.declared.Cut.{Cut}
 use Rattle.certifier.specs.declared.Ears.{Ears}
@@ -39,12 +39,12 @@ on-short rows full zero flat k set h = h
 on-short rows full (suc f) flat k set h =
     go (empty (minus full set)) (detour rows full set) (λ d. on-short rows full f (addPath flat (d .path)) (k + 1) (withAll set (d .path)) (add-short flat (d .path) h))
   where
-    go : (done : Bool) (d : making.Found) → ((x : making.Found) → length (earsOn rows full f (addPath flat (x .path)) (k + 1) (withAll set (x .path)) .flat) ≤ pathSpace)
-        → length (cond {A = making.Eared} done (eared flat k noCut) (cond (isCut (d .cutBy)) (eared flat k (d .cutBy)) (earsOn rows full f (addPath flat (d .path)) (k + 1) (withAll set (d .path)))) .flat) ≤ pathSpace
+    go : (done : Bool) (d : construction.Found) → ((x : construction.Found) → length (earsOn rows full f (addPath flat (x .path)) (k + 1) (withAll set (x .path)) .flat) ≤ pathSpace)
+        → length (cond {A = construction.Eared} done (eared flat k noCut) (cond (isCut (d .cutBy)) (eared flat k (d .cutBy)) (earsOn rows full f (addPath flat (d .path)) (k + 1) (withAll set (d .path)))) .flat) ≤ pathSpace
     go true d on = h
     go false d on = by (isCut (d .cutBy))
       where
-        by : (cuts : Bool) → length (cond {A = making.Eared} cuts (eared flat k (d .cutBy)) (earsOn rows full f (addPath flat (d .path)) (k + 1) (withAll set (d .path))) .flat) ≤ pathSpace
+        by : (cuts : Bool) → length (cond {A = construction.Eared} cuts (eared flat k (d .cutBy)) (earsOn rows full f (addPath flat (d .path)) (k + 1) (withAll set (d .path))) .flat) ≤ pathSpace
         by true = h
         by false = on d
 
@@ -55,11 +55,11 @@ ears-short rows full = go (cycle rows)
     none-short : length {A = ℕ} [] ≤ pathSpace
     none-short = omega arith
 
-    go : (d : making.Found)
-        → length (cond {A = making.Eared} (isCut (d .cutBy)) (eared [] 0 (d .cutBy)) (earsOn rows full capacity (addPath [] (d .path)) 1 (withAll emptySet (d .path))) .flat) ≤ pathSpace
+    go : (d : construction.Found)
+        → length (cond {A = construction.Eared} (isCut (d .cutBy)) (eared [] 0 (d .cutBy)) (earsOn rows full capacity (addPath [] (d .path)) 1 (withAll emptySet (d .path))) .flat) ≤ pathSpace
     go d = by (isCut (d .cutBy))
       where
-        by : (cuts : Bool) → length (cond {A = making.Eared} cuts (eared [] 0 (d .cutBy)) (earsOn rows full capacity (addPath [] (d .path)) 1 (withAll emptySet (d .path))) .flat) ≤ pathSpace
+        by : (cuts : Bool) → length (cond {A = construction.Eared} cuts (eared [] 0 (d .cutBy)) (earsOn rows full capacity (addPath [] (d .path)) 1 (withAll emptySet (d .path))) .flat) ≤ pathSpace
         by true = none-short
         by false = on-short rows full capacity (addPath [] (d .path)) 1 (withAll emptySet (d .path)) (add-short [] (d .path) none-short)
 

@@ -12,10 +12,10 @@ use Rattle.graph.specs.Rows.{rowOf}
 use Rattle.search.specs.Arrays.{placed, placedEnd}
 use Rattle.search.specs.Code.{pathRoom}
 use Rattle.search.proofs.Placed.{padded-none}
-use Rattle.making.specs.Sets.{capacity, stop, minus, single, withAll, members, least, empty}
-use Rattle.making.specs.Search.{explore}
-use Rattle.making.specs.Ears as making
-use Rattle.making.specs.Ears.{noCut, isCut, failed, answered, wayOut, backFrom, detour, cycle, pathSpace, addPath, Eared, eared, earsOn, ears}
+use Rattle.construction.specs.Sets.{capacity, stop, minus, single, withAll, members, least, empty}
+use Rattle.construction.specs.Search.{explore}
+use Rattle.construction.specs.Ears as construction
+use Rattle.construction.specs.Ears.{noCut, isCut, failed, answered, wayOut, backFrom, detour, cycle, pathSpace, addPath, Eared, eared, earsOn, ears}
 use Rattle.certifier.specs.Code.{cutOf, cutIn, foundOf, earsOf, Kept, FlatShows}
 use Rattle.certifier.specs.declared.Cut.{Cut}
 use Rattle.certifier.specs.declared.Found.{Found}
@@ -31,7 +31,7 @@ none-short removed side = omega arith
 back-short : (rows : List ℕ) (set : VertexSet) (e : ℕ × ℕ) → length (backFrom rows set e .path) ≤ pathRoom
 back-short rows set e = go (ltb (e .0) capacity)
   where
-    go : (b : Bool) → length (cond {A = making.Found} b (answered (explore rows (single (e .1)) (minus set (single (e .0))) (single (e .0))) (single (e .0)) (e .0 ∷ [])) (failed emptySet set) .path) ≤ pathRoom
+    go : (b : Bool) → length (cond {A = construction.Found} b (answered (explore rows (single (e .1)) (minus set (single (e .0))) (single (e .0))) (single (e .0)) (e .0 ∷ [])) (failed emptySet set) .path) ≤ pathRoom
     go true = answered-one (explore rows (single (e .1)) (minus set (single (e .0))) (single (e .0))) (single (e .0)) (e .0)
     go false = none-short emptySet set
 
@@ -40,7 +40,7 @@ unfolding detour
 detour-short rows full set = back-short rows set (wayOut rows set (members (minus full set)))
 
 around-short : (rows : List ℕ) (row : VertexSet) (b : Bool)
-    → length (cond {A = making.Found} b (failed row (single 0)) (answered (explore rows (single (least row)) (minus row (single (least row))) (single 0)) (single 0) (0 ∷ [])) .path) ≤ pathRoom
+    → length (cond {A = construction.Found} b (failed row (single 0)) (answered (explore rows (single (least row)) (minus row (single (least row))) (single 0)) (single 0) (0 ∷ [])) .path) ≤ pathRoom
 around-short rows row true = none-short row (single 0)
 around-short rows row false = answered-one (explore rows (single (least row)) (minus row (single (least row))) (single 0)) (single 0) 0
 
@@ -57,7 +57,7 @@ earsAt flat len count cut = record { flat = flat; len = len; count = count; cut 
 abbrev pub pathPart : Found → List ℕ
 pathPart f = take (f .path .count - 0) (drop 0 (f .path .vertices))
 
-pub found-fits : (f : Found) (g : making.Found) → f ≡ foundOf g → length (g .path) ≤ pathRoom → f .path .count ≤ length (f .path .vertices)
+pub found-fits : (f : Found) (g : construction.Found) → f ≡ foundOf g → length (g .path) ≤ pathRoom → f .path .count ≤ length (f .path .vertices)
 found-fits f g e h = path-fits (f .path) (g .path) (ap (λ (x : Found). x .path) e) h
 
 pub cycle-fits : (rows : List ℕ) (f : Found) → f ≡ foundOf (cycle rows) → f .path .count ≤ length (f .path .vertices)
@@ -66,7 +66,7 @@ cycle-fits rows f e = found-fits f (cycle rows) e (cycle-short rows)
 pub detour-fits : (rows : List ℕ) (full set : VertexSet) (f : Found) → f ≡ foundOf (detour rows full set) → f .path .count ≤ length (f .path .vertices)
 detour-fits rows full set f e = found-fits f (detour rows full set) e (detour-short rows full set)
 
-part-is : (f : Found) (g : making.Found) → f ≡ foundOf g → length (g .path) ≤ pathRoom → pathPart f ≡ g .path
+part-is : (f : Found) (g : construction.Found) → f ≡ foundOf g → length (g .path) ≤ pathRoom → pathPart f ≡ g .path
 part-is f g e h = path-front (f .path) (g .path) (ap (λ (x : Found). x .path) e) h
 
 pub cycle-low : (rows : List ℕ) (f : Found) → f ≡ foundOf (cycle rows) → length (pathPart f) ≤ pathRoom
@@ -74,10 +74,10 @@ cycle-low rows f e = subst (λ (l : List ℕ). length l ≤ pathRoom) (sym (part
 
 -- ---- a search: where it fails its cut is the answer, else its path goes on
 
-abbrev pub stage : {A : Type 0} → (making.Cut → A) → (List ℕ → A) → making.Found → A
+abbrev pub stage : {A : Type 0} → (construction.Cut → A) → (List ℕ → A) → construction.Found → A
 stage end more g = cond (isCut (g .cutBy)) (end (g .cutBy)) (more (g .path))
 
-module _ {A : Type 0} (end : making.Cut → A) (more : List ℕ → A) (f : Found) (g : making.Found) (e : f ≡ foundOf g) {y : Bool} (t : y ≡ isCut (cutIn (f .cut))) where
+module _ {A : Type 0} (end : construction.Cut → A) (more : List ℕ → A) (f : Found) (g : construction.Found) (e : f ≡ foundOf g) {y : Bool} (t : y ≡ isCut (cutIn (f .cut))) where
   test : isCut (g .cutBy) ≡ y
   test = sym (t ∙ ap (λ (x : Found). isCut (cutIn (x .cut))) e)
 
@@ -125,7 +125,7 @@ first-ear rows full path {flat} {len} o n z s =
     record { kept = flat-shows-kept flat len _ f; room = refl; rest = λ i. earsOn rows full capacity (flat-shows-take flat len _ f i) 1 (v i) }
 
 -- by the two tests of a turn
-abbrev turn : List ℕ → VertexSet → ℕ → List ℕ → ℕ → VertexSet → Bool → making.Found → Eared
+abbrev turn : List ℕ → VertexSet → ℕ → List ℕ → ℕ → VertexSet → Bool → construction.Found → Eared
 turn rows full f flat k set done d = cond done (eared flat k noCut) (stage (eared flat k) (λ (p : List ℕ). earsOn rows full f (addPath flat p) (k + 1) (withAll set p)) d)
 
 ears-none : (rows : List ℕ) (full : VertexSet) (flat : List ℕ) (k : ℕ) (set : VertexSet) → earsOn rows full 0 flat k set ≡ eared flat k noCut
@@ -141,7 +141,7 @@ module _ {rows : List ℕ} {full : VertexSet} {whole : Eared} {flat : List ℕ} 
   pub earing-length : length flat ≡ pathSpace
   earing-length = kept-length flat len (g .kept)
 
-  shown : {c : Cut} (d : making.Cut) → c ≡ cutOf d → eared (take len flat) count d ≡ whole → earsAt flat len count c ≡ earsOf whole
+  shown : {c : Cut} (d : construction.Cut) → c ≡ cutOf d → eared (take len flat) count d ≡ whole → earsAt flat len count c ≡ earsOf whole
   shown d e w = (λ i. record { flat = g .kept .0 i; len = sym (kept-size flat len (g .kept)) i; count = count; cut = e i }) ∙ ap earsOf w
 
   pub earing-end : left ≤ 0 → {c : Cut} → c ≡ cutOf noCut → earsAt flat len count c ≡ earsOf whole

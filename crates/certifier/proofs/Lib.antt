@@ -11,4 +11,4 @@ pub mod Builds
 pub mod Starting
 pub mod Certifying
 pub mod Certificates
-pub mod Making
+pub mod Drafts

@@ -19,9 +19,9 @@ use Rattle.search.specs.Arrays.{padded, placed, placedEnd}
 use Rattle.search.specs.Code.{pathOf, pathRoom}
 use Rattle.search.proofs.Placed.{padded-set, placed-padded, placed-end-padded, padded-none}
 use Rattle.search.proofs.Back.{pathIn}
-use Rattle.making.specs.Sets.{withAll, reversed, lastOf, placeOf}
-use Rattle.making.specs.Steps.{pairPlace}
-use Rattle.making.proofs.SetLaws.{added-room}
+use Rattle.construction.specs.Sets.{withAll, reversed, lastOf, placeOf}
+use Rattle.construction.specs.Steps.{pairPlace}
+use Rattle.construction.proofs.SetLaws.{added-room}
 use Rattle.certifier.specs.Code.{pushed, sideOf}
 
 -- ---- loops over a list: what they do from the place i on

@@ -7,9 +7,9 @@ use lib.Dec.{ltb}
 use lib.ListN.{length, getD, length-append}
 use Rattle.vertexset.specs.declared.VertexSet.{VertexSet}
 use Rattle.search.specs.Code.{pathRoom}
-use Rattle.making.specs.Sets.{capacity}
-use Rattle.making.specs.Search.{Reach, back, route, isFound, reached}
-use Rattle.making.specs.Ears.{Found, found, failed, answered}
+use Rattle.construction.specs.Sets.{capacity}
+use Rattle.construction.specs.Search.{Reach, back, route, isFound, reached}
+use Rattle.construction.specs.Ears.{Found, found, failed, answered}
 
 pub back-short : (k : ℕ) (order from : List ℕ) (seeds i : ℕ) → length (back k order from seeds i) ≤ k
 unfolding back

@@ -9,10 +9,10 @@ use Rattle.vertexset.specs.Set.{count}
 use Rattle.vertexset.specs.declared.VertexSet.{VertexSet}
 use Rattle.graph.specs.Rows.{rowOf}
 use Rattle.search.specs.Code.{pathRoom}
-use Rattle.making.specs.Sets.{minus, single, pair, setOf, least}
-use Rattle.making.specs.Search.{explore}
-use Rattle.making.specs.Ears.{cut, isCut, cycle}
-use Rattle.making.specs.Start.{broken, thirdPath, across, startOn, crossed, thirded, around, begin}
+use Rattle.construction.specs.Sets.{minus, single, pair, setOf, least}
+use Rattle.construction.specs.Search.{explore}
+use Rattle.construction.specs.Ears.{cut, isCut, cycle}
+use Rattle.construction.specs.Start.{broken, thirdPath, across, startOn, crossed, thirded, around, begin}
 use Rattle.certifier.specs.Code.{cutIn, foundOf}
 use Rattle.certifier.specs.declared.Found.{Found}
 use Rattle.certifier.proofs.Routes.{answered-none, answered-one}

@@ -14,9 +14,9 @@ use Rattle.search.specs.Arrays.{padded, placed, placedEnd}
 use Rattle.search.specs.Code.{pathOf, pathRoom}
 use Rattle.search.specs.declared.Path.{Path}
 use Rattle.search.proofs.Placed.{padded-length, padded-take, placed-padded, placed-end-padded, added-length, drop-zeros}
-use Rattle.making.specs.Sets.{stop, withAll, lastOf}
-use Rattle.making.specs.Ears.{pathSpace, addPath, noCut}
-use Rattle.making.specs.Steps.{State, stopped, extended, reroute, turned, putIn}
+use Rattle.construction.specs.Sets.{stop, withAll, lastOf}
+use Rattle.construction.specs.Ears.{pathSpace, addPath, noCut}
+use Rattle.construction.specs.Steps.{State, stopped, extended, reroute, turned, putIn}
 use Rattle.certifier.specs.Code.{cutIn, cutOf, flatOf, Kept, FlatShows, Shows, stateIn, putBetween, putBetweenEnd}
 use Rattle.certifier.specs.declared.Cut.{Cut}
 use Rattle.certifier.specs.declared.Progress.{Progress}

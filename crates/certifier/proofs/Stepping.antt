@@ -10,11 +10,11 @@ use borrow.Author.Tests.{lt-ltb, le-ltb}
 use Rattle.vertexset.specs.Set.{emptySet}
 use Rattle.vertexset.specs.declared.VertexSet.{VertexSet}
 use Rattle.search.specs.Code.{pathRoom}
-use Rattle.making.specs.Sets.{pair, withAll, minus, lastOf, placeOf, empty}
-use Rattle.making.specs.Search.{explore}
-use Rattle.making.specs.Ears as making
-use Rattle.making.specs.Ears.{noCut, isCut, answered, detour}
-use Rattle.making.specs.Steps.{State, state, stopped, extended, segment, linkEnds, offLink, linkTaken, runEnd, linkStep, besidePlace, reroute, outTaken, outStep, innerPlace, step, steps}
+use Rattle.construction.specs.Sets.{pair, withAll, minus, lastOf, placeOf, empty}
+use Rattle.construction.specs.Search.{explore}
+use Rattle.construction.specs.Ears as construction
+use Rattle.construction.specs.Ears.{noCut, isCut, answered, detour}
+use Rattle.construction.specs.Steps.{State, state, stopped, extended, segment, linkEnds, offLink, linkTaken, runEnd, linkStep, besidePlace, reroute, outTaken, outStep, innerPlace, step, steps}
 use Rattle.certifier.specs.Code.{cutOf, cutIn, foundOf, sideOf, Kept, Shows, stateIn}
 use Rattle.certifier.specs.declared.Cut.{Cut}
 use Rattle.certifier.specs.declared.Found.{Found}
@@ -35,11 +35,11 @@ front-take items len = let z : len - 0 ≡ len = omega arith in rw z
 abbrev pub stoppedAs : Progress → Cut → Progress
 stoppedAs b c = record { branch = b .branch; built = b .built; len = b .len; at = b .at; going = false; cut = c }
 
-stops : (flat : List ℕ) (b : Progress) → Kept flat (b .len) → {c : Cut} (x : making.Cut) → c ≡ cutOf x → {r : Progress} → r ≡ stoppedAs b c → Shows flat r (stopped (stateIn flat b) x)
+stops : (flat : List ℕ) (b : Progress) → Kept flat (b .len) → {c : Cut} (x : construction.Cut) → c ≡ cutOf x → {r : Progress} → r ≡ stoppedAs b c → Shows flat r (stopped (stateIn flat b) x)
 stops flat b k x e q = record { array = k .0; short = kept-shows flat (b .len) k .short; beside = q ∙ rw (kept-size flat (b .len) k, e) }
 
 -- whether it is a cut, in the code's struct and in the definition's
-cut-test : {c : Cut} (x : making.Cut) → c ≡ cutOf x → {y t : Bool} → y ≡ isCut (cutIn c) → y ≡ t → isCut x ≡ t
+cut-test : {c : Cut} (x : construction.Cut) → c ≡ cutOf x → {y t : Bool} → y ≡ isCut (cutIn c) → y ≡ t → isCut x ≡ t
 cut-test x e q t = ap (λ (y : Cut). isCut (cutIn y)) (sym e) ∙ sym q ∙ t
 
 -- ---- (a) from inside a link
@@ -62,7 +62,7 @@ place-within p (a ∷ l) = go (p a) (place-within p l)
     go false h = omega arith
 
 -- the way off the link that stands at the place i
-unfoldable pub linkWay : List ℕ → State → ℕ → making.Found
+unfoldable pub linkWay : List ℕ → State → ℕ → construction.Found
 linkWay rows st i = offLink rows st i (runEnd (st .flat) (minus (st .built) (st .branch)) i)
 
 way-short : (rows : List ℕ) (st : State) (i : ℕ) → length (linkWay rows st i .path) ≤ pathRoom

@@ -7,8 +7,8 @@ use native.Mathlib.Omega.{arith}
 use lib.Dec.{eqb}
 use lib.ListN.{length, drop, getD, length-take, length-drop}
 use borrow.Author.Tests.{eq-eqb, ne-eqb}
-use Rattle.making.specs.Sets.{reversed}
-use Rattle.making.specs.Steps.{turned, segment}
+use Rattle.construction.specs.Sets.{reversed}
+use Rattle.construction.specs.Steps.{turned, segment}
 use Rattle.certifier.proofs.Lists.{reversed-length}
 
 pub inner-length : (path : List ℕ) → length (segment path 1 (length path - 1)) ≤ length path

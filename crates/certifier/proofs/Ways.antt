@@ -12,8 +12,8 @@ use Rattle.vertexset.specs.Set.{wordCount, next}
 use Rattle.vertexset.specs.declared.VertexSet.{VertexSet}
 use Rattle.vertexset.proofs.Laws.{next-is}
 use Rattle.graph.specs.Rows.{rowOf}
-use Rattle.making.specs.Sets.{capacity, common, least, members, membersFrom}
-use Rattle.making.specs.Ears.{wayOut}
+use Rattle.construction.specs.Sets.{capacity, common, least, members, membersFrom}
+use Rattle.construction.specs.Ears.{wayOut}
 use Rattle.search.proofs.Members.{listed, after, members-next}
 
 -- the next member is not below the place where it is looked for

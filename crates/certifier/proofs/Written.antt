@@ -19,12 +19,12 @@ use Rattle.vertexset.specs.declared.VertexSet.{VertexSet}
 use Rattle.graph.specs.Rows.{rowOf, bareRows, joinedRows}
 use Rattle.connectivity.specs.Lists.{upFrom, select}
 use Rattle.connectivity.proofs.Lists.{length-below}
-use Rattle.making.specs.Sets.{capacity, stop, single, minus, members, membersFrom, added}
-use Rattle.making.specs.Ears.{pathSpace, addPath}
-use Rattle.making.specs.Start.{marked, threePaths}
-use Rattle.making.specs.Certificate.{lengthened, pairsFrom, treeNumbers}
-use Rattle.making.specs.Steps.{addEdges, addRows, finish}
-use Rattle.making.proofs.SetLaws.{added-room}
+use Rattle.construction.specs.Sets.{capacity, stop, single, minus, members, membersFrom, added}
+use Rattle.construction.specs.Ears.{pathSpace, addPath}
+use Rattle.construction.specs.Start.{marked, threePaths}
+use Rattle.construction.specs.Certificate.{lengthened, pairsFrom, treeNumbers}
+use Rattle.construction.specs.Steps.{addEdges, addRows, finish}
+use Rattle.construction.proofs.SetLaws.{added-room}
 use Rattle.search.specs.Arrays.{padded, placed, placedEnd}
 use Rattle.search.proofs.Placed.{padded-length, padded-take, padded-none, padded-set, added-length, placed-padded, placed-end-padded}
 use Rattle.search.proofs.Filling.{Filling, fill-start, fill-length, fill-place, fill-turn, fill-done}

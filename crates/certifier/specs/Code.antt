@@ -10,13 +10,13 @@ use Rattle.vertexset.specs.declared.VertexSet.{VertexSet}
 use Rattle.search.specs.Arrays.{padded}
 use Rattle.search.specs.Code.{pathOf, pathRoom}
 use Rattle.search.specs.declared.Path.{Path}
-use Rattle.making.specs.Sets.{capacity, single, members}
-use Rattle.making.specs.Ears as making
-use Rattle.making.specs.Ears.{pathSpace}
-use Rattle.making.specs.Start as starting
-use Rattle.making.specs.Steps as stepping
-use Rattle.making.specs.Search as searching
-use Rattle.making.specs.Certificate.{pairsFrom, treeNumbers, lengthened, sideNumbers, chosen, buildNumbers}
+use Rattle.construction.specs.Sets.{capacity, single, members}
+use Rattle.construction.specs.Ears as construction
+use Rattle.construction.specs.Ears.{pathSpace}
+use Rattle.construction.specs.Start as starting
+use Rattle.construction.specs.Steps as stepping
+use Rattle.construction.specs.Search as searching
+use Rattle.construction.specs.Certificate.{pairsFrom, treeNumbers, lengthened, sideNumbers, chosen, buildNumbers}
 use Rattle.certifier.specs.declared.Cut.{Cut}
 use Rattle.certifier.specs.declared.Found.{Found}
 use Rattle.certifier.specs.declared.Ears.{Ears}
@@ -24,16 +24,16 @@ use Rattle.certifier.specs.declared.Start.{Start}
 use Rattle.certifier.specs.declared.Progress.{Progress}
 use Rattle.certifier.specs.declared.Numbers.{Numbers}
 
-abbrev pub cutOf : making.Cut → Cut
+abbrev pub cutOf : construction.Cut → Cut
 cutOf c = record { removed = c .removed; side = c .side }
 
-abbrev pub foundOf : making.Found → Found
+abbrev pub foundOf : construction.Found → Found
 foundOf f = record { path = pathOf (f .path); cut = cutOf (f .cutBy) }
 
 abbrev pub flatOf : List ℕ → List ℕ
 flatOf l = padded pathSpace l
 
-abbrev pub earsOf : making.Eared → Ears
+abbrev pub earsOf : construction.Eared → Ears
 earsOf e = record { flat = flatOf (e .flat); len = length (e .flat); count = e .count; cut = cutOf (e .cutBy) }
 
 abbrev pub startOf : starting.Begun → Start
@@ -100,10 +100,10 @@ pub record FlatShows (items : List ℕ) (len : ℕ) (flat : List ℕ) : Type 0 w
   pub size : len ≡ length flat
 
 -- the values of the definition, from the code's structs
-abbrev pub cutIn : Cut → making.Cut
+abbrev pub cutIn : Cut → construction.Cut
 cutIn c = record { removed = c .removed; side = c .side }
 
-abbrev pub earsIn : Ears → making.Eared
+abbrev pub earsIn : Ears → construction.Eared
 earsIn e = record { flat = take (e .len) (e .flat); count = e .count; cutBy = cutIn (e .cut) }
 
 abbrev pub evidenceIn : List ℕ → Ears → ℕ → List ℕ
@@ -115,7 +115,7 @@ cutNumbersIn rows e c =
 
 abbrev pub cutCertificateIn : List ℕ → VertexSet → Cut → List ℕ
 cutCertificateIn rows full c =
-    cond (ltb (count (c .removed .words)) 2) (cutNumbersIn rows (earsOf (making.eared [] 0 making.noCut)) c) (cutNumbersIn rows (earsOf (making.ears rows full)) (cutOf (chosen (making.ears rows full) (cutIn c))))
+    cond (ltb (count (c .removed .words)) 2) (cutNumbersIn rows (earsOf (construction.eared [] 0 construction.noCut)) c) (cutNumbersIn rows (earsOf (construction.ears rows full)) (cutOf (chosen (construction.ears rows full) (cutIn c))))
 
 abbrev pub StartKept : Start → Type 0
 StartKept s = Kept (s .flat) (s .len)
@@ -125,7 +125,7 @@ startIn s = record { four = s .four; flat = take (s .len) (s .flat); cutBy = cut
 
 abbrev pub builtCertificateIn : List ℕ → ℕ → VertexSet → VertexSet → stepping.State → List ℕ
 builtCertificateIn rows n full four st =
-    cond (making.isCut (st .cutBy)) (cutCertificateIn rows full (cutOf (st .cutBy))) (buildNumbers four (stepping.finish rows n (st .flat)))
+    cond (construction.isCut (st .cutBy)) (cutCertificateIn rows full (cutOf (st .cutBy))) (buildNumbers four (stepping.finish rows n (st .flat)))
 
 abbrev pub startCertificateIn : List ℕ → ℕ → VertexSet → Start → List ℕ
 startCertificateIn rows n full s = builtCertificateIn rows n full (s .four) (stepping.build rows full (startIn s))

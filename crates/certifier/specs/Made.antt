@@ -10,7 +10,7 @@ use Rattle.record.specs.declared.Answer.the-variants.{Accepted, Grade, PlanFaul
 use Rattle.graph.specs.Code.{wholePlan}
 use Rattle.graph.specs.declared.Graph.{Graph}
 use Rattle.search.specs.Arrays.{padded}
-use Rattle.making.specs.Certificate.{certificateNumbers, certificateRecord}
+use Rattle.construction.specs.Certificate.{certificateNumbers, certificateRecord}
 use Rattle.certifier.specs.declared.Draft.{Draft}
 use Rattle.certifier.specs.declared.Made.{Made}
 use Rattle.certifier.specs.Code.{numberRoom}

@@ -11,12 +11,12 @@ ghost use Rattle.graph.specs.Plan.{maxEdges};
 ghost use Rattle.graph.specs.Rows.{bareRows};
 ghost use Rattle.search.specs.Arrays.{placed, placedEnd};
 ghost use Rattle.search.specs.Code.{pathOf, pathRoom, searchSpace};
-ghost use Rattle.making.specs.Sets.{capacity, stop, pair, single, withAll, members, membersFrom, reversed, lastOf, placeOf};
-ghost use Rattle.making.specs.Search.{explore};
-ghost use Rattle.making.specs.Ears.{noCut, isCut, answered, wayOut, detour, cycle, pathSpace, addPath, eared, earsOn, ears};
-ghost use Rattle.making.specs.Start.{marked, linkIn, sorted, threePaths, thirdPath, across, begun, broken, startOn, crossed, thirded, begin};
-ghost use Rattle.making.specs.Steps.{state, extended, offLink, linkStep, turned, pairPlace, besidePlace, reroute, outStep, step, steps, addEdges, finish};
-ghost use Rattle.making.specs.Certificate.{lengthened, certificateNumbers, fullSet};
+ghost use Rattle.construction.specs.Sets.{capacity, stop, pair, single, withAll, members, membersFrom, reversed, lastOf, placeOf};
+ghost use Rattle.construction.specs.Search.{explore};
+ghost use Rattle.construction.specs.Ears.{noCut, isCut, answered, wayOut, detour, cycle, pathSpace, addPath, eared, earsOn, ears};
+ghost use Rattle.construction.specs.Start.{marked, linkIn, sorted, threePaths, thirdPath, across, begun, broken, startOn, crossed, thirded, begin};
+ghost use Rattle.construction.specs.Steps.{state, extended, offLink, linkStep, turned, pairPlace, besidePlace, reroute, outStep, step, steps, addEdges, finish};
+ghost use Rattle.construction.specs.Certificate.{lengthened, certificateNumbers, fullSet};
 ghost use Rattle.certifier.specs.Code.{cutOf, foundOf, earsOf, startOf, numbersOf, pushed, sideOf, putBetween, putBetweenEnd, Kept, FlatShows, stateIn, Shows, treeIn, evidenceIn, cutNumbersIn, cutCertificateIn, StartKept, startCertificateIn, Small};
 ghost use Rattle.certifier.specs.Made.{madeFrom, filledFrom, draftOf, draftFrom};
 use graph::Graph;
@@ -60,7 +60,7 @@ struct Start {
     cut: Cut,
 }
 
-// What is kept beside the paths of a build in the making.
+// What is kept beside the paths of a build in the construction.
 struct Progress {
     branch: VertexSet,
     built: VertexSet,

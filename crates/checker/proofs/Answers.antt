@@ -26,7 +26,7 @@ use Rattle.graph.proofs.Adjacency.{network-listed, edge-list}
 use Rattle.certificates.specs.Records.{body, certificate}
 use Rattle.paths.specs.Items.{endRead, limited, rowsGraph}
 use Rattle.build.specs.State.{buildBody}
-use Rattle.simulation.proofs.Kind3.{kind-3}
+use Rattle.refinement.proofs.Kind3.{kind-3}
 use Rattle.checker.specs.Check.{planGraph, onCertificate, certificateAnswer, onPlan, checkOf, onLeading, gradeOf}
 use Rattle.checker.specs.declared.Graded.{Graded}
 use Rattle.checker.specs.Code.{bodyEnd, onEnd, onKind, rowsAnswer}

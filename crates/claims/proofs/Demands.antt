@@ -20,9 +20,9 @@ use Rattle.graph.specs.Code.{wholePlan, planRead}
 use Rattle.graph.specs.declared.PlanRead.{PlanRead}
 use Rattle.graph.proofs.Plans.{plan-law, accepted, accepts, injective}
 use Rattle.graph.proofs.Adjacency.{network-listed}
-use Rattle.making.proofs.PlanLaws.{plan-drawn, plan-edges}
-use Rattle.making.proofs.CertificateLaws as making
-use Rattle.making.proofs.CertificateLaws.{certified}
+use Rattle.construction.proofs.PlanLaws.{plan-drawn, plan-edges}
+use Rattle.construction.proofs.CertificateLaws as construction
+use Rattle.construction.proofs.CertificateLaws.{certified}
 use Rattle.checker.specs.Check.{planGraph, checkOf}
 use Rattle.certifier.specs.declared.Made.{Made}
 use Rattle.certifier.specs.Made.{roomAsked, made, madeBy, madeFrom, filledBy, filledFrom, certificateOf, gradeMade}
@@ -40,7 +40,7 @@ plan-accepted P bp = (λ e. let r = accepted P bp e in (r .0, record { allowed =
 
 -- THE MAKER'S CERTIFICATE of an allowed plan keeps every rule, so the checker accepts it.
 module _ (p : Plan) (a : Allowed p) where
-  its : making.Certified (graphOf p .rows) (graphOf p .n)
+  its : construction.Certified (graphOf p .rows) (graphOf p .n)
   its = certified (graphOf p .rows) (graphOf p .n) (plan-drawn p a) (plan-edges p a)
 
   its-rules : Rules (planGraph p) (its .certificate)

@@ -35,9 +35,9 @@ use Rattle.build.specs.declared.Opened.{Opened}
 use Rattle.build.specs.declared.Stepped.{Stepped}
 use Rattle.build.specs.State.{buildStart, buildPath}
 use Rattle.build.specs.Session.{noSession, openedOn, onOpening, opening, refusedStep, onStart, startStep, onPath, pathCount, pathStep, closeStep}
-use Rattle.simulation.proofs.Shows.{Shows}
-use Rattle.simulation.proofs.Start.{start-same, shows-start}
-use Rattle.simulation.proofs.Reading.{shows-path, shows-read}
+use Rattle.refinement.proofs.Shows.{Shows}
+use Rattle.refinement.proofs.Start.{start-same, shows-start}
+use Rattle.refinement.proofs.Reading.{shows-path, shows-read}
 use Rattle.checker.specs.Check.{planGraph}
 use Rattle.claims.specs.Certified.{IsPlan, IsGrade}
 use Rattle.claims.specs.Calls.{Call, Call.start, Call.path, Call.close, called, after, CallBytes}

@@ -5,9 +5,9 @@ use Prim.Native.Nat.{ℕ}
 use lib.ListN.{length, take, drop}
 use borrow.Author.Tests.{eq-eqb}
 use Rattle.vertexset.specs.declared.VertexSet.{VertexSet}
-use Rattle.making.specs.Sets.{capacity, members}
-use Rattle.making.specs.Search as making
-use Rattle.making.specs.Search.{explore, back, route}
+use Rattle.construction.specs.Sets.{capacity, members}
+use Rattle.construction.specs.Search as construction
+use Rattle.construction.specs.Search.{explore, back, route}
 use Rattle.search.specs.Code.{searchSpace, pathOf, reachOf, spaceAfter, leftIn, answerIn, routeIn}
 use Rattle.search.specs.declared.Path.{Path}
 use Rattle.search.specs.declared.Reach.{Reach}
@@ -16,7 +16,7 @@ use Rattle.search.proofs.Spaces.{both-order, both-from}
 use Rattle.search.proofs.Visits.{first, second, first-size, second-size}
 
 module _ (rows space : List ℕ) (seeds goals removed : VertexSet) (size : length space ≡ searchSpace) where
-  abbrev found : making.Reach
+  abbrev found : construction.Reach
   found = explore rows seeds goals removed
 
   sized : Sized (length (members seeds)) found

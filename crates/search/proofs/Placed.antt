@@ -10,7 +10,7 @@ use lib.Dec.{ltb, leb}
 use borrow.Author.Tests.{leb-true, ltb-true, ltb-false}
 use Rattle.record.specs.Write.{hasRoom, overwritten}
 use Rattle.record.proofs.Write.{overwritten-length}
-use Rattle.making.specs.Sets.{added}
+use Rattle.construction.specs.Sets.{added}
 use Rattle.search.specs.Arrays.{padded, placed, placedEnd}
 
 pub placed-length : (items : List ℕ) (at : ℕ) (l : List ℕ) → length (placed items at l) ≡ length items

@@ -10,7 +10,7 @@ use lib.Seq.{take-append-le, drop-append-le, take-append-add, drop-append-add, t
 use borrow.Author.Tests.{le-leb, lt-leb, leb-true}
 use Rattle.record.specs.Write.{overwritten}
 use Rattle.record.proofs.Write.{overwritten-none, overwritten-length, overwritten-more}
-use Rattle.making.specs.Sets.{capacity, added}
+use Rattle.construction.specs.Sets.{capacity, added}
 use Rattle.search.specs.Arrays.{placed}
 use Rattle.search.specs.Code.{searchSpace, reachedAfter, reachedEnd}
 

@@ -12,8 +12,8 @@ use borrow.Author.Tests.{lt-ltb, le-ltb, le-leb, eq-eqb, ne-eqb}
 use Rattle.vertexset.specs.Set.{emptySet}
 use Rattle.vertexset.specs.declared.VertexSet.{VertexSet}
 use Rattle.graph.specs.Rows.{rowOf}
-use Rattle.making.specs.Sets.{capacity, plus, minus, common, members, least, added}
-use Rattle.making.specs.Search.{Reach, reach, visit, explore}
+use Rattle.construction.specs.Sets.{capacity, plus, minus, common, members, least, added}
+use Rattle.construction.specs.Search.{Reach, reach, visit, explore}
 use Rattle.search.specs.Code.{reachOf, searchSpace, spaceAfter, leftIn, answerIn, reachedAfter, reachedEnd, visitsIn}
 use Rattle.search.specs.declared.Reach as code
 use Rattle.search.proofs.Members.{members-low}

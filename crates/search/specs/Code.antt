@@ -7,9 +7,9 @@ use lib.ListN.{length, take, drop, replicate}
 use Rattle.record.specs.Write.{overwritten}
 use Rattle.vertexset.specs.Set.{emptySet}
 use Rattle.vertexset.specs.declared.VertexSet.{VertexSet}
-use Rattle.making.specs.Sets.{capacity}
-use Rattle.making.specs.Search as making
-use Rattle.making.specs.Search.{back, visit}
+use Rattle.construction.specs.Sets.{capacity}
+use Rattle.construction.specs.Search as construction
+use Rattle.construction.specs.Search.{back, visit}
 use Rattle.search.specs.Arrays.{padded}
 use Rattle.search.specs.declared.Reach.{Reach}
 use Rattle.search.specs.declared.Path.{Path}
@@ -21,7 +21,7 @@ pathRoom = capacity + 2
 abbrev pub pathOf : List ℕ → Path
 pathOf l = record { vertices = padded pathRoom l; count = length l }
 
-abbrev pub reachOf : making.Reach → Reach
+abbrev pub reachOf : construction.Reach → Reach
 reachOf r = record {
   count = length (r .order);
   seeds = r .seeds;
@@ -37,17 +37,17 @@ abbrev pub searchSpace : ℕ
 searchSpace = 2 * capacity
 
 -- each list stands then at the front of its half, and the rest is as it was
-abbrev pub spaceAfter : List ℕ → making.Reach → List ℕ
+abbrev pub spaceAfter : List ℕ → construction.Reach → List ℕ
 spaceAfter space r = overwritten (take capacity space) 0 (r .order) ++ overwritten (drop capacity space) 0 (r .from)
 
 -- in a space of another size nothing is searched and nothing changes
-abbrev pub leftIn : List ℕ → making.Reach → List ℕ
+abbrev pub leftIn : List ℕ → construction.Reach → List ℕ
 leftIn space r = cond (eqb (length space) searchSpace) (spaceAfter space r) space
 
 abbrev pub noReach : Reach
 noReach = record { count = 0; seeds = 0; shut = emptySet; goal = capacity; last = 0 }
 
-abbrev pub answerIn : List ℕ → making.Reach → Reach
+abbrev pub answerIn : List ℕ → construction.Reach → Reach
 answerIn space r = cond (eqb (length space) searchSpace) (reachOf r) noReach
 
 -- the path back from the goal, out of the space
@@ -64,5 +64,5 @@ abbrev pub reachedEnd : ℕ → List ℕ → ℕ
 reachedEnd at l = cond (leb (at + length l) capacity) (at + length l) at
 
 -- the visits from the first vertices in the space on
-abbrev pub visitsIn : List ℕ → VertexSet → ℕ → List ℕ → VertexSet → making.Reach
+abbrev pub visitsIn : List ℕ → VertexSet → ℕ → List ℕ → VertexSet → construction.Reach
 visitsIn rows goals k space shut = visit rows goals k capacity (take k space) (take k (drop capacity space)) shut 0

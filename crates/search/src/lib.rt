@@ -2,8 +2,8 @@
 ghost use mathlib.Core.Path.{_≡_};
 ghost use Prim.Native.Nat.{_≤_};
 ghost use lib.ListN.{getD, length, replicate, take, drop};
-ghost use Rattle.making.specs.Sets.{members, capacity};
-ghost use Rattle.making.specs.Search.{explore};
+ghost use Rattle.construction.specs.Sets.{members, capacity};
+ghost use Rattle.construction.specs.Search.{explore};
 ghost use Rattle.search.specs.Arrays.{placed, placedEnd};
 ghost use Rattle.search.specs.Code.{reachOf, pathOf, routeIn, searchSpace, spaceAfter, leftIn, answerIn, reachedAfter, reachedEnd, visitsIn};
 use graph::Graph;

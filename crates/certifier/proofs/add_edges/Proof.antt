@@ -5,8 +5,8 @@ use mathlib.Core.List.{List, [], _∷_}
 use lib.ListN.{length, getD, set, take, length-set}
 use borrow.Author.Needs.{needs}
 use Rattle.vertexset.specs.Set.{wordCount}
-use Rattle.making.specs.Sets.{membersFrom}
-use Rattle.making.specs.Steps.{addEdges}
+use Rattle.construction.specs.Sets.{membersFrom}
+use Rattle.construction.specs.Steps.{addEdges}
 use Rattle.search.proofs.Members.{after}
 use Rattle.certifier.proofs.Written.{Adding, edges-start, edges-fewer, edges-turn, edges-end, filled-length, kept-flat}
 use Rattle.certifier.proofs.add_edges.Statement.{statement}

@@ -3,8 +3,8 @@ use mathlib.Core.Path.{ap, _∙_}
 use mathlib.Core.List.{List, _∷_}
 use Prim.Native.Nat.{ℕ}
 use borrow.Author.Needs.{needs}
-use Rattle.making.specs.Sets.{stop}
-use Rattle.making.specs.Start.{linkIn}
+use Rattle.construction.specs.Sets.{stop}
+use Rattle.construction.specs.Start.{linkIn}
 use Rattle.search.specs.Code.{routeIn}
 use Rattle.search.specs.Arrays.{placed, placedEnd}
 use Rattle.search.proofs.Lent.{routed}

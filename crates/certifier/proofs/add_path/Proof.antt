@@ -5,7 +5,7 @@ use borrow.Author.Needs.{needs}
 use lib.ListN.{length, set, length-set}
 use Prim.Native.Nat.{suc, _+_, _≤_}
 use mathlib.Core.List.{_∷_}
-use Rattle.making.specs.Sets.{stop}
+use Rattle.construction.specs.Sets.{stop}
 use Rattle.search.proofs.Placed.{placed-length}
 use Rattle.search.proofs.Puts.{put-none}
 use Rattle.certifier.proofs.Written.{first-put, first-end}

@@ -1,7 +1,7 @@
 -- `certifier::begin_across` meets its contract. Assumes nothing.
 use mathlib.Core.Path.{ap, _∙_}
 use borrow.Author.Needs.{needs}
-use Rattle.making.specs.Start.{across}
+use Rattle.construction.specs.Start.{across}
 use Rattle.certifier.specs.Code.{startOf}
 use Rattle.certifier.proofs.Earing.{found-fits}
 use Rattle.certifier.proofs.Starting.{across-short, across-cut, across-on}

@@ -1,7 +1,7 @@
 -- `certifier::begin_around` meets its contract. Assumes nothing.
 use mathlib.Core.Path.{ap, _∙_}
 use borrow.Author.Needs.{needs}
-use Rattle.making.specs.Start.{thirdPath}
+use Rattle.construction.specs.Start.{thirdPath}
 use Rattle.certifier.specs.Code.{startOf}
 use Rattle.certifier.proofs.Earing.{found-fits}
 use Rattle.certifier.proofs.Starting.{third-short, third-cut, third-on}

@@ -5,7 +5,7 @@ use lib.ListN.{length}
 use borrow.Author.Needs.{needs}
 use Rattle.graph.specs.Plan.{maxEdges}
 use Rattle.search.specs.Code.{searchSpace}
-use Rattle.making.specs.Steps.{steps}
+use Rattle.construction.specs.Steps.{steps}
 use Rattle.certifier.specs.Code.{Kept, stateIn}
 use Rattle.certifier.proofs.States.{kept-length}
 use Rattle.certifier.proofs.Stepping.{steps-stopped, steps-none, steps-turn}

@@ -1,7 +1,7 @@
 -- `certifier::build_certificate` meets its contract. Assumes nothing.
 use mathlib.Core.Path.{sym, ap, _∙_}
 use borrow.Author.Needs.{needs}
-use Rattle.making.specs.Steps as stepping
+use Rattle.construction.specs.Steps as stepping
 use Rattle.certifier.specs.Code.{numbersOf, startIn}
 use Rattle.certifier.proofs.States.{kept-length, shows-kept}
 use Rattle.certifier.proofs.Certifying.{start-fits, build-shows, build-cut, build-done}

@@ -1,6 +1,6 @@
 -- `certifier::build_numbers` meets its contract. Assumes nothing.
 use borrow.Author.Needs.{needs}
-use Rattle.making.specs.Sets.{members}
+use Rattle.construction.specs.Sets.{members}
 use Rattle.certifier.proofs.Written.{members-short, numbers-are, build-filled}
 use Rattle.certifier.proofs.build_numbers.Statement.{statement}
 use Rattle.certifier.proofs.build_numbers.Tie as tie

@@ -2,7 +2,7 @@
 use native.Mathlib.Omega.{arith}
 use borrow.Author.Needs.{needs}
 use Rattle.record.specs.Read.{Bytes}
-use Rattle.certifier.proofs.Making.{made-fits, made-room, made-done}
+use Rattle.certifier.proofs.Drafts.{made-fits, made-room, made-done}
 use Rattle.certifier.proofs.certify.Statement.{statement}
 use Rattle.certifier.proofs.certify.Tie as tie
 

@@ -6,7 +6,7 @@ use mir.Syntax.{w64}
 use borrow.Author.Needs.{needs}
 use Rattle.vertexset.specs.Set.{wordCount}
 use Rattle.vertexset.proofs.Laws.{Words}
-use Rattle.making.specs.Sets.{members}
+use Rattle.construction.specs.Sets.{members}
 use Rattle.search.proofs.Members.{members-size}
 use Rattle.certifier.proofs.Written.{members-short, numbers-room, cut-are}
 use Rattle.certifier.proofs.cut_numbers.Statement.{statement}

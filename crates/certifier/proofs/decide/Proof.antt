@@ -2,7 +2,7 @@
 use native.Mathlib.Omega.{arith}
 use borrow.Author.Needs.{needs}
 use Rattle.record.specs.Read.{Bytes}
-use Rattle.certifier.proofs.Making.{draft-refused, draft-short, draft-low, draft-grade, draft-done}
+use Rattle.certifier.proofs.Drafts.{draft-refused, draft-short, draft-low, draft-grade, draft-done}
 use Rattle.certifier.proofs.decide.Statement.{statement}
 use Rattle.certifier.proofs.decide.Tie as tie
 

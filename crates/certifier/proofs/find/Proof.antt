@@ -1,6 +1,6 @@
 -- `certifier::find` meets its contract. Assumes nothing.
 use borrow.Author.Needs.{needs}
-use Rattle.making.specs.Search.{explore}
+use Rattle.construction.specs.Search.{explore}
 use Rattle.search.proofs.Lent.{answer-is, routed}
 use Rattle.certifier.proofs.Answered.{found-here, found-none}
 use Rattle.certifier.proofs.find.Statement.{statement}

@@ -3,8 +3,8 @@ use mathlib.Core.Path.{ap, _∙_}
 use mathlib.Core.List.{_∷_, []}
 use borrow.Author.Needs.{needs}
 use Rattle.vertexset.specs.declared.VertexSet.{VertexSet}
-use Rattle.making.specs.Search.{explore}
-use Rattle.making.specs.Ears.{answered}
+use Rattle.construction.specs.Search.{explore}
+use Rattle.construction.specs.Ears.{answered}
 use Rattle.certifier.specs.Code.{foundOf}
 use Rattle.certifier.proofs.Answered.{on-none, on-more}
 use Rattle.certifier.proofs.find_on.Statement.{statement}

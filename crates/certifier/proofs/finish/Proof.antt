@@ -5,14 +5,14 @@ use native.Mathlib.Omega.{arith}
 use lib.ListN.{take}
 use borrow.Author.Needs.{needs}
 use Rattle.graph.specs.Rows.{bareRows}
-use Rattle.making.specs.Start.{marked}
-use Rattle.making.specs.Steps as making
+use Rattle.construction.specs.Start.{marked}
+use Rattle.construction.specs.Steps as construction
 use Rattle.certifier.proofs.Written.{Finishing, rows-start, rows-turn, rows-end, filled-length, flat-kept, kept-flat}
 use Rattle.certifier.proofs.finish.Statement.{statement}
 use Rattle.certifier.proofs.finish.Tie as tie
 
 abbrev Inv-loop : tie.InvT-loop
-Inv-loop rows n flat₀ from table len₀ u₀ flat len u = Finishing (making.finish rows n (take from flat₀)) rows table n u flat len
+Inv-loop rows n flat₀ from table len₀ u₀ flat len u = Finishing (construction.finish rows n (take from flat₀)) rows table n u flat len
 
 abbrev μ-loop : tie.MeasureT-loop
 μ-loop rows n flat₀ from table len₀ u₀ flat len u = n - u

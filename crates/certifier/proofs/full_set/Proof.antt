@@ -4,8 +4,8 @@ use mathlib.Core.Path.{_≡_, sym, _∙_}
 use native.Mathlib.Omega.{arith}
 use borrow.Author.Needs.{needs}
 use Rattle.connectivity.specs.Lists.{upFrom}
-use Rattle.making.specs.Sets.{withAll}
-use Rattle.making.specs.Certificate.{fullSet}
+use Rattle.construction.specs.Sets.{withAll}
+use Rattle.construction.specs.Certificate.{fullSet}
 use Rattle.certifier.proofs.Lists.{up-turn, up-end}
 use Rattle.certifier.proofs.full_set.Statement.{statement}
 use Rattle.certifier.proofs.full_set.Tie as tie

@@ -3,7 +3,7 @@ use Prim.Native.Nat.{_-_, _<_}
 use mathlib.Core.Path.{_≡_, refl, _∙_, sym}
 use lib.ListN.{length, drop}
 use borrow.Author.Needs.{needs}
-use Rattle.making.specs.Start.{marked}
+use Rattle.construction.specs.Start.{marked}
 use Rattle.certifier.proofs.Written.{mark-turn, mark-end}
 use Rattle.certifier.proofs.mark.Statement.{statement}
 use Rattle.certifier.proofs.mark.Tie as tie

@@ -4,7 +4,7 @@ use mathlib.Core.Path.{_≡_, _∙_}
 use native.Mathlib.Omega.{arith}
 use borrow.Author.Needs.{needs}
 use lib.ListN.{length, drop}
-use Rattle.making.specs.Steps.{pairPlace}
+use Rattle.construction.specs.Steps.{pairPlace}
 use Rattle.certifier.proofs.Lists.{pair-here, pair-turn, pair-end}
 use Rattle.certifier.proofs.pair_place.Statement.{statement}
 use Rattle.certifier.proofs.pair_place.Tie as tie

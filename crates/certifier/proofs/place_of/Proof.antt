@@ -3,7 +3,7 @@ use Prim.Native.Nat.{_+_, _-_}
 use mathlib.Core.Path.{_≡_, refl, _∙_}
 use borrow.Author.Needs.{needs}
 use lib.ListN.{length, drop}
-use Rattle.making.specs.Sets.{placeOf}
+use Rattle.construction.specs.Sets.{placeOf}
 use Rattle.certifier.specs.Code.{sideOf}
 use Rattle.certifier.proofs.Lists.{side-test, place-here, place-turn, place-end}
 use Rattle.certifier.proofs.place_of.Statement.{statement}

@@ -4,7 +4,7 @@ use mathlib.Core.Path.{_≡_, ap, _∙_}
 use native.Mathlib.Omega.{arith}
 use lib.ListN.{length, set, take, length-set}
 use borrow.Author.Needs.{needs}
-use Rattle.making.specs.Ears.{pathSpace}
+use Rattle.construction.specs.Ears.{pathSpace}
 use Rattle.search.proofs.Placed.{placed-length}
 use Rattle.certifier.specs.Code.{treeIn}
 use Rattle.certifier.proofs.Answered.{tree-low, tree-left}

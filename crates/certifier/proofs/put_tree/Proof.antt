@@ -5,8 +5,8 @@ use mathlib.Core.List.{List}
 use native.Mathlib.Omega.{arith}
 use lib.ListN.{length, getD, take, drop, length-set}
 use borrow.Author.Needs.{needs}
-use Rattle.making.specs.Sets.{capacity}
-use Rattle.making.specs.Certificate.{pairsFrom}
+use Rattle.construction.specs.Sets.{capacity}
+use Rattle.construction.specs.Certificate.{pairsFrom}
 use Rattle.search.proofs.Filling.{Filling}
 use Rattle.search.proofs.entry.Reads as entry-reads
 use Rattle.certifier.proofs.Written.{tree-start, tree-length, tree-end, tree-place, tree-turn}

@@ -6,7 +6,7 @@ use native.Mathlib.Omega.{arith}
 use borrow.Author.Needs.{needs}
 use lib.ListN.{length, getD}
 use Rattle.search.specs.Code.{pathRoom}
-use Rattle.making.specs.Steps.{turned}
+use Rattle.construction.specs.Steps.{turned}
 use Rattle.certifier.specs.Code.{putBetween, putBetweenEnd}
 use Rattle.certifier.proofs.Turns.{turned-length}
 use Rattle.certifier.proofs.States.{kept-length, path-front, path-fits, reroute-shows}

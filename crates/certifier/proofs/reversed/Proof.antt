@@ -6,7 +6,7 @@ use borrow.Author.Needs.{needs}
 use lib.ListN.{length, drop}
 use Rattle.search.specs.Arrays.{padded}
 use Rattle.search.specs.Code.{pathRoom}
-use Rattle.making.specs.Sets.{reversed}
+use Rattle.construction.specs.Sets.{reversed}
 use Rattle.certifier.proofs.Lists.{reversed-none, reversed-put, reversed-done}
 use Rattle.certifier.proofs.reversed.Statement.{statement}
 use Rattle.certifier.proofs.reversed.Tie as tie

@@ -5,7 +5,7 @@ use native.Mathlib.Omega.{arith}
 use borrow.Author.Needs.{needs}
 use lib.ListN.{length}
 use Rattle.vertexset.specs.Set.{wordCount}
-use Rattle.making.specs.Ears.{pathSpace}
+use Rattle.construction.specs.Ears.{pathSpace}
 use Rattle.certifier.proofs.Written.{filled-none}
 use Rattle.certifier.proofs.Builds.{next-low, link-added, six-sorted, six-start}
 use Rattle.certifier.proofs.six_links.Statement.{statement}

@@ -6,8 +6,8 @@ use borrow.Author.Needs.{needs}
 use lib.ListN.{length}
 use Rattle.vertexset.specs.Set.{wordCount}
 use Rattle.graph.specs.Rows.{rowOf}
-use Rattle.making.specs.Sets.{capacity, common, least}
-use Rattle.making.specs.Ears.{wayOut}
+use Rattle.construction.specs.Sets.{capacity, common, least}
+use Rattle.construction.specs.Ears.{wayOut}
 use Rattle.search.proofs.Members.{listed, after}
 use Rattle.certifier.proofs.Ways.{next-up, way-begin, way-members, way-here, way-turn, way-end}
 use Rattle.certifier.proofs.way_out.Statement.{statement}

@@ -8,7 +8,7 @@ use lib.ListN.{length, getD, drop, length-set}
 use lib.Pow.{shl-exact}
 use borrow.Author.Needs.{needs}
 use Rattle.vertexset.specs.Set.{wordCount}
-use Rattle.making.specs.Sets.{withAll}
+use Rattle.construction.specs.Sets.{withAll}
 use Rattle.certifier.proofs.Lists.{ofWords, all-turn, all-past, all-end}
 use Rattle.certifier.proofs.with_all.Statement.{statement}
 use Rattle.certifier.proofs.with_all.Tie as tie

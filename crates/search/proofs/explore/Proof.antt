@@ -1,7 +1,7 @@
 -- `search::explore` meets its contract: the seeds are put, then come the visits. Assumes nothing.
 use borrow.Author.Needs.{needs}
-use Rattle.making.specs.Sets.{members}
-use Rattle.making.specs.Search.{explore}
+use Rattle.construction.specs.Sets.{members}
+use Rattle.construction.specs.Search.{explore}
 use Rattle.search.proofs.Members.{members-low}
 use Rattle.search.proofs.Visits.{count-low, start-size, explored-all, explored-none}
 use Rattle.search.proofs.explore.Statement.{statement}

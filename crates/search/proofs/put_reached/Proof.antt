@@ -7,7 +7,7 @@ use mir.Syntax.{w64}
 use borrow.Author.Needs.{needs}
 use Rattle.vertexset.specs.Set.{wordCount}
 use Rattle.vertexset.proofs.Laws.{Words}
-use Rattle.making.specs.Sets.{members}
+use Rattle.construction.specs.Sets.{members}
 use Rattle.search.proofs.Members.{members-size}
 use Rattle.search.proofs.Spaces.{reached-nothing, reached-none, reached-done}
 use Rattle.search.proofs.put_reached.Statement.{statement}

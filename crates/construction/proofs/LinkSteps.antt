@@ -1,0 +1,338 @@
+-- Step (a): the first inner vertex of a build stands on a link; from inside it a path leads off the link, or its two ends cut the graph.
+use mathlib.Core.Path.{_≡_, refl, sym, ap, subst, _∙_}
+use mathlib.Core.Logic.{_⊎_, inl, inr, ⊎-elim, ⊎-map}
+use mathlib.Core.List.{List, [], _∷_, _++_, append-assoc, append-nil}
+use mathlib.Core.Bool.{Bool, true, false, cond, not}
+use Prim.Native.Nat.{ℕ, _+_, _-_, _≤_, _<_}
+use native.Mathlib.Omega.{arith}
+use lib.ListN.{length, take, drop, getD, length-append, length-drop, take-append-drop}
+use lib.Seq.{take-at, drop-at, getD-at, length-take-le}
+use borrow.Author.Tests.{not-true, not-false}
+use Rattle.vertexset.specs.Set.{has}
+use Rattle.vertexset.specs.declared.VertexSet.{VertexSet}
+use Rattle.graph.specs.Plan.{maxEdges}
+use Rattle.connectivity.specs.Lists.{In}
+use Rattle.connectivity.specs.Graph.{Adj, edgeCount}
+use Rattle.connectivity.specs.Path.{Link, link, vertices, usedEdges}
+use Rattle.connectivity.proofs.Lists.{in-left, in-right, in-append, in-single, clash, bool?, fewer}
+use Rattle.connectivity.proofs.Paths.{builtVertices, branchVertices, in-built, in-branch, branch-built, inner-in, end-s, end-t, end-or-inner}
+use Rattle.connectivity.proofs.Recorded.{Extends, branch-beside}
+use Rattle.connectivity.proofs.Progress.{NoneIn, link-extends}
+use Rattle.connectivity.proofs.FirstLinks.{reversed}
+use Rattle.construction.specs.Sets.{capacity, stop, minus, pair, setOf, members, placeOf}
+use Rattle.construction.specs.Search.{explore, route, reached}
+use Rattle.construction.specs.Ears.{cut, Found, found, failed, answered}
+use Rattle.construction.specs.Steps.{State, stopped, extended, segment, offLink, linkTaken, runEnd, innerPlace}
+use Rattle.construction.proofs.Basics.{drawnGraph, Drawn, Sized, On, IsCut, flatten, Asked, Met, Shut}
+use Rattle.construction.proofs.SetLaws.{sized-empty, sized-all, sized-minus, sized-pair, on-low, minus-on, on-minus, set-on, on-set, pair-on, on-pair, members-in, members-nodup}
+use Rattle.construction.proofs.Searching.{explored, found-as}
+use Rattle.construction.proofs.Detours.{no-cut, answer-found, answer-failed, shut-cut, low-capacity}
+use Rattle.construction.proofs.Flat.{newestFirst, in-newest, Located, locate, rev-vertices, extends-reversed}
+use Rattle.construction.proofs.Finding.{FirstAt, first-at, place-is, place-none}
+use Rattle.construction.proofs.StepLaws.{Going, Stepped, cuts, below-stop, vertex-low, vertex-on, on-vertex, extended-step}
+
+-- the first inner vertex, or none: every vertex of the build is a branch vertex
+pub record InnerFirst (st : State) : Type 0 where
+  pub front : List ℕ
+  pub w : ℕ
+  pub back : List ℕ
+  pub is : st .flat ≡ front ++ (w ∷ back)
+  pub inner : On (minus (st .built) (st .branch)) w
+  pub seen : (v : ℕ) → In v front → On (st .built) v → On (st .branch) v
+  pub place : innerPlace st ≡ length front
+
+pub record NoInner (st : State) : Type 0 where
+  pub all-branch : (v : ℕ) → On (st .built) v → On (st .branch) v
+  pub place : innerPlace st ≡ length (st .flat)
+
+-- numbers alone: omega is slow beside sets
+past : (at p f l k : ℕ) → p ≡ f → l ≡ k + f → k ≡ at → at + p ≡ l
+past at p f l k h j e = omega arith
+
+to-end : (at p d l : ℕ) → p ≡ d → d ≡ l - at → at ≤ l → at + p ≡ l
+to-end at p d l h j e = omega arith
+
+module _ (rows : List ℕ) (n : ℕ) (ms ps : List Link) (st : State) (go : Going rows n ms ps st) where
+  not-inner : (v : ℕ) → has (minus (st .built) (st .branch) .words) v ≡ false → On (st .built) v → On (st .branch) v
+  not-inner v e h = ⊎-elim (λ k. k) (λ k. absurd (clash (on-minus (st .built) (st .branch) (go .built-sized) (go .branch-sized) v h (λ j. clash j k)) e)) (bool? (has (st .branch .words) v))
+
+  pub find-inner : InnerFirst st ⊎ NoInner st
+  find-inner = ⊎-map some none (first-at inner? (drop (st .at) (st .flat)))
+    where
+      inner? : ℕ → Bool
+      inner? = has (minus (st .built) (st .branch) .words)
+
+      some : FirstAt inner? (drop (st .at) (st .flat)) → InnerFirst st
+      some r = record {
+        front = take (st .at) (st .flat) ++ r .front;
+        w = r .x;
+        back = r .back;
+        is = sym (take-append-drop (st .at) (st .flat)) ∙ ap (λ (k : List ℕ). take (st .at) (st .flat) ++ k) (r .is) ∙ sym (append-assoc (take (st .at) (st .flat)) (r .front) (r .x ∷ r .back));
+        inner = r .holds;
+        seen = λ v h. ⊎-elim (go .passed v) (λ k. not-inner v (r .none v k)) (in-append v (take (st .at) (st .flat)) (r .front) h);
+        place = past (st .at) (placeOf inner? (drop (st .at) (st .flat))) (length (r .front)) (length (take (st .at) (st .flat) ++ r .front)) (length (take (st .at) (st .flat)))
+            (ap (placeOf inner?) (r .is) ∙ place-is inner? (r .front) (r .x) (r .back) (r .none) (r .holds)) (length-append (take (st .at) (st .flat)) (r .front)) (length-take-le (st .at) (st .flat) (go .fits));
+      }
+
+      none : ((w : ℕ) → In w (drop (st .at) (st .flat)) → inner? w ≡ false) → NoInner st
+      none f = record {
+        all-branch = λ v h. ⊎-elim (λ k. go .passed v k h) (λ k. not-inner v (f v k) h) (in-append v (take (st .at) (st .flat)) (drop (st .at) (st .flat)) (subst (λ (l : List ℕ). In v l) (sym (take-append-drop (st .at) (st .flat))) (go .built-on v h)));
+        place = to-end (st .at) (placeOf inner? (drop (st .at) (st .flat))) (length (drop (st .at) (st .flat))) (length (st .flat)) (place-none inner? (drop (st .at) (st .flat)) f) (length-drop (st .at) (st .flat)) (go .fits);
+      }
+
+-- the places of a link in the list
+back-one : (i f : ℕ) → i ≡ f + 1 → f ≡ i - 1
+back-one i f e = omega arith
+
+just-run : (i r : ℕ) → r ≡ (i + r) - i
+just-run i r = omega arith
+
+module _ (F : List ℕ) (a : ℕ) (run : List ℕ) (b : ℕ) (rest : List ℕ) where
+  abbrev upToRun : List ℕ
+  upToRun = F ++ (a ∷ [])
+
+  run-on : drop (length upToRun) (upToRun ++ (run ++ (b ∷ rest))) ≡ run ++ (b ∷ rest)
+  run-on = drop-at upToRun (run ++ (b ∷ rest)) (length upToRun) refl
+
+  run-segment : segment (upToRun ++ (run ++ (b ∷ rest))) (length upToRun) (length upToRun + length run) ≡ run
+  run-segment = ap (take ((length upToRun + length run) - length upToRun)) run-on ∙ take-at run (b ∷ rest) ((length upToRun + length run) - length upToRun) (just-run (length upToRun) (length run))
+
+  before-run : getD (upToRun ++ (run ++ (b ∷ rest))) (length upToRun - 1) 0 ≡ a
+  before-run = ap (λ (l : List ℕ). getD l (length upToRun - 1) 0) (append-assoc F (a ∷ []) (run ++ (b ∷ rest))) ∙ getD-at F a (run ++ (b ∷ rest)) 0 (length upToRun - 1) (back-one (length upToRun) (length F) (length-append F (a ∷ [])))
+
+  behind-run : getD (upToRun ++ (run ++ (b ∷ rest))) (length upToRun + length run) 0 ≡ b
+  behind-run = ap (λ (l : List ℕ). getD l (length upToRun + length run) 0) (sym (append-assoc upToRun run (b ∷ rest))) ∙ getD-at (upToRun ++ run) b rest 0 (length upToRun + length run) (length-append upToRun run)
+
+-- A LINK WITH INNER VERTICES, a, run, b, of which the run stands at the places from i on
+pub record LinkAt (ps : List Link) (st : State) (i : ℕ) : Type 0 where
+  pub L : Link
+  pub hL : In L (newestFirst ps)
+  pub K : Link
+  pub u : List ℕ
+  pub v : List ℕ
+  pub is : vertices L ≡ u ++ (vertices K ++ v)
+  pub hs : In (K .s) (branchVertices (newestFirst ps))
+  pub ht : In (K .t) (branchVertices (newestFirst ps))
+  pub hm : NoneIn (branchVertices (newestFirst ps)) (K .inner)
+  pub w : ℕ
+  pub hw : In w (K .inner)
+  pub inner-is : segment (st .flat) i (runEnd (st .flat) (minus (st .built) (st .branch)) i) ≡ K .inner
+  pub s-is : getD (st .flat) (i - 1) 0 ≡ K .s
+  pub t-is : getD (st .flat) (runEnd (st .flat) (minus (st .built) (st .branch)) i) 0 ≡ K .t
+
+last-of : (l : List ℕ) → (l ≡ []) ⊎ ((u : List ℕ) × (a : ℕ) × (l ≡ u ++ (a ∷ [])))
+last-of [] = inl refl
+last-of (c ∷ l) = inr (⊎-elim (λ e. ([], c, ap (λ (k : List ℕ). c ∷ k) e)) (λ r. (c ∷ r .0, r .1, ap (λ (k : List ℕ). c ∷ k) (r .2))) (last-of l))
+
+-- the last of a list stands behind every part of it
+last-behind : (m : List ℕ) (t : ℕ) (front : List ℕ) (w : ℕ) (back : List ℕ) → m ++ (t ∷ []) ≡ front ++ (w ∷ back) → In t (w ∷ back)
+last-behind [] t [] w back e = inl (cc)
+last-behind [] t (c ∷ front) w back e = absurd (omega (arith, ap length e, length-append front (w ∷ back)))
+last-behind (x ∷ m) t [] w back e = let k : m ++ (t ∷ []) ≡ back = cc in inr (subst (λ (l : List ℕ). In t l) k (in-right t m (t ∷ []) (inl refl)))
+last-behind (x ∷ m) t (c ∷ front) w back e = last-behind m t front w back (cc)
+
+module _ (rows : List ℕ) (n : ℕ) (dr : Drawn rows n) (ms ps : List Link) (st : State) (go : Going rows n ms ps st) (r : InnerFirst st) where
+  abbrev inner? : ℕ → Bool
+  inner? = has (minus (st .built) (st .branch) .words)
+
+  abbrev outer? : ℕ → Bool
+  outer? v = not (inner? v)
+
+  loc : Located ps (r .front) (r .w) (r .back)
+  loc = locate ps (r .front) (r .w) (r .back) (sym (go .same-flat) ∙ r .is) (below-stop (r .w) (on-low (minus (st .built) (st .branch)) (r .w) (sized-minus (st .built) (st .branch) (go .built-sized) (go .branch-sized)) (r .inner)))
+
+  on-record : In (loc .path) (newestFirst ps)
+  on-record = in-newest ps (loc .path) (subst (λ (k : List Link). In (loc .path) k) (sym (loc .place)) (in-right (loc .path) (loc .before) (loc .path ∷ loc .behind) (inl refl)))
+
+  inner-off : (z : ℕ) → inner? z ≡ true → ¬ In z (branchVertices (newestFirst ps))
+  inner-off z h k = minus-on (st .built) (st .branch) (go .built-sized) (go .branch-sized) z h .1 (go .on-branch z k)
+
+  path-built : (z : ℕ) → In z (vertices (loc .path)) → On (st .built) z
+  path-built z h = vertex-on rows n dr ms ps st go z (in-built (loc .path) (newestFirst ps) z on-record h)
+
+  -- the path begins before w and ends behind it
+  left-some : ¬ (loc .left ≡ [])
+  left-some e = inner-off (r .w) (r .inner) (in-branch (loc .path) (newestFirst ps) (r .w) on-record (inl w-first))
+    where
+      w-first : r .w ≡ loc .path .s
+      w-first = let h : vertices (loc .path) ≡ r .w ∷ loc .right = loc .cut ∙ ap (λ (j : List ℕ). j ++ (r .w ∷ loc .right)) e in cc
+
+  run-ends : ¬ ((z : ℕ) → In z (r .w ∷ loc .right) → outer? z ≡ false)
+  run-ends f = inner-off (loc .path .t) (not-false (inner? (loc .path .t)) (f (loc .path .t) (last-behind (loc .path .s ∷ loc .path .inner) (loc .path .t) (loc .left) (r .w) (loc .right) (loc .cut))))
+      (in-branch (loc .path) (newestFirst ps) (loc .path .t) on-record (inr refl))
+
+  module _ (u : List ℕ) (a : ℕ) (left-is : loc .left ≡ u ++ (a ∷ [])) (f : FirstAt outer? (r .w ∷ loc .right)) where
+    abbrev F : List ℕ
+    F = flatten (loc .before) ++ (stop ∷ u)
+
+    abbrev rest : List ℕ
+    rest = f .back ++ flatten (loc .behind)
+
+    front-is : r .front ≡ F ++ (a ∷ [])
+    front-is = loc .front-is ∙ ap (λ (k : List ℕ). flatten (loc .before) ++ (stop ∷ k)) left-is ∙ sym (append-assoc (flatten (loc .before)) (stop ∷ u) (a ∷ []))
+
+    flat-is : st .flat ≡ (F ++ (a ∷ [])) ++ (f .front ++ (f .x ∷ rest))
+    flat-is = r .is ∙ (λ i. front-is i ++ (r .w ∷ loc .back-is i)) ∙ ap (λ (k : List ℕ). (F ++ (a ∷ [])) ++ (k ++ flatten (loc .behind))) (f .is) ∙ ap (λ (k : List ℕ). (F ++ (a ∷ [])) ++ k) (append-assoc (f .front) (f .x ∷ f .back) (flatten (loc .behind)))
+
+    path-is : vertices (loc .path) ≡ u ++ (vertices (link a (f .front) (f .x)) ++ f .back)
+    path-is = loc .cut ∙ (λ i. left-is i ++ f .is i) ∙ simp append-assoc
+
+    on-link : (z : ℕ) → In z (vertices (link a (f .front) (f .x))) → In z (vertices (loc .path))
+    on-link z h = subst (λ (k : List ℕ). In z k) (sym path-is) (in-right z u (vertices (link a (f .front) (f .x)) ++ f .back) (in-left z (vertices (link a (f .front) (f .x))) (f .back) h))
+
+    a-branch : In a (branchVertices (newestFirst ps))
+    a-branch = go .branch-on a (r .seen a (subst (λ (k : List ℕ). In a k) (sym front-is) (in-right a F (a ∷ []) (inl refl))) (path-built a (on-link a (end-s (link a (f .front) (f .x))))))
+
+    b-branch : In (f .x) (branchVertices (newestFirst ps))
+    b-branch = go .branch-on (f .x) (not-inner rows n ms ps st go (f .x) (not-true (inner? (f .x)) (f .holds)) (path-built (f .x) (on-link (f .x) (end-t (link a (f .front) (f .x))))))
+
+    run-off : NoneIn (branchVertices (newestFirst ps)) (f .front)
+    run-off z h = inner-off z (not-false (inner? z) (f .none z h))
+
+    w-in : In (r .w) (f .front)
+    w-in = first (f .front) (f .is)
+      where
+        first : (l : List ℕ) → r .w ∷ loc .right ≡ l ++ (f .x ∷ f .back) → In (r .w) l
+        first [] e = let k : r .w ≡ f .x = cc in absurd (clash (subst (λ (z : ℕ). inner? z ≡ true) k (r .inner)) (not-true (inner? (f .x)) (f .holds)))
+        first (c ∷ l) e = inl (cc)
+
+    run-end : runEnd (st .flat) (minus (st .built) (st .branch)) (length (F ++ (a ∷ []))) ≡ length (F ++ (a ∷ [])) + length (f .front)
+    run-end = ap (λ (l : List ℕ). length (F ++ (a ∷ [])) + placeOf outer? (drop (length (F ++ (a ∷ []))) l)) flat-is ∙ ap (λ (l : List ℕ). length (F ++ (a ∷ [])) + placeOf outer? l) (run-on F a (f .front) (f .x) rest)
+        ∙ ap (λ (k : ℕ). length (F ++ (a ∷ [])) + k) (place-is outer? (f .front) (f .x) rest (f .none) (f .holds))
+
+    link-there : LinkAt ps st (length (F ++ (a ∷ [])))
+    link-there = record {
+      L = loc .path;
+      hL = on-record;
+      K = link a (f .front) (f .x);
+      u = u;
+      v = f .back;
+      is = path-is;
+      hs = a-branch;
+      ht = b-branch;
+      hm = run-off;
+      w = r .w;
+      hw = w-in;
+      inner-is = (λ i. segment (flat-is i) (length (F ++ (a ∷ []))) (run-end i)) ∙ run-segment F a (f .front) (f .x) rest;
+      s-is = ap (λ (l : List ℕ). getD l (length (F ++ (a ∷ [])) - 1) 0) flat-is ∙ before-run F a (f .front) (f .x) rest;
+      t-is = (λ i. getD (flat-is i) (run-end i) 0) ∙ behind-run F a (f .front) (f .x) rest;
+    }
+
+  pub link-at : LinkAt ps st (innerPlace st)
+  link-at = ⊎-elim (λ e. absurd (left-some e)) (λ k. ⊎-elim (λ f. subst (λ (i : ℕ). LinkAt ps st i) (sym (r .place ∙ ap length (front-is (k .0) (k .1) (k .2) f))) (link-there (k .0) (k .1) (k .2) f)) (λ f. absurd (run-ends f)) (first-at outer? (r .w ∷ loc .right))) (last-of (loc .left))
+
+-- THE SEARCH FROM INSIDE A LINK
+abbrev linkSearch : List ℕ → VertexSet → List ℕ → ℕ → ℕ → Found
+linkSearch rows built run a b = answered (explore rows (setOf run) (minus (minus built (setOf run)) (pair a b)) (pair a b)) (pair a b) []
+
+pair-few : (a b : ℕ) → length (members (pair a b)) ≤ 2
+pair-few a b = fewer (members (pair a b)) (a ∷ (b ∷ [])) (members-nodup (pair a b)) (λ w h. ⊎-map (λ e. e) inl (pair-on a b w (members-in (pair a b) w h)))
+
+module _ (rows : List ℕ) (n : ℕ) (dr : Drawn rows n) (few : edgeCount (drawnGraph rows n) ≤ maxEdges) (ms ps : List Link) (st : State) (go : Going rows n ms ps st) (i : ℕ) (k : LinkAt ps st i) where
+  abbrev K : Link
+  K = k .K
+
+  abbrev seeds : VertexSet
+  seeds = setOf (K .inner)
+
+  abbrev removed : VertexSet
+  removed = pair (K .s) (K .t)
+
+  abbrev goals : VertexSet
+  goals = minus (minus (st .built) seeds) removed
+
+  link-built : (z : ℕ) → In z (vertices K) → In z (builtVertices (newestFirst ps))
+  link-built z h = in-built (k .L) (newestFirst ps) z (k .hL) (subst (λ (l : List ℕ). In z l) (sym (k .is)) (in-right z (k .u) (vertices K ++ k .v) (in-left z (vertices K) (k .v) h)))
+
+  link-low : (z : ℕ) → In z (vertices K) → z < n
+  link-low z h = vertex-low rows n dr ms ps st go z (link-built z h)
+
+  link-fits : (z : ℕ) → In z (vertices K) → z < capacity
+  link-fits z h = low-capacity n z (dr .low) (link-low z h)
+
+  seeds-sized : Sized seeds
+  seeds-sized = sized-all _ (K .inner) sized-empty
+
+  removed-sized : Sized removed
+  removed-sized = sized-pair (K .s) (K .t)
+
+  rest-sized : Sized (minus (st .built) seeds)
+  rest-sized = sized-minus (st .built) seeds (go .built-sized) seeds-sized
+
+  seed-in : (z : ℕ) → On seeds z → In z (K .inner)
+  seed-in z h = set-on (K .inner) z h
+
+  in-seed : (z : ℕ) → In z (K .inner) → On seeds z
+  in-seed z h = on-set (K .inner) z (link-fits z (inner-in z K h)) h
+
+  removed-in : (z : ℕ) → On removed z → In z (K .s ∷ (K .t ∷ []))
+  removed-in z h = ⊎-map (λ e. e) inl (pair-on (K .s) (K .t) z h)
+
+  in-removed : (z : ℕ) → In z (K .s ∷ (K .t ∷ [])) → On removed z
+  in-removed z (inl e) = subst (λ (y : ℕ). On removed y) (sym e) (on-pair (K .s) (K .t) (link-fits (K .s) (end-s K)) (link-fits (K .t) (end-t K)) .0)
+  in-removed z (inr h) = subst (λ (y : ℕ). On removed y) (sym (in-single z (K .t) h)) (on-pair (K .s) (K .t) (link-fits (K .s) (end-s K)) (link-fits (K .t) (end-t K)) .1)
+
+  goal-on : (z : ℕ) → On goals z → On (st .built) z × (¬ On seeds z) × (¬ On removed z)
+  goal-on z h =
+      let r = minus-on (minus (st .built) seeds) removed rest-sized removed-sized z h in
+      let s = minus-on (st .built) seeds (go .built-sized) seeds-sized z (r .0) in
+      (s .0, s .1, r .1)
+
+  on-goal : (z : ℕ) → On (st .built) z → ¬ On seeds z → ¬ On removed z → On goals z
+  on-goal z h a b = on-minus (minus (st .built) seeds) removed rest-sized removed-sized z (on-minus (st .built) seeds (go .built-sized) seeds-sized z h a) b
+
+  end-branch : (z : ℕ) → On removed z → In z (branchVertices (newestFirst ps))
+  end-branch z h = ⊎-elim (λ e. rw e (k .hs)) (λ e. rw e (k .ht)) (pair-on (K .s) (K .t) z h)
+
+  asked : Asked n seeds goals removed
+  asked = record {
+    seeds-sized = seeds-sized;
+    goals-sized = sized-minus (minus (st .built) seeds) removed rest-sized removed-sized;
+    removed-sized = removed-sized;
+    low = λ z h. link-low z (inner-in z K (seed-in z h));
+    no-goal = λ z h j. goal-on z j .1 h;
+    no-removed = λ z h j. k .hm z (seed-in z h) (end-branch z j);
+    goal-stays = λ z h. goal-on z h .2;
+  }
+
+  off : (z : ℕ) → In z (vertices K) → ¬ On seeds z → ¬ On removed z → ⊥
+  off z h a b = ⊎-elim (λ e. b (in-removed z (⊎-map (λ j. j) inl e))) (λ j. a (in-seed z j)) (end-or-inner K z h)
+
+  -- a path that was found extends the record, listed from its end too
+  found-extends : (m : Met rows n seeds goals removed) → Extends (Adj (drawnGraph rows n)) (newestFirst ps) (reversed (m .found .path))
+  found-extends m = extends-reversed (Adj (drawnGraph rows n)) (dr .simple .symmetric) (newestFirst ps) (m .found .path)
+      (link-extends (drawnGraph rows n) (dr .simple) (newestFirst ps) (go .recorded) (k .L) (k .hL) K (k .u) (k .v) (k .is) (k .hs) (k .ht) (k .hm)
+      (found-as (drawnGraph rows n) (On seeds) (On goals) (On removed) (λ z. In z (K .inner)) (λ z. In z (builtVertices (newestFirst ps)) × (¬ In z (vertices K))) (λ z. In z (K .s ∷ (K .t ∷ []))) (m .found) seed-in in-seed
+      (λ z h. (on-vertex rows n dr ms ps st go z (goal-on z h .0), λ j. off z j (goal-on z h .1) (goal-on z h .2)))
+      (λ z h. on-goal z (vertex-on rows n dr ms ps st go z (h .0)) (λ j. h .1 (inner-in z K (seed-in z j))) (λ j. h .1 (end-on z (removed-in z j)))) in-removed))
+    where
+      end-on : (z : ℕ) → In z (K .s ∷ (K .t ∷ [])) → In z (vertices K)
+      end-on z (inl e) = inl e
+      end-on z (inr h) = rw (in-single z (K .t) h) (end-t K)
+
+  shut-separates : Shut rows n seeds goals removed → IsCut rows n (cut removed (reached (explore rows seeds goals removed) removed))
+  shut-separates t =
+      let z = branch-beside (Adj (drawnGraph rows n)) (newestFirst ps) (go .recorded) (K .s ∷ (K .t ∷ [])) (omega arith) in
+      let y = branch-built (newestFirst ps) (z .0) (z .1) in
+      shut-cut rows n seeds goals removed asked t (λ x h. vertex-low rows n dr ms ps st go x (branch-built (newestFirst ps) x (end-branch x h))) (pair-few (K .s) (K .t)) (k .w) (in-seed (k .w) (k .hw)) (z .0)
+      (on-goal (z .0) (vertex-on rows n dr ms ps st go (z .0) y) (λ h. k .hm (z .0) (seed-in (z .0) h) (z .1)) (λ h. z .2 (removed-in (z .0) h))) (vertex-low rows n dr ms ps st go (z .0) y)
+
+  module _ (fit : i ≤ length (st .flat)) (seen : (w : ℕ) → In w (take i (st .flat)) → On (st .built) w → On (st .branch) w) where
+    abbrev Taken : Found → Type 0
+    Taken f = Stepped rows n ms (length (usedEdges (newestFirst ps))) (linkTaken st i f)
+
+    take-found : (m : Met rows n seeds goals removed) → Taken (found (route (explore rows seeds goals removed) ++ []))
+    take-found m =
+        let path = route (explore rows seeds goals removed) ++ [] in
+        subst (λ (s : State). Stepped rows n ms (length (usedEdges (newestFirst ps))) s) (ap (λ (b : Bool). cond b (stopped st (found path .cutBy)) (extended st path i)) (sym no-cut))
+        (extended-step rows n dr few ms ps st go (reversed (m .found .path)) (found-extends m) i fit seen path (append-nil (route (explore rows seeds goals removed)) ∙ m .same ∙ rev-vertices (m .found .path)))
+
+    take-shut : (t : Shut rows n seeds goals removed) → Taken (failed removed (reached (explore rows seeds goals removed) removed))
+    take-shut t =
+        let c = cut removed (reached (explore rows seeds goals removed) removed) in
+        subst (λ (s : State). Stepped rows n ms (length (usedEdges (newestFirst ps))) s) (ap (λ (b : Bool). cond b (stopped st c) (extended st [] i)) (sym (shut-separates t .is-cut))) (cuts refl (shut-separates t))
+
+    -- STEP (a)
+    pub link-taken : Taken (offLink rows st i (runEnd (st .flat) (minus (st .built) (st .branch)) i))
+    link-taken = subst Taken (λ t. linkSearch rows (st .built) (sym (k .inner-is) t) (sym (k .s-is) t) (sym (k .t-is) t))
+        (⊎-elim (λ m. subst Taken (sym (answer-found (explore rows seeds goals removed) removed [] (m .is-found))) (take-found m)) (λ t. subst Taken (sym (answer-failed (explore rows seeds goals removed) removed [] (t .not-found))) (take-shut t)) (explored rows n dr seeds goals removed asked))

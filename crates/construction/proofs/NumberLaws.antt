@@ -1,0 +1,99 @@
+-- THE NUMBERS OF PATHS: each path is its length and its vertices; and how many bytes numbers take.
+use Prim.Native.Nat.{ℕ, zero, suc, _+_, _*_, _≤_, _<_}
+use mathlib.Core.Path.{_≡_, refl, sym, ap, _∙_}
+use mathlib.Core.Bool.{Bool, cond}
+use mathlib.Core.Logic.{_⊎_, inl, inr, ⊎-elim, ⊎-map}
+use mathlib.Core.List.{List, [], _∷_, _++_, append-assoc}
+use native.Mathlib.Omega.{arith}
+use lib.ListN.{length, getD, length-append}
+use borrow.Author.Tests.{ne-eqb}
+use Rattle.record.specs.Number.{numberBytes, listBytes}
+use Rattle.record.proofs.Write.{one-byte, few-bytes}
+use Rattle.certificates.specs.Encoding.{sideBytes, pathBytes}
+use Rattle.connectivity.specs.Lists.{In}
+use Rattle.connectivity.specs.Path.{Link, vertices}
+use Rattle.connectivity.proofs.Lists.{in-left, in-right, in-append}
+use Rattle.connectivity.proofs.Paths.{builtVertices}
+use Rattle.construction.specs.Sets.{capacity, stop}
+use Rattle.construction.specs.Certificate.{lengthOn, lengthened}
+use Rattle.construction.proofs.Basics.{flatten}
+
+abbrev pub pathNumbers : List Link → List ℕ
+pathNumbers [] = []
+pathNumbers (P ∷ ps) = length (vertices P) ∷ (vertices P ++ pathNumbers ps)
+
+-- vertices stay, and are counted
+on-vertex : (v : ℕ) (r : List ℕ × ℕ) → v < capacity → lengthOn v r ≡ (v ∷ r .0, r .1 + 1)
+on-vertex v r h = ap (λ (b : Bool). cond b (r .1 ∷ r .0, 0) (v ∷ r .0, r .1 + 1)) (ne-eqb v stop (λ e. omega arith))
+
+lengthened-behind : (l m : List ℕ) → ((w : ℕ) → In w l → w < capacity) → (lengthened (l ++ m) .0 ≡ l ++ lengthened m .0) × (lengthened (l ++ m) .1 ≡ length l + lengthened m .1)
+unfolding lengthened
+lengthened-behind [] m low = (refl, omega arith)
+lengthened-behind (v ∷ l) m low =
+    let r = lengthened-behind l m (λ w h. low w (inr h)) in
+    let e = on-vertex v (lengthened (l ++ m)) (low v (inl refl)) in
+    (ap (λ (p : List ℕ × ℕ). p .0) e ∙ ap (λ (k : List ℕ). v ∷ k) (r .0), ap (λ (p : List ℕ × ℕ). p .1) e ∙ omega (arith, r .1))
+
+-- PATH BY PATH
+flat-numbers : (ps : List Link) → ((w : ℕ) → In w (builtVertices ps) → w < capacity) → (lengthened (flatten ps) .0 ≡ pathNumbers ps) × (lengthened (flatten ps) .1 ≡ 0)
+unfolding lengthened
+flat-numbers [] low = (refl, refl)
+flat-numbers (P ∷ ps) low =
+    let r = flat-numbers ps (λ w h. low w (in-right w (vertices P) (builtVertices ps) h)) in
+    let s = lengthened-behind (vertices P) (flatten ps) (λ w h. low w (in-left w (vertices P) (builtVertices ps) h)) in
+    let k : lengthened (vertices P ++ flatten ps) .1 ≡ length (vertices P) = omega (arith, r .1, s .1) in
+    ((λ i. k i ∷ (s .0 ∙ ap (λ (m : List ℕ). vertices P ++ m) (r .0)) i), refl)
+
+pub lengthened-paths : (ps : List Link) → ((w : ℕ) → In w (builtVertices ps) → w < capacity) → lengthened (flatten ps) .0 ≡ pathNumbers ps
+lengthened-paths ps low = flat-numbers ps low .0
+
+pub length-numbers : (ps : List Link) → length (pathNumbers ps) ≡ length (flatten ps)
+length-numbers [] = refl
+length-numbers (P ∷ ps) = let ih = length-numbers ps in omega (arith, length-append (vertices P) (pathNumbers ps), length-append (vertices P) (flatten ps))
+
+-- a number of paths is a vertex or a length
+pub path-number : (ps : List Link) (w : ℕ) → In w (pathNumbers ps) → In w (builtVertices ps) ⊎ ((P : Link) × In P ps × (w ≡ length (vertices P)))
+path-number [] w h = absurd h
+path-number (P ∷ ps) w (inl e) = inr (P, inl refl, e)
+path-number (P ∷ ps) w (inr h) = ⊎-elim (λ k. inl (in-left w (vertices P) (builtVertices ps) k)) (λ k. ⊎-map (in-right w (vertices P) (builtVertices ps)) (λ r. (r .0, inr (r .1), r .2)) (path-number ps w k)) (in-append w (vertices P) (pathNumbers ps) h)
+
+-- THE BYTES
+pub bytes-append : {A : Type 0} (f : A → List ℕ) (l m : List A) → listBytes f (l ++ m) ≡ listBytes f l ++ listBytes f m
+unfolding listBytes
+bytes-append f [] m = refl
+bytes-append f (a ∷ l) m = ap (λ (k : List ℕ). f a ++ k) (bytes-append f l m) ∙ sym (append-assoc (f a) (listBytes f l) (listBytes f m))
+
+pub bytes-first : {A : Type 0} (f : A → List ℕ) (a : A) (l : List A) → listBytes f (a ∷ l) ≡ f a ++ listBytes f l
+unfolding listBytes
+bytes-first f a l = refl
+
+pub bytes-none : {A : Type 0} (f : A → List ℕ) → listBytes f [] ≡ []
+unfolding listBytes
+bytes-none f = refl
+
+pub side-bytes : (l : List ℕ) → listBytes numberBytes (length l ∷ l) ≡ sideBytes l
+side-bytes l = bytes-first numberBytes (length l) l
+
+pub path-bytes : (ps : List Link) → listBytes numberBytes (pathNumbers ps) ≡ listBytes pathBytes ps
+unfolding listBytes
+path-bytes [] = refl
+path-bytes (P ∷ ps) =
+    ap (λ (k : List ℕ). numberBytes (length (vertices P)) ++ k) (bytes-append numberBytes (vertices P) (pathNumbers ps) ∙ ap (λ (k : List ℕ). listBytes numberBytes (vertices P) ++ k) (path-bytes ps))
+    ∙ sym (append-assoc (numberBytes (length (vertices P))) (listBytes numberBytes (vertices P)) (listBytes pathBytes ps))
+
+-- at most two bytes a number; one where it is below 128
+pub bytes-twice : (l : List ℕ) → length (listBytes numberBytes l) ≤ 2 * length l
+unfolding listBytes
+bytes-twice [] = omega arith
+bytes-twice (v ∷ l) = omega (arith, bytes-twice l, few-bytes v, length-append (numberBytes v) (listBytes numberBytes l))
+
+pub bytes-once : (l : List ℕ) → ((w : ℕ) → In w l → w < 128) → length (listBytes numberBytes l) ≡ length l
+unfolding listBytes
+bytes-once [] low = refl
+bytes-once (v ∷ l) low = omega (arith, bytes-once l (λ w h. low w (inr h)), ap length (one-byte v (low v (inl refl))), length-append (numberBytes v) (listBytes numberBytes l))
+
+-- every place of a list whose numbers are below a bound
+pub places-low : (b : ℕ) → 0 < b → (l : List ℕ) → ((w : ℕ) → In w l → w < b) → (i : ℕ) → getD l i 0 < b
+places-low b pos [] low i = pos
+places-low b pos (v ∷ l) low zero = low v (inl refl)
+places-low b pos (v ∷ l) low (suc i) = places-low b pos l (λ w h. low w (inr h)) i
