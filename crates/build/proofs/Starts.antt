@@ -7,8 +7,7 @@ use native.Mathlib.Omega.{arith}
 use borrow.Author.Tests.{le-leb, lt-leb, leb-true}
 use Rattle.record.specs.Read.{Read, Read.Got, Read.Refused, Reader, onRead, _▸_, many, check, folded}
 use Rattle.record.specs.Loop.{runs, finish}
-use Rattle.vertexset.specs.Set.{has}
-use Rattle.graph.specs.Plan.{maxVertices}
+use Rattle.vertexset.specs.Set.{has, capacity}
 use Rattle.connectivity.specs.Path.{Link as Path}
 use Rattle.certificates.specs.Tests.{allBelow}
 use Rattle.certificates.specs.Records.{branchFour}
@@ -102,13 +101,13 @@ module _ (n : ℕ) (rows s : List ℕ) (at : ℕ) where
   body-paths y count {from} e = further-paths (startedBuild y) count from ∙ end-then (buildStart (rowsGraph n rows)) (λ x. further (startedBuild x) count) e
 
 module _ (n : ℕ) (rows s : List ℕ) (at : ℕ) where
-  pub start-over : maxVertices < n → noStart (Fault 9 at) ≡ startRead (limited n (buildStart (rowsGraph n rows)) s at)
+  pub start-over : capacity < n → noStart (Fault 9 at) ≡ startRead (limited n (buildStart (rowsGraph n rows)) s at)
   unfolding startRead
-  start-over h = rw (lt-leb n maxVertices h)
+  start-over h = rw (lt-leb n capacity h)
 
-  module _ (low : n ≤ maxVertices) {f : Four} (e : f ≡ fourRead (branchFour n s at)) where
+  module _ (low : n ≤ capacity) {f : Four} (e : f ≡ fourRead (branchFour n s at)) where
     within : limited n (buildStart (rowsGraph n rows)) s at ≡ buildStart (rowsGraph n rows) s at
-    within = limit-kept n (buildStart (rowsGraph n rows)) s at (le-leb n maxVertices low) refl
+    within = limit-kept n (buildStart (rowsGraph n rows)) s at (le-leb n capacity low) refl
 
     pub start-unread : {q p : ℕ} → f .end ≡ Fault q p → noStart (f .end) ≡ startRead (limited n (buildStart (rowsGraph n rows)) s at)
     unfolding startRead
@@ -132,7 +131,7 @@ module _ (n : ℕ) (rows s : List ℕ) (at : ℕ) {x : Started} (e : x ≡ start
   build-stop count d =
       d ∙ sym (ap endRead (limit-refused n (buildStart (rowsGraph n rows)) (buildBody (rowsGraph n rows) count) s at (body-stop n rows s at count) (started-fault d)))
 
-  pub build-low : {v next : ℕ} → x .end ≡ Value v next → n ≤ maxVertices
+  pub build-low : {v next : ℕ} → x .end ≡ Value v next → n ≤ capacity
   build-low d = leb-true _ _ (within-limit n (buildStart (rowsGraph n rows)) (started-told d .1 .0) .0)
 
   pub build-on : (count : ℕ) {v from : ℕ} → x .end ≡ Value v from → runs (furtherLoop n rows) count (x .build) (x .build) s from ≡ endRead (limited n (buildBody (rowsGraph n rows) count) s at)

@@ -11,8 +11,7 @@ use borrow.Author.Tests.{lt-ltb, le-ltb}
 use Rattle.record.specs.Read.{Read, Read.Got, Read.Refused, Reader, onRead, _needs⟨_⟩_}
 use Rattle.record.proofs.Laws.{test-got}
 use Rattle.record.proofs.Loops.{needs-bad}
-use Rattle.vertexset.specs.Set.{has, inserted}
-use Rattle.graph.specs.Plan.{maxVertices}
+use Rattle.vertexset.specs.Set.{has, inserted, capacity}
 use Rattle.graph.specs.Rows.{adjacentIn}
 use Rattle.connectivity.specs.Path.{vertices}
 use Rattle.connectivity.specs.Path.{Link as Path}
@@ -33,7 +32,7 @@ use Rattle.build.specs.Code.{innerIn, pathFault, buildIn, enteredFrom, o
 
 -- the code's array of a path, taken apart
 module _ (P : Path) where
-  whole : listed (vertices P) ≡ P .s ∷ (P .inner ++ (P .t ∷ replicate (maxVertices - length (vertices P)) 0))
+  whole : listed (vertices P) ≡ P .s ∷ (P .inner ++ (P .t ∷ replicate (capacity - length (vertices P)) 0))
   whole = rw append-assoc
 
   inner-length : length (vertices P) ≡ suc (suc (length (P .inner)))
@@ -51,7 +50,7 @@ module _ (P : Path) where
 
   -- the array has room for it
   told-room : length (vertices P) ≤ length (listed (vertices P))
-  told-room = omega (arith, length-append (vertices P) (replicate (maxVertices - length (vertices P)) 0))
+  told-room = omega (arith, length-append (vertices P) (replicate (capacity - length (vertices P)) 0))
 
   pub told-entered : (adj : ℕ → ℕ → Bool) (old : ℕ → Bool) (next : ℕ) (b : Build) → enteredFrom (pathTold adj old P next) b ≡ entered b P
   told-entered adj old next b = rw (told-inner, told-last)
@@ -107,15 +106,15 @@ module _ {A : Type 0} (R : Reader A) (along ends new apart : A → Bool) (s : Li
           end false = refl
 
 -- a limit that was kept
-pub within-limit : {A : Type 0} (n : ℕ) (R : Reader A) {s : List ℕ} {at next : ℕ} {v : A} → limited n R s at ≡ Got v next → (leb n maxVertices ≡ true) × (R s at ≡ Got v next)
-within-limit n R {s} {at} e = test-got (leb n maxVertices) (R s at) 9 at e
+pub within-limit : {A : Type 0} (n : ℕ) (R : Reader A) {s : List ℕ} {at next : ℕ} {v : A} → limited n R s at ≡ Got v next → (leb n capacity ≡ true) × (R s at ≡ Got v next)
+within-limit n R {s} {at} e = test-got (leb n capacity) (R s at) 9 at e
 
-pub limit-kept : {A : Type 0} (n : ℕ) (R : Reader A) (s : List ℕ) (at : ℕ) {y : Read A} → leb n maxVertices ≡ true → R s at ≡ y → limited n R s at ≡ y
+pub limit-kept : {A : Type 0} (n : ℕ) (R : Reader A) (s : List ℕ) (at : ℕ) {y : Read A} → leb n capacity ≡ true → R s at ≡ y → limited n R s at ≡ y
 limit-kept n R s at l e = rw (l, e)
 
 pub limit-refused : {A B : Type 0} (n : ℕ) (R : Reader A) (Q : Reader B) (s : List ℕ) (at : ℕ) {q p : ℕ} → (R s at ≡ Refused q p → Q s at ≡ Refused q p)
     → limited n R s at ≡ Refused q p → limited n Q s at ≡ Refused q p
-limit-refused {A} {B} n R Q s at {q} {p} f = go (leb n maxVertices)
+limit-refused {A} {B} n R Q s at {q} {p} f = go (leb n capacity)
   where
     go : (b : Bool) → cond b (R s at) (Refused 9 at) ≡ Refused q p → cond b (Q s at) (Refused 9 at) ≡ Refused q p
     go true e = f e

@@ -10,9 +10,8 @@ use borrow.Author.Tests.{le-leb, lt-leb}
 use Rattle.record.specs.Read.{Read.Got, Read.Refused, Reader, _needs⟨_⟩_, _▸_}
 use Rattle.record.specs.Loop.{runs}
 use Rattle.record.proofs.Loops.{turn-go, turn-stop, turn-done, needs-got}
-use Rattle.vertexset.specs.Set.{has, emptySet, inserted}
+use Rattle.vertexset.specs.Set.{has, emptySet, inserted, capacity}
 use Rattle.vertexset.specs.declared.VertexSet.{VertexSet}
-use Rattle.graph.specs.Plan.{maxVertices}
 use Rattle.connectivity.specs.Graph.{Graph}
 use Rattle.connectivity.specs.Path.{Link as Path}
 use Rattle.certificates.specs.Tests.{allBelow, laterEnds}
@@ -63,9 +62,9 @@ module _ (n : ℕ) (s : List ℕ) (at : ℕ) where
 
 -- what is known after a path was read, within the limit
 module _ {n : ℕ} {item : Build → Reader Path} {step : Build → Path → Build} {b : Build} {s : List ℕ} {at : ℕ} {r : Taken} {before after linked : List ℕ}
-    (low : n ≤ maxVertices) (h : Leaves n item step b s at r before after linked) where
+    (low : n ≤ capacity) (h : Leaves n item step b s at r before after linked) where
   within : limited n (item b) s at ≡ item b s at
-  within = limit-kept n (item b) s at (le-leb n maxVertices low) refl
+  within = limit-kept n (item b) s at (le-leb n capacity low) refl
 
   pub left-bad : {q p : ℕ} → r .end ≡ Fault q p → item b s at ≡ Refused q p
   left-bad f = sym within ∙ end-fault (limited n (item b) s at) f (h .end)
@@ -77,7 +76,7 @@ module _ {n : ℕ} {item : Build → Reader Path} {step : Build → Path → Bui
       (t .0, (sym within ∙ t .1, h .build ∙ ap (onPathRead step b) (t .1)))
 
 abbrev pub Long : List ℕ → List ℕ → Type 0
-Long before after = (length before ≡ maxVertices) × (length after ≡ maxVertices)
+Long before after = (length before ≡ capacity) × (length after ≡ capacity)
 
 entered-long : {b′ : Build} (b c : Build) (P : Path) → b′ ≡ entered c P → c .before ≡ b .before → c .after ≡ b .after → Long (b .before) (b .after) → Long (b′ .before) (b′ .after)
 entered-long b c P e f g l = (
@@ -87,7 +86,7 @@ entered-long b c P e f g l = (
 
 -- a turn over the further paths
 module _ (n : ℕ) (rows s : List ℕ) (b : Build) (at : ℕ) {r : Taken} {before after linked : List ℕ}
-    (low : n ≤ maxVertices) (h : Leaves n (buildPath (rowsGraph n rows)) pathTaken b s at r before after linked) where
+    (low : n ≤ capacity) (h : Leaves n (buildPath (rowsGraph n rows)) pathTaken b s at r before after linked) where
   pub further-stop : (k : ℕ) {q p : ℕ} → 0 < k → r .end ≡ Fault q p → r .end ≡ runs (furtherLoop n rows) k b b s at
   further-stop k i f = f ∙ turn-stop (furtherLoop n rows) s k i b b at (left-bad low h f)
 
@@ -139,7 +138,7 @@ same-start e f = rw (e, f)
 
 -- a turn over the paths of the start
 module _ (n : ℕ) (rows s first last : List ℕ) (b : Build) (at k : ℕ) {r : Taken} {before after linked : List ℕ}
-    (low : n ≤ maxVertices) (some : 0 < k) (six : k ≤ 6)
+    (low : n ≤ capacity) (some : 0 < k) (six : k ≤ 6)
     (h : Leaves n (λ b. startOn (rowsGraph n rows) (towards (getD first (6 - k) 0) (getD last (6 - k) 0) b)) entered b s at r before after linked) where
   tested-next : startOn (rowsGraph n rows) (startWith first last k b) s at ≡ startOn (rowsGraph n rows) (towards (getD first (6 - k) 0) (getD last (6 - k) 0) b) s at
   tested-next =

@@ -7,10 +7,9 @@ use lib.Dec.{ltb}
 use lib.Bits.{bitOr}
 use lib.ListN.{getD, set, replicate}
 use Rattle.record.specs.Read.{Reader, _needs⟨_⟩_, _▸_, many, check, folded}
-use Rattle.vertexset.specs.Set.{has, emptySet, inserted, wordwise, less}
+use Rattle.vertexset.specs.Set.{has, emptySet, inserted, wordwise, less, capacity}
 use Rattle.vertexset.specs.declared.VertexSet.{VertexSet}
-use Rattle.graph.specs.Plan.{maxVertices}
-use Rattle.graph.specs.Rows.{joinedRows, bareRows, rowBits}
+use Rattle.graph.specs.Rows.{joinedRows, bareRows}
 use Rattle.connectivity.specs.Graph.{Graph}
 use Rattle.connectivity.specs.Path.{vertices}
 use Rattle.connectivity.specs.Path.{Link as Path}
@@ -28,7 +27,7 @@ use Rattle.build.specs.Ends.{reach, additionOf, held}
 -- an end: a branch vertex, or an inner vertex with its link, whose ends are the next branch vertices both ways
 abbrev pub endIn : VertexSet → List ℕ → List ℕ → ℕ → End
 endIn branch before after v = cond (has (branch .words) v) (Branch v)
-    (Inner v (record { a = reach before (has (branch .words)) maxVertices v; b = reach after (has (branch .words)) maxVertices v }))
+    (Inner v (record { a = reach before (has (branch .words)) capacity v; b = reach after (has (branch .words)) capacity v }))
 
 abbrev pub endOf : Build → ℕ → End
 endOf b v = endIn (b .branch) (b .before) (b .after) v
@@ -42,7 +41,7 @@ withoutBit ws v = set ws (v / 64) (less (getD ws (v / 64) 0) (2 ^ (v % 64)))
 
 abbrev pub linkedWithout : List ℕ → ℕ → ℕ → List ℕ
 linkedWithout linked u v =
-    cond (ltb u maxVertices && ltb v maxVertices) (withoutBit (withoutBit linked (u * rowBits + v)) (v * rowBits + u)) linked
+    cond (ltb u capacity && ltb v capacity) (withoutBit (withoutBit linked (u * capacity + v)) (v * capacity + u)) linked
 
 -- the link l is split at its inner vertex x
 abbrev pub splitAt : List ℕ → ℕ → Link → List ℕ
@@ -97,7 +96,7 @@ buildPath g b =
 
 -- the build of four branch vertices and no links
 abbrev pub bareBuild : VertexSet → Build
-bareBuild set = record { branch = set; built = set; before = replicate maxVertices 0; after = replicate maxVertices 0; linked = bareRows }
+bareBuild set = record { branch = set; built = set; before = replicate capacity 0; after = replicate capacity 0; linked = bareRows }
 
 -- the start: the pairs of ends that are still to be joined, and the build
 pub record BuildStart : Type 0 where

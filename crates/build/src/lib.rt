@@ -5,9 +5,7 @@ ghost use lib.Dec.{leb};
 ghost use lib.ListN.{length, getD, set};
 ghost use Rattle.record.specs.Read.{_needs⟨_⟩_};
 ghost use Rattle.record.specs.Loop.{runs};
-ghost use Rattle.vertexset.specs.Set.{has};
-ghost use Rattle.graph.specs.Plan.{maxVertices};
-ghost use Rattle.graph.specs.Rows.{rowBits};
+ghost use Rattle.vertexset.specs.Set.{has, capacity};
 ghost use Rattle.certificates.specs.Tests.{allBelow};
 ghost use Rattle.certificates.specs.Records.{vertex, branchFour};
 ghost use Rattle.paths.specs.Items.{itemRead, endRead, rowsGraph, limited};
@@ -49,8 +47,8 @@ pub enum Addition {
 pub struct Build {
     pub branch: VertexSet,
     pub built: VertexSet,
-    pub before: [u16; Graph::MAX_VERTICES as usize],
-    pub after: [u16; Graph::MAX_VERTICES as usize],
+    pub before: [u16; VertexSet::CAPACITY as usize],
+    pub after: [u16; VertexSet::CAPACITY as usize],
     pub linked: [u64; Graph::ROW_WORDS],
 }
 
@@ -162,23 +160,23 @@ impl Addition {
     }
 }
 
-fn pointer(pointers: &[u16; Graph::MAX_VERTICES as usize], v: u16) -> u16
-    requires { ⌜ length (now pointers) ≡ maxVertices ⌝ }
+fn pointer(pointers: &[u16; VertexSet::CAPACITY as usize], v: u16) -> u16
+    requires { ⌜ length (now pointers) ≡ capacity ⌝ }
     ensures { λ r. ⌜ r ≡ getD (now (pointers .entry)) v 0 ⌝ }
 {
-    if v < Graph::MAX_VERTICES {
+    if v < VertexSet::CAPACITY {
         return pointers[v as usize];
     }
     0
 }
 
 // From v along the pointers to the first branch vertex.
-fn reach(pointers: &[u16; Graph::MAX_VERTICES as usize], branch: VertexSet, v: u16) -> u16
-    requires { ⌜ length (now pointers) ≡ maxVertices ⌝ }
-    ensures { λ r. ⌜ r ≡ reach (now (pointers .entry)) (has (branch .words)) maxVertices v ⌝ }
+fn reach(pointers: &[u16; VertexSet::CAPACITY as usize], branch: VertexSet, v: u16) -> u16
+    requires { ⌜ length (now pointers) ≡ capacity ⌝ }
+    ensures { λ r. ⌜ r ≡ reach (now (pointers .entry)) (has (branch .words)) capacity v ⌝ }
 {
     let mut at = v;
-    let mut left = Graph::MAX_VERTICES;
+    let mut left = VertexSet::CAPACITY;
     while 0 < left {
         if branch.contains(at) {
             return at;
@@ -191,11 +189,11 @@ fn reach(pointers: &[u16; Graph::MAX_VERTICES as usize], branch: VertexSet, v: u
 
 fn end_of<'a>(
     branch: VertexSet,
-    before: &'a [u16; Graph::MAX_VERTICES as usize],
-    after: &'a [u16; Graph::MAX_VERTICES as usize],
+    before: &'a [u16; VertexSet::CAPACITY as usize],
+    after: &'a [u16; VertexSet::CAPACITY as usize],
     v: u16,
 ) -> End
-    requires { ⌜ (length (now before) ≡ maxVertices) × (length (now after) ≡ maxVertices) ⌝ }
+    requires { ⌜ (length (now before) ≡ capacity) × (length (now after) ≡ capacity) ⌝ }
     ensures { λ r. ⌜ r ≡ endIn branch (now (before .entry)) (now (after .entry)) v ⌝ }
 {
     if branch.contains(v) {
@@ -211,8 +209,8 @@ fn end_of<'a>(
 }
 
 fn clear_bit(linked: &mut [u64; Graph::ROW_WORDS], u: u16, v: u16)
-    requires { ⌜ (u < maxVertices) × (v < maxVertices) ⌝ }
-    ensures { λ r. ⌜ now (linked .exit) ≡ withoutBit (now (linked .entry)) (u * rowBits + v) ⌝ }
+    requires { ⌜ (u < capacity) × (v < capacity) ⌝ }
+    ensures { λ r. ⌜ now (linked .exit) ≡ withoutBit (now (linked .entry)) (u * capacity + v) ⌝ }
 {
     let i = u as usize * VertexSet::WORDS + (v / 64) as usize;
     let w = linked[i];
@@ -222,10 +220,10 @@ fn clear_bit(linked: &mut [u64; Graph::ROW_WORDS], u: u16, v: u16)
 fn remove_link(linked: &mut [u64; Graph::ROW_WORDS], u: u16, v: u16)
     ensures { λ r. ⌜ now (linked .exit) ≡ linkedWithout (now (linked .entry)) u v ⌝ }
 {
-    if Graph::MAX_VERTICES <= u {
+    if VertexSet::CAPACITY <= u {
         return;
     }
-    if Graph::MAX_VERTICES <= v {
+    if VertexSet::CAPACITY <= v {
         return;
     }
     clear_bit(linked, u, v);
@@ -255,22 +253,22 @@ fn split_by(linked: &mut [u64; Graph::ROW_WORDS], a: Addition)
     }
 }
 
-fn point(pointers: &mut [u16; Graph::MAX_VERTICES as usize], v: u16, to: u16)
-    requires { ⌜ length (now pointers) ≡ maxVertices ⌝ }
+fn point(pointers: &mut [u16; VertexSet::CAPACITY as usize], v: u16, to: u16)
+    requires { ⌜ length (now pointers) ≡ capacity ⌝ }
     ensures { λ r. ⌜ now (pointers .exit) ≡ set (now (pointers .entry)) v to ⌝ }
 {
-    if v < Graph::MAX_VERTICES {
+    if v < VertexSet::CAPACITY {
         pointers[v as usize] = to;
     }
 }
 
 // Each inner vertex of a path points to the one before it on the path.
 fn point_back<'a>(
-    before: &'a mut [u16; Graph::MAX_VERTICES as usize],
-    list: &'a [u16; Graph::MAX_VERTICES as usize],
+    before: &'a mut [u16; VertexSet::CAPACITY as usize],
+    list: &'a [u16; VertexSet::CAPACITY as usize],
     len: u16,
 )
-    requires { ⌜ (length (now before) ≡ maxVertices) × ((length (now list) ≡ maxVertices) × (len ≤ maxVertices)) ⌝ }
+    requires { ⌜ (length (now before) ≡ capacity) × ((length (now list) ≡ capacity) × (len ≤ capacity)) ⌝ }
     ensures { λ r. ⌜ now (before .exit) ≡ pointBack (now (before .entry)) (getD (now (list .entry)) 0 0) (innerIn (now (list .entry)) len) ⌝ }
 {
     let mut i: u16 = 1;
@@ -282,11 +280,11 @@ fn point_back<'a>(
 
 // Each inner vertex of a path points to the one after it on the path.
 fn point_on<'a>(
-    after: &'a mut [u16; Graph::MAX_VERTICES as usize],
-    list: &'a [u16; Graph::MAX_VERTICES as usize],
+    after: &'a mut [u16; VertexSet::CAPACITY as usize],
+    list: &'a [u16; VertexSet::CAPACITY as usize],
     len: u16,
 )
-    requires { ⌜ (length (now after) ≡ maxVertices) × ((length (now list) ≡ maxVertices) × (len ≤ maxVertices)) ⌝ }
+    requires { ⌜ (length (now after) ≡ capacity) × ((length (now list) ≡ capacity) × (len ≤ capacity)) ⌝ }
     ensures { λ r. ⌜ now (after .exit) ≡ pointOn (now (after .entry)) (innerIn (now (list .entry)) len) (getD (now (list .entry)) (len - 1) 0) ⌝ }
 {
     let mut i: u16 = 1;
@@ -333,11 +331,11 @@ fn enter<'a>(
     x: PathRead,
     branch: VertexSet,
     built: VertexSet,
-    before: &'a mut [u16; Graph::MAX_VERTICES as usize],
-    after: &'a mut [u16; Graph::MAX_VERTICES as usize],
+    before: &'a mut [u16; VertexSet::CAPACITY as usize],
+    after: &'a mut [u16; VertexSet::CAPACITY as usize],
     linked: &'a mut [u64; Graph::ROW_WORDS],
 ) -> Taken
-    requires { ⌜ (length (now before) ≡ maxVertices) × ((length (now after) ≡ maxVertices) × (x .len ≤ length (x .list))) ⌝ }
+    requires { ⌜ (length (now before) ≡ capacity) × ((length (now after) ≡ capacity) × (x .len ≤ length (x .list))) ⌝ }
     ensures { λ r. ⌜ (r .end ≡ x .end) × (buildIn (r .branch) (r .built) (now (before .exit)) (now (after .exit)) (now (linked .exit))
         ≡ enteredFrom x (buildIn branch built (now (before .entry)) (now (after .entry)) (now (linked .entry)))) ⌝ }
 {
@@ -363,11 +361,11 @@ fn take_start_path<'a>(
     last: u16,
     branch: VertexSet,
     built: VertexSet,
-    before: &'a mut [u16; Graph::MAX_VERTICES as usize],
-    after: &'a mut [u16; Graph::MAX_VERTICES as usize],
+    before: &'a mut [u16; VertexSet::CAPACITY as usize],
+    after: &'a mut [u16; VertexSet::CAPACITY as usize],
     linked: &'a mut [u64; Graph::ROW_WORDS],
 ) -> Taken
-    requires { ⌜ (length (now before) ≡ maxVertices) × (length (now after) ≡ maxVertices) ⌝ }
+    requires { ⌜ (length (now before) ≡ capacity) × (length (now after) ≡ capacity) ⌝ }
     ensures { λ r. ⌜ Leaves n (λ b. startOn (rowsGraph n (now (rows .entry))) (towards first last b)) entered (buildIn branch built (now (before .entry)) (now (after .entry)) (now (linked .entry))) (now (s .entry)) at
         r (now (before .exit)) (now (after .exit)) (now (linked .exit)) ⌝ }
 {
@@ -395,11 +393,11 @@ fn take_path<'a>(
     at: usize,
     branch: VertexSet,
     built: VertexSet,
-    before: &'a mut [u16; Graph::MAX_VERTICES as usize],
-    after: &'a mut [u16; Graph::MAX_VERTICES as usize],
+    before: &'a mut [u16; VertexSet::CAPACITY as usize],
+    after: &'a mut [u16; VertexSet::CAPACITY as usize],
     linked: &'a mut [u64; Graph::ROW_WORDS],
 ) -> Taken
-    requires { ⌜ (length (now before) ≡ maxVertices) × (length (now after) ≡ maxVertices) ⌝ }
+    requires { ⌜ (length (now before) ≡ capacity) × (length (now after) ≡ capacity) ⌝ }
     ensures { λ r. ⌜ Leaves n (buildPath (rowsGraph n (now (rows .entry)))) pathTaken (buildIn branch built (now (before .entry)) (now (after .entry)) (now (linked .entry))) (now (s .entry)) at
         r (now (before .exit)) (now (after .exit)) (now (linked .exit)) ⌝ }
 {
@@ -506,8 +504,8 @@ impl Build {
     fn of(
         branch: VertexSet,
         built: VertexSet,
-        before: [u16; Graph::MAX_VERTICES as usize],
-        after: [u16; Graph::MAX_VERTICES as usize],
+        before: [u16; VertexSet::CAPACITY as usize],
+        after: [u16; VertexSet::CAPACITY as usize],
         linked: [u64; Graph::ROW_WORDS],
     ) -> Self
         ensures { λ r. ⌜ r ≡ buildIn branch built before after linked ⌝ }
@@ -528,8 +526,8 @@ impl Build {
         Build {
             branch: set,
             built: set,
-            before: [0u16; Graph::MAX_VERTICES as usize],
-            after: [0u16; Graph::MAX_VERTICES as usize],
+            before: [0u16; VertexSet::CAPACITY as usize],
+            after: [0u16; VertexSet::CAPACITY as usize],
             linked: [0u64; Graph::ROW_WORDS],
         }
     }
@@ -550,15 +548,15 @@ fn read_six<'a>(
     four: Four,
     from: usize,
 ) -> Started
-    requires { ⌜ n ≤ maxVertices ⌝ }
+    requires { ⌜ n ≤ capacity ⌝ }
     ensures { λ r. ⌜ r ≡ runs (startLoop n (now (rows .entry))) 6 (startOf (fourOf four)) (startOf (fourOf four)) (now (s .entry)) from ⌝ }
 {
     let first = [four.p, four.p, four.p, four.q, four.q, four.r];
     let last = [four.q, four.r, four.s, four.r, four.s, four.s];
     let branch = four.as_set();
     let mut built = branch;
-    let mut before = [0u16; Graph::MAX_VERTICES as usize];
-    let mut after = [0u16; Graph::MAX_VERTICES as usize];
+    let mut before = [0u16; VertexSet::CAPACITY as usize];
+    let mut after = [0u16; VertexSet::CAPACITY as usize];
     let mut linked = [0u64; Graph::ROW_WORDS];
     let mut at = from;
     let mut left: usize = 6;
@@ -596,7 +594,7 @@ fn read_six<'a>(
 fn read_start<'a>(s: &'a [u8], rows: &'a [u64; Graph::ROW_WORDS], n: u16, at: usize) -> Started
     ensures { λ r. ⌜ r ≡ startRead (limited n (buildStart (rowsGraph n (now (rows .entry)))) (now (s .entry)) at) ⌝ }
 {
-    if Graph::MAX_VERTICES < n {
+    if VertexSet::CAPACITY < n {
         return no_start(Item::Fault(9, at));
     }
     let four = read_four(s, n, at);
@@ -616,7 +614,7 @@ fn read_further<'a>(
     from: usize,
     start: Build,
 ) -> Item
-    requires { ⌜ n ≤ maxVertices ⌝ }
+    requires { ⌜ n ≤ capacity ⌝ }
     ensures { λ r. ⌜ r ≡ runs (furtherLoop n (now (rows .entry))) count start start (now (s .entry)) from ⌝ }
 {
     let mut branch = start.branch;

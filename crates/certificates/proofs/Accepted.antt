@@ -9,7 +9,7 @@ use borrow.Author.Tests.{ltb-true, ltb-false}
 use lib.Dec.{ltb, leb}
 use lib.ListN.{length}
 use Rattle.record.specs.Read.{Read.Got, Bytes, Each, ended, folded}
-use Rattle.record.specs.Number.{numberBytes, listBytes}
+use Rattle.record.specs.Number.{numberBytes, listBytes, numberLimit}
 use Rattle.record.proofs.Laws.{Reads, pair-law, many-law, leads-law, counted-law, into-law, same-law, ended-there, ended-back}
 use Rattle.record.proofs.Groups.{number-law}
 use Rattle.record.proofs.Parts.{one-value}
@@ -33,7 +33,7 @@ kind-low (tree c f ps S) = omega arith
 kind-low (ears c d P es S) = omega arith
 kind-low (build p q r s ps qs) = omega arith
 
-module _ (g : Graph) (simple : Simple g) (few : g .n < 16384) where
+module _ (g : Graph) (simple : Simple g) (few : g .n < numberLimit) where
   -- kind 2: the ears as one list
   ears-list : (all : List Link) → 1 ≤ length all → firstEar all ∷ laterEars all ≡ all
   ears-list [] h = absurd (omega arith)

@@ -6,7 +6,7 @@ use mathlib.Core.Bool.{true}
 use native.Mathlib.Omega.{arith}
 use lib.ListN.{length, drop}
 use Rattle.record.specs.Read.{Read.Got, Bytes, ended}
-use Rattle.record.specs.Number.{number, numberBytes, groupsOf}
+use Rattle.record.specs.Number.{number, numberBytes, groupsOf, numberLimit}
 use Rattle.record.proofs.Laws.{spans-join, spans-part, ended-got, got-ended}
 use Rattle.record.proofs.Groups.{number-law}
 use Rattle.record.proofs.Parts.{part-there, part-back, Calls, spans-length, calls-there, calls-back}
@@ -34,7 +34,7 @@ pub record BuildCalls (g : Graph) (s : List ℕ) (p q r t : ℕ) (six further : 
   pub closed : allBelow (g .n) (isBranch (final six further)) ≡ true
   pub end : next ≡ 1 + first + more
 
-module _ (g : Graph) (simple : Simple g) (few : g .n < 16384) (s : List ℕ) (bytes : Bytes s) (p q r t : ℕ) (six further : List Link) (next : ℕ) where
+module _ (g : Graph) (simple : Simple g) (few : g .n < numberLimit) (s : List ℕ) (bytes : Bytes s) (p q r t : ℕ) (six further : List Link) (next : ℕ) where
   pub certificate-calls : certificate g s 0 ≡ Got (build p q r t six further) next → BuildCalls g s p q r t six further next
   unfolding groupsOf
   certificate-calls e =

@@ -9,7 +9,7 @@ use lib.Dec.{leb}
 use lib.ListN.{length}
 use borrow.Author.Tests.{eq-eqb}
 use Rattle.record.specs.Read.{Each, folded, check, _needs⟨_⟩_}
-use Rattle.record.specs.Number.{numberBytes, listBytes}
+use Rattle.record.specs.Number.{numberBytes, listBytes, numberLimit}
 use Rattle.record.proofs.Laws.{Reads, pair-law, many-law, same-law, bytes-law, check-law}
 use Rattle.connectivity.specs.Lists.{In}
 use Rattle.connectivity.specs.Graph.{Graph, Adj, Simple}
@@ -43,7 +43,7 @@ module _ (g : Graph) where
   abbrev pub PairOk : (ℕ → Bool) → ℕ × ℕ → Type 0
   PairOk named p = Adj g (p .0) (p .1) × (named (p .1) ≡ true) × (not (named (p .0)) ≡ true)
 
-  pub pair-read-law : Simple g → g .n < 16384 → (named : ℕ → Bool) → Reads (pair (g .n) (g .adj) named) pairBytes (PairOk named)
+  pub pair-read-law : Simple g → g .n < numberLimit → (named : ℕ → Bool) → Reads (pair (g .n) (g .adj) named) pairBytes (PairOk named)
   unfolding pair
   pair-read-law simple few named = same-law
       (decided-law (decided-law (decided-law (pair-law (vertex-law (g .n) few) (λ new. vertex-law (g .n) few))
@@ -121,7 +121,7 @@ four-bytes : (p q r s : ℕ) → numberBytes p ++ (numberBytes q ++ (numberBytes
 unfolding listBytes
 four-bytes p q r s = simp append-nil
 
-four-law : (n : ℕ) → n < 16384 → Reads (branchFour n) (λ b. listBytes numberBytes (four (b .0) (b .1 .0) (b .1 .1 .0) (b .1 .1 .1)))
+four-law : (n : ℕ) → n < numberLimit → Reads (branchFour n) (λ b. listBytes numberBytes (four (b .0) (b .1 .0) (b .1 .1 .0) (b .1 .1 .1)))
     (λ b. (b .0 < b .1 .0) × (b .1 .0 < b .1 .1 .0) × (b .1 .1 .0 < b .1 .1 .1) × (b .1 .1 .1 < n))
 unfolding branchFour
 four-law n few = bytes-law
@@ -134,7 +134,7 @@ four-law n few = bytes-law
     above v = decided-law (vertex-law n few) 20 (decide-most (suc v))
 
 -- a start
-pub start-law : (g : Graph) → Simple g → g .n < 16384 → Reads (start g) (λ x. startBytes (x .0 .0) (x .0 .1 .0) (x .0 .1 .1 .0) (x .0 .1 .1 .1) (x .1))
+pub start-law : (g : Graph) → Simple g → g .n < numberLimit → Reads (start g) (λ x. startBytes (x .0 .0) (x .0 .1 .0) (x .0 .1 .1 .0) (x .0 .1 .1 .1) (x .1))
     (λ x. StartRules g (x .0 .0) (x .0 .1 .0) (x .0 .1 .1 .0) (x .0 .1 .1 .1) (x .1))
 unfolding start
 start-law g simple few = same-law (pair-law (four-law (g .n) few) (λ b. many-law startTaken (start-path-law g simple few) 6 (starting b)))

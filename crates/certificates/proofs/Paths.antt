@@ -20,6 +20,7 @@ use Rattle.certificates.specs.Records.{vertexList, tailLink, linkOf, pat
 use Rattle.certificates.specs.Encoding.{sideBytes, pathBytes}
 use Rattle.certificates.proofs.Decide.{Decides, decide-test, decide-true, decide-and, decide-not, decide-any, decide-each, decide-member, decide-distinct, decide-along}
 use Rattle.certificates.proofs.Sides.{decided-law, count-law, vertex-law}
+use Rattle.record.specs.Number.{numberLimit}
 
 -- a list of two or more and its path
 tail-vertices : (s v : ℕ) (l : List ℕ) → vertices (tailLink s v l) ≡ s ∷ (v ∷ l)
@@ -55,7 +56,7 @@ in-each Q (a ∷ l) f = (f a (inl refl), in-each Q l (λ w h. f w (inr h)))
 abbrev Fits : ℕ → ℕ → List ℕ → Type 0
 Fits n least l = ((least ≤ length l) × (length l ≤ n)) × ((w : ℕ) → In w l → w < n)
 
-path-law : (n least : ℕ) → n < 16384 → 2 ≤ least → Reads (path n least) pathBytes (λ P. Fits n least (vertices P))
+path-law : (n least : ℕ) → n < numberLimit → 2 ≤ least → Reads (path n least) pathBytes (λ P. Fits n least (vertices P))
 unfolding path vertexList
 path-law n least few two = into-law
     (same-law (counted-law (λ (u : Unit {0}) v. u) (λ u. vertex-law n few) (count-law least n few) tt)
@@ -86,7 +87,7 @@ pub record StartOk (g : Graph) (st : Start) (P : Link) : Type 0 where
   pub ends : startEnds (st .ends) P ≡ true
   pub new : (w : ℕ) → In w (P .inner) → ¬ In w (st .built)
 
-module _ (g : Graph) (simple : Simple g) (few : g .n < 16384) where
+module _ (g : Graph) (simple : Simple g) (few : g .n < numberLimit) where
   -- vertices of a path are on edges, so below n; they differ, so there are at most n
   path-fits : (least : ℕ) (P : Link) → IsPath (Adj g) P → least ≤ length (vertices P) → Fits (g .n) least (vertices P)
   path-fits least P p h = ((h, at-most (g .n) (vertices P) (p .nodup) low), low)

@@ -7,7 +7,7 @@ use mathlib.Core.Bool.{Bool}
 use native.Mathlib.Omega.{arith}
 use lib.ListN.{length}
 use Rattle.record.specs.Read.{Reader, Each, _needs⟨_⟩_}
-use Rattle.record.specs.Number.{number, numberBytes}
+use Rattle.record.specs.Number.{number, numberBytes, numberLimit}
 use Rattle.record.proofs.Laws.{Reads, needs-law, counted-law, same-law, each-same}
 use Rattle.record.proofs.Groups.{number-law}
 use Rattle.connectivity.specs.Lists.{In, Ascending, member}
@@ -23,11 +23,11 @@ pub decided-law : {A : Type 0} {R : Reader A} {enc : A → List ℕ} {Ok P : A �
     → Reads (R needs⟨ r ⟩ ok) enc (λ v. (Ok v) × (P v))
 decided-law {ok = ok} h r d = same-law (needs-law h r ok) (λ v o. (o .0, d v .holds (o .1))) (λ v o. (o .0, d v .passes (o .1)))
 
--- numbers below 16384 that a test bounds
-pub count-law : (least most : ℕ) → most < 16384 → Reads (number needs⟨ 9 ⟩ within least most) numberBytes (λ k. (least ≤ k) × (k ≤ most))
+-- numbers below numberLimit that a test bounds
+pub count-law : (least most : ℕ) → most < numberLimit → Reads (number needs⟨ 9 ⟩ within least most) numberBytes (λ k. (least ≤ k) × (k ≤ most))
 count-law least most few = same-law (decided-law number-law 9 (decide-within least most)) (λ k o. o .1) (λ k o. (omega (arith, o .1), o))
 
-pub vertex-law : (n : ℕ) → n < 16384 → Reads (vertex n) numberBytes (λ v. v < n)
+pub vertex-law : (n : ℕ) → n < numberLimit → Reads (vertex n) numberBytes (λ v. v < n)
 unfolding vertex
 vertex-law n few = same-law (decided-law number-law 9 (λ v. decide-less v n)) (λ v o. o .1) (λ v o. (omega arith, o))
 
@@ -70,7 +70,7 @@ unfolding Each
 short n least [] i e = omega arith
 short n least (b ∷ l) i e = let r = short n (suc b) l (omega arith) (e .1) in omega arith
 
-module _ (g : Graph) (few : g .n < 16384) (X : List ℕ) {removed : ℕ → Bool} (d : (v : ℕ) → Decides (removed v) (In v X)) where
+module _ (g : Graph) (few : g .n < numberLimit) (X : List ℕ) {removed : ℕ → Bool} (d : (v : ℕ) → Decides (removed v) (In v X)) where
   side-vertex-law : (least : ℕ) → Reads (sideVertex (g .n) removed least) numberBytes (λ v. (least ≤ v) × Remaining g X v)
   unfolding sideVertex
   side-vertex-law least = same-law (decided-law (decided-law (vertex-law (g .n) few) 20 (decide-most least)) 21 (λ v. decide-not (d v)))

@@ -7,7 +7,7 @@ use native.Mathlib.Omega.{arith}
 use lib.Dec.{ltb}
 use lib.ListN.{getD, length}
 use borrow.Author.Tests.{lt-ltb, le-ltb}
-use Rattle.vertexset.specs.Set.{emptySet, count}
+use Rattle.vertexset.specs.Set.{emptySet, count, capacity}
 use Rattle.vertexset.specs.declared.VertexSet.{VertexSet}
 use Rattle.graph.specs.Rows.{rowOf}
 use Rattle.search.specs.Code.{pathOf, reachOf, searchSpace, leftIn, answerIn}
@@ -15,7 +15,7 @@ use Rattle.search.specs.declared.Path.{Path}
 use Rattle.search.specs.declared.Reach.{Reach}
 use Rattle.search.proofs.Lent.{answer-is, order-is, from-is}
 use Rattle.search.proofs.Sizes.{explore-sized}
-use Rattle.construction.specs.Sets.{capacity, minus, single, pair, withAll, least, members}
+use Rattle.construction.specs.Sets.{minus, single, pair, withAll, least, members}
 use Rattle.construction.specs.Search as searching
 use Rattle.construction.specs.Search.{explore, route, isFound, reached}
 use Rattle.construction.specs.Ears as construction

@@ -8,10 +8,10 @@ use lib.Dec.{ltb}
 use lib.ListN.{length, getD, replicate, length-append}
 use lib.Seq.{take-append-seam}
 use borrow.Author.Tests.{ltb-true, ltb-false}
-use Rattle.vertexset.specs.Set.{wordCount, inserted, next, firstFrom, has}
+use Rattle.vertexset.specs.Set.{wordCount, inserted, next, firstFrom, has, capacity}
 use Rattle.vertexset.specs.declared.VertexSet.{VertexSet}
 use Rattle.graph.specs.Rows.{bareRows}
-use Rattle.construction.specs.Sets.{capacity, stop, single, pair, minus, least, lastOf}
+use Rattle.construction.specs.Sets.{stop, single, pair, minus, least, lastOf}
 use Rattle.construction.specs.Search.{explore, route}
 use Rattle.construction.specs.Ears.{noCut, pathSpace}
 use Rattle.construction.specs.Start.{linkIn, addLink, sixLinks, sorted, nextAfter, begun, marked, threePaths, fourOf, startOn}

@@ -8,11 +8,11 @@ use lib.Dec.{ltb}
 use lib.ListN.{length, take, drop}
 use lib.Seq.{take-at}
 use borrow.Author.Tests.{lt-ltb, le-ltb}
-use Rattle.vertexset.specs.Set.{emptySet, count}
+use Rattle.vertexset.specs.Set.{emptySet, count, capacity}
 use Rattle.vertexset.specs.declared.VertexSet.{VertexSet}
 use Rattle.graph.specs.Plan.{maxEdges}
 use Rattle.search.proofs.Placed.{added-length}
-use Rattle.construction.specs.Sets.{capacity, stop, minus, withAll, members, empty}
+use Rattle.construction.specs.Sets.{stop, minus, withAll, members, empty}
 use Rattle.construction.specs.Ears as construction
 use Rattle.construction.specs.Ears.{noCut, isCut, detour, cycle, pathSpace, addPath, eared, earsOn, ears}
 use Rattle.construction.specs.Start as starting

@@ -22,7 +22,7 @@ use Rattle.graph.specs.declared.Graph.{Graph}
 use Rattle.graph.specs.declared.PlanRead.{PlanRead}
 use Rattle.graph.proofs.Plans.{accepted}
 use Rattle.certificates.proofs.Accepted.{kind-low}
-use Rattle.construction.specs.Sets.{capacity}
+use Rattle.vertexset.specs.Set.{capacity}
 use Rattle.construction.specs.Certificate.{certificateNumbers}
 use Rattle.construction.proofs.CertificateLaws.{Certified, certified}
 use Rattle.construction.proofs.PlanLaws.{plan-drawn, plan-edges}
@@ -120,10 +120,10 @@ decided-by buffer Accepted g w = go (ltb (length buffer) roomAsked) refl
         (cond b (made (PlanFault 30 0) 0) (made (Grade (gradeMade g)) (length (certificateOf g)))) (cond b buffer (overwritten buffer 0 (certificateOf g)))
     go true t = decided-none buffer (PlanFault 30 0)
     go false t =
-        let l : length (certificateOf g) ≤ 1536 = w refl .short in
+        let l : length (certificateOf g) ≤ roomAsked = w refl .short in
         record {
           numbers = certificateNumbers (g .rows) (g .n);
-          front = record { array = refl; short = omega (arith, l, bytes-many (certificateNumbers (g .rows) (g .n))); size = refl };
+          front = record { array = refl; short = omega (arith, w refl .few); size = refl };
           room = omega (arith, l, ltb-false (length buffer) roomAsked t);
           small = w refl .small;
           answered = refl;

@@ -6,13 +6,13 @@ use mathlib.Core.List.{List, [], _∷_}
 use native.Mathlib.Omega.{arith}
 use lib.Dec.{ltb}
 use lib.ListN.{length, take, drop, replicate}
-use Rattle.vertexset.specs.Set.{emptySet, count}
+use Rattle.vertexset.specs.Set.{emptySet, count, capacity}
 use Rattle.vertexset.specs.declared.VertexSet.{VertexSet}
 use Rattle.graph.specs.Rows.{rowOf}
 use Rattle.search.specs.Arrays.{placed, placedEnd}
 use Rattle.search.specs.Code.{pathRoom}
 use Rattle.search.proofs.Placed.{padded-none}
-use Rattle.construction.specs.Sets.{capacity, stop, minus, single, withAll, members, least, empty}
+use Rattle.construction.specs.Sets.{stop, minus, single, withAll, members, least, empty}
 use Rattle.construction.specs.Search.{explore}
 use Rattle.construction.specs.Ears as construction
 use Rattle.construction.specs.Ears.{noCut, isCut, failed, answered, wayOut, backFrom, detour, cycle, pathSpace, addPath, Eared, eared, earsOn, ears}

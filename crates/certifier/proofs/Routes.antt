@@ -7,7 +7,7 @@ use lib.Dec.{ltb}
 use lib.ListN.{length, getD, length-append}
 use Rattle.vertexset.specs.declared.VertexSet.{VertexSet}
 use Rattle.search.specs.Code.{pathRoom}
-use Rattle.construction.specs.Sets.{capacity}
+use Rattle.vertexset.specs.Set.{capacity}
 use Rattle.construction.specs.Search.{Reach, back, route, isFound, reached}
 use Rattle.construction.specs.Ears.{Found, found, failed, answered}
 

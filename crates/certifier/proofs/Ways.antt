@@ -8,11 +8,11 @@ use native.Mathlib.Omega.{arith}
 use lib.Dec.{ltb}
 use lib.ListN.{length}
 use borrow.Author.Tests.{lt-ltb, le-ltb}
-use Rattle.vertexset.specs.Set.{wordCount, next}
+use Rattle.vertexset.specs.Set.{wordCount, next, capacity}
 use Rattle.vertexset.specs.declared.VertexSet.{VertexSet}
 use Rattle.vertexset.proofs.Laws.{next-is}
 use Rattle.graph.specs.Rows.{rowOf}
-use Rattle.construction.specs.Sets.{capacity, common, least, members, membersFrom}
+use Rattle.construction.specs.Sets.{common, least, members, membersFrom}
 use Rattle.construction.specs.Ears.{wayOut}
 use Rattle.search.proofs.Members.{listed, after, members-next}
 

@@ -14,12 +14,12 @@ use Rattle.record.specs.Write.{hasRoom, overwritten, canWrite, writtenNumber, w
 use Rattle.record.specs.declared.Written.{Written}
 use Rattle.record.specs.declared.Written.the-variants.{Next, Nothing}
 use Rattle.record.proofs.Write.{can-write, put-told, put-fails, overwritten-none, overwritten-length, overwritten-more}
-use Rattle.vertexset.specs.Set.{emptySet, has, wordCount, next}
+use Rattle.vertexset.specs.Set.{emptySet, has, wordCount, next, capacity}
 use Rattle.vertexset.specs.declared.VertexSet.{VertexSet}
 use Rattle.graph.specs.Rows.{rowOf, bareRows, joinedRows}
 use Rattle.connectivity.specs.Lists.{upFrom, select}
 use Rattle.connectivity.proofs.Lists.{length-below}
-use Rattle.construction.specs.Sets.{capacity, stop, single, minus, members, membersFrom, added}
+use Rattle.construction.specs.Sets.{stop, single, minus, members, membersFrom, added}
 use Rattle.construction.specs.Ears.{pathSpace, addPath}
 use Rattle.construction.specs.Start.{marked, threePaths}
 use Rattle.construction.specs.Certificate.{lengthened, pairsFrom, treeNumbers}

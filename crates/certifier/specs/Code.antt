@@ -1,16 +1,16 @@
 -- What the private functions give: the values of the definition, its lists at the front of arrays.
-use Prim.Native.Nat.{ℕ, _+_, _-_, _≤_, _<_}
+use Prim.Native.Nat.{ℕ, _+_, _-_, _*_, _≤_, _<_}
 use mathlib.Core.Path.{_≡_}
 use mathlib.Core.Bool.{Bool, cond, not}
 use mathlib.Core.List.{List, [], _∷_, _++_}
 use lib.Dec.{ltb, leb, eqb}
 use lib.ListN.{length, take, drop, getD, set}
-use Rattle.vertexset.specs.Set.{emptySet, has, count}
+use Rattle.vertexset.specs.Set.{emptySet, has, count, capacity}
 use Rattle.vertexset.specs.declared.VertexSet.{VertexSet}
 use Rattle.search.specs.Arrays.{padded}
 use Rattle.search.specs.Code.{pathOf, pathRoom}
 use Rattle.search.specs.declared.Path.{Path}
-use Rattle.construction.specs.Sets.{capacity, single, members}
+use Rattle.construction.specs.Sets.{single, members}
 use Rattle.construction.specs.Ears as construction
 use Rattle.construction.specs.Ears.{pathSpace}
 use Rattle.construction.specs.Start as starting
@@ -23,6 +23,7 @@ use Rattle.certifier.specs.declared.Ears.{Ears}
 use Rattle.certifier.specs.declared.Start.{Start}
 use Rattle.certifier.specs.declared.Progress.{Progress}
 use Rattle.certifier.specs.declared.Numbers.{Numbers}
+use Rattle.record.specs.Number.{numberLimit}
 
 abbrev pub cutOf : construction.Cut → Cut
 cutOf c = record { removed = c .removed; side = c .side }
@@ -41,7 +42,7 @@ startOf b = record { four = b .four; flat = flatOf (b .flat); len = length (b .f
 
 -- the numbers of a certificate: at most the kind, two sets of vertices with their sizes, and paths
 abbrev pub numberRoom : ℕ
-numberRoom = 1800
+numberRoom = pathSpace + 2 * capacity + 8
 
 abbrev pub numbersOf : List ℕ → Numbers
 numbersOf l = record { items = padded numberRoom l; count = length l }
@@ -132,4 +133,4 @@ startCertificateIn rows n full s = builtCertificateIn rows n full (s .four) (ste
 
 -- numbers that have a form of one or two bytes
 abbrev pub Small : List ℕ → Type 0
-Small l = (i : ℕ) → getD l i 0 < 16384
+Small l = (i : ℕ) → getD l i 0 < numberLimit

@@ -10,14 +10,14 @@ use Rattle.record.specs.declared.Answer.the-variants.{Accepted, Grade, PlanFaul
 use Rattle.graph.specs.Code.{wholePlan}
 use Rattle.graph.specs.declared.Graph.{Graph}
 use Rattle.search.specs.Arrays.{padded}
-use Rattle.construction.specs.Certificate.{certificateNumbers, certificateRecord}
+use Rattle.construction.specs.Certificate.{certificateNumbers, certificateRecord, certificateRoom}
 use Rattle.certifier.specs.declared.Draft.{Draft}
 use Rattle.certifier.specs.declared.Made.{Made}
 use Rattle.certifier.specs.Code.{numberRoom}
 
 -- document 01: the length is at most 1,536, and a buffer below that is refused
 abbrev pub roomAsked : ℕ
-roomAsked = 1536
+roomAsked = certificateRoom
 
 -- the certificate of a graph, and its kind
 abbrev pub certificateOf : Graph → List ℕ

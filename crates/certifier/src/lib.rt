@@ -6,12 +6,12 @@ ghost use Prim.Native.Nat.{_+_, _-_, _*_, _≤_, _<_};
 ghost use lib.ListN.{length, take, drop, getD};
 ghost use Rattle.record.specs.Number.{numberBytes, listBytes};
 ghost use Rattle.record.specs.Write.{overwritten};
-ghost use Rattle.vertexset.specs.Set.{emptySet};
+ghost use Rattle.vertexset.specs.Set.{emptySet, capacity};
 ghost use Rattle.graph.specs.Plan.{maxEdges};
 ghost use Rattle.graph.specs.Rows.{bareRows};
 ghost use Rattle.search.specs.Arrays.{placed, placedEnd};
 ghost use Rattle.search.specs.Code.{pathOf, pathRoom, searchSpace};
-ghost use Rattle.construction.specs.Sets.{capacity, stop, pair, single, withAll, members, membersFrom, reversed, lastOf, placeOf};
+ghost use Rattle.construction.specs.Sets.{stop, pair, single, withAll, members, membersFrom, reversed, lastOf, placeOf};
 ghost use Rattle.construction.specs.Search.{explore};
 ghost use Rattle.construction.specs.Ears.{noCut, isCut, answered, wayOut, detour, cycle, pathSpace, addPath, eared, earsOn, ears};
 ghost use Rattle.construction.specs.Start.{marked, linkIn, sorted, threePaths, thirdPath, across, begun, broken, startOn, crossed, thirded, begin};
@@ -21,6 +21,7 @@ ghost use Rattle.certifier.specs.Code.{cutOf, foundOf, earsOf, startOf, 
 ghost use Rattle.certifier.specs.Made.{madeFrom, filledFrom, draftOf, draftFrom};
 use graph::Graph;
 use record::Answer;
+use record::Number;
 use record::Written;
 use search::Path;
 use search::Reach;
@@ -95,14 +96,17 @@ pub struct Made {
 }
 
 impl Numbers {
-    const PATHS: usize = 1536;
+    // a vertex takes one byte where all are below 128, else two
+    const VERTEX_BYTES: usize = 1 + (Number::GROUP < VertexSet::CAPACITY) as usize;
 
-    const ROOM: usize = 1800;
+    const PATHS: usize = 3 * Graph::MAX_EDGES as usize;
+
+    const ROOM: usize = Numbers::PATHS + 2 * VertexSet::CAPACITY as usize + 8;
 }
 
 impl Made {
     // A buffer with fewer bytes is refused.
-    pub const ROOM: usize = 1536;
+    pub const ROOM: usize = Numbers::VERTEX_BYTES * Numbers::PATHS;
 }
 
 impl Cut {

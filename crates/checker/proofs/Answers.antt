@@ -15,7 +15,7 @@ use Rattle.record.specs.declared.Answer.the-variants.{Accepted, Grade, PlanFaul
 use Rattle.record.proofs.Laws.{Spans, Spans.none, Spans.more, on-got, carry, ended-there}
 use Rattle.connectivity.specs.Graph.{Graph, edgeCount}
 use Rattle.connectivity.specs.Certificate.{Certificate, kind}
-use Rattle.graph.specs.Plan.{Plan, Allowed, maxVertices, plan}
+use Rattle.graph.specs.Plan.{Plan, Allowed, plan}
 use Rattle.graph.specs.Rows.{graphOf}
 use Rattle.graph.specs.Code.{planRead, wholePlan, leadingPlan}
 use Rattle.graph.specs.declared.PlanRead.{PlanRead}
@@ -30,9 +30,13 @@ use Rattle.refinement.proofs.Kind3.{kind-3}
 use Rattle.checker.specs.Check.{planGraph, onCertificate, certificateAnswer, onPlan, checkOf, onLeading, gradeOf}
 use Rattle.checker.specs.declared.Graded.{Graded}
 use Rattle.checker.specs.Code.{bodyEnd, onEnd, onKind, rowsAnswer}
+use Rattle.vertexset.specs.Set.{capacity}
 
-pub limited-open : {A : Type 0} (n : ℕ) (R : Reader A) (s : List ℕ) (at : ℕ) → n ≤ maxVertices → limited n R s at ≡ R s at
-limited-open n R s at h = rw (le-leb n maxVertices h)
+fits-table : (p : Plan) → Allowed p → p .n ≤ capacity
+fits-table p a = omega (arith, a .most)
+
+pub limited-open : {A : Type 0} (n : ℕ) (R : Reader A) (s : List ℕ) (at : ℕ) → n ≤ capacity → limited n R s at ≡ R s at
+limited-open n R s at h = rw (le-leb n capacity h)
 
 -- what was put together has the kind that it was read for
 module _ (g : Graph) where
@@ -47,7 +51,7 @@ module _ (g : Graph) where
   body-kind (suc (suc (suc zero))) s at e = into-kind _ 3 (λ a. refl) _ s at e
   body-kind (suc (suc (suc (suc k)))) s at e = let z : _≡_ {A = ℕ} 0 1 = cc in absurd (omega arith)
 
-  module _ (small : g .n ≤ maxVertices) where
+  module _ (small : g .n ≤ capacity) where
     -- kind 3 is read beside the build that the code keeps
     pub body-end : (k : ℕ) (s : List ℕ) (at : ℕ) → k ≤ 3 → bodyEnd g (edgeCount g) k s at ≡ endRead (body g k s at)
     unfolding bodyEnd
@@ -102,7 +106,7 @@ module _ (p : Plan) (a : Allowed p) where
   unfolding certificateAnswer graphOf
   plan-answer s =
       let count : edgeCount (planGraph p) ≡ length (p .edges) = fromEdges-count (p .n) (p .edges) (edge-list p a) in
-      ap (λ (g : Graph). rowsAnswer g (length (p .edges)) s) (network-listed p a) ∙ ap (λ (m : ℕ). rowsAnswer (planGraph p) m s) (sym count) ∙ rows-answer (planGraph p) (a .most) s
+      ap (λ (g : Graph). rowsAnswer g (length (p .edges)) s) (network-listed p a) ∙ ap (λ (m : ℕ). rowsAnswer (planGraph p) m s) (sym count) ∙ rows-answer (planGraph p) (fits-table p a) s
 
 -- the code's steps: the body by its kind
 module _ (g : Graph) (m : ℕ) (s : List ℕ) (at : ℕ) where
@@ -147,15 +151,15 @@ module _ (g : Graph) (m : ℕ) (s : List ℕ) where
 -- a plan that was read whole, and a certificate beside it
 module _ (s c : List ℕ) (r : PlanRead) (e : r ≡ wholePlan s) where
   pub check-accepted : Bytes s → r .answer ≡ Accepted
-      → (r .graph .n ≤ maxVertices) × (rowsAnswer (rowsGraph (r .graph .n) (r .graph .rows)) (r .graph .m) c ≡ checkOf s c)
+      → (r .graph .n ≤ capacity) × (rowsAnswer (rowsGraph (r .graph .n) (r .graph .rows)) (r .graph .m) c ≡ checkOf s c)
   unfolding checkOf planRead graphOf
   check-accepted bytes f = go (ended plan s 0) refl (e)
     where
-      go : (x : Read Plan) → ended plan s 0 ≡ x → r ≡ planRead x → (r .graph .n ≤ maxVertices) × (rowsAnswer (rowsGraph (r .graph .n) (r .graph .rows)) (r .graph .m) c ≡ onPlan x c)
+      go : (x : Read Plan) → ended plan s 0 ≡ x → r ≡ planRead x → (r .graph .n ≤ capacity) × (rowsAnswer (rowsGraph (r .graph .n) (r .graph .rows)) (r .graph .m) c ≡ onPlan x c)
       go (Got p next) k d =
           let a = ended-there plan-law {v = p} bytes k .1 in
           let g : r .graph ≡ graphOf p = ap (λ (q : PlanRead). q .graph) d in
-          (rw g (a .most), ap (λ (h : Built). rowsAnswer (rowsGraph (h .n) (h .rows)) (h .m) c) g ∙ plan-answer p a c)
+          (rw g (fits-table p a), ap (λ (h : Built). rowsAnswer (rowsGraph (h .n) (h .rows)) (h .m) c) g ∙ plan-answer p a c)
       go (Refused q p) k d = let z : r .answer ≡ PlanFault q p = ap (λ (q : PlanRead). q .answer) d in let y : _≡_ {A = ℕ} 0 1 = cc in absurd (omega arith)
 
   pub check-refused : (r .answer ≡ Accepted → ⊥) → r .answer ≡ checkOf s c
@@ -168,19 +172,19 @@ module _ (s c : List ℕ) (r : PlanRead) (e : r ≡ wholePlan s) where
 
 -- a plan at the start, and a certificate behind it
 module _ (s : List ℕ) (r : PlanRead) (e : r ≡ leadingPlan s) where
-  pub grade-accepted : Bytes s → r .answer ≡ Accepted → (r .next ≤ length s) × (r .graph .n ≤ maxVertices)
+  pub grade-accepted : Bytes s → r .answer ≡ Accepted → (r .next ≤ length s) × (r .graph .n ≤ capacity)
       × (_≡_ {A = Graded} (record { answer = rowsAnswer (rowsGraph (r .graph .n) (r .graph .rows)) (r .graph .m) (drop (r .next) s); n = r .graph .n; m = r .graph .m }) (gradeOf s))
   unfolding gradeOf planRead graphOf
   grade-accepted bytes f = go (plan s 0) refl e
     where
-      go : (x : Read Plan) → plan s 0 ≡ x → r ≡ planRead x → (r .next ≤ length s) × (r .graph .n ≤ maxVertices)
+      go : (x : Read Plan) → plan s 0 ≡ x → r ≡ planRead x → (r .next ≤ length s) × (r .graph .n ≤ capacity)
           × (_≡_ {A = Graded} (record { answer = rowsAnswer (rowsGraph (r .graph .n) (r .graph .rows)) (r .graph .m) (drop (r .next) s); n = r .graph .n; m = r .graph .m }) (onLeading x s))
       go (Got p next) k d =
           let b = plan-law .there {v = p} bytes k in
           let g : r .graph ≡ graphOf p = ap (λ (q : PlanRead). q .graph) d in
           let n : r .next ≡ next = ap (λ (q : PlanRead). q .next) d in (
             rw n (spans-within (b .0) (omega arith)),
-            rw g (b .1 .most),
+            rw g (fits-table p (b .1)),
             rw (g, n) (ap (λ (a : Answer). record { answer = a; n = p .n; m = length (p .edges) }) (plan-answer p (b .1) (drop next s))),
           )
       go (Refused q p) k d = let z : r .answer ≡ PlanFault q p = ap (λ (q : PlanRead). q .answer) d in let y : _≡_ {A = ℕ} 0 1 = cc in absurd (omega arith)

@@ -3,7 +3,7 @@ ghost use mathlib.Core.Path.{_≡_};
 ghost use Prim.Native.Nat.{_≤_, _<_, _-_, _+_};
 ghost use mathlib.Core.Bool.{_||_};
 ghost use lib.Dec.{ltb, leb};
-ghost use Rattle.graph.specs.Plan.{maxVertices};
+ghost use Rattle.vertexset.specs.Set.{capacity};
 ghost use Rattle.paths.specs.Items.{rowsGraph};
 ghost use Rattle.checker.specs.Check.{checkOf, gradeOf};
 ghost use Rattle.checker.specs.Code.{bodyEnd, onEnd, rowsAnswer};
@@ -21,7 +21,7 @@ pub struct Graded {
 
 // How many further paths a certificate of kind 3 has.
 fn further_count(n: u16, m: u16) -> u16
-    requires { ⌜ n ≤ maxVertices ⌝ }
+    requires { ⌜ n ≤ capacity ⌝ }
     ensures { λ r. ⌜ r ≡ m - n - 2 ⌝ }
 {
     if m < n + 2 {
@@ -32,7 +32,7 @@ fn further_count(n: u16, m: u16) -> u16
 
 // Kind 3 asks for at least n + 2 edges.
 fn enough(n: u16, m: u16, k: u16) -> bool
-    requires { ⌜ n ≤ maxVertices ⌝ }
+    requires { ⌜ n ≤ capacity ⌝ }
     ensures { λ r. ⌜ r ≡ (ltb k 3 || leb (n + 2) m) ⌝ }
 {
     if k < 3 {
@@ -50,7 +50,7 @@ fn read_body<'a>(
     k: u16,
     at: usize,
 ) -> Item
-    requires { ⌜ n ≤ maxVertices ⌝ }
+    requires { ⌜ n ≤ capacity ⌝ }
     ensures { λ r. ⌜ r ≡ bodyEnd (rowsGraph n (now (rows .entry))) m k (now (s .entry)) at ⌝ }
 {
     if k == 0 {
@@ -83,7 +83,7 @@ fn ended(len: usize, k: u16, end: Item) -> Answer
 
 // A whole certificate beside a graph of n vertices and m edges.
 fn check_certificate<'a>(s: &'a [u8], rows: &'a [u64; Graph::ROW_WORDS], n: u16, m: u16) -> Answer
-    requires { ⌜ n ≤ maxVertices ⌝ }
+    requires { ⌜ n ≤ capacity ⌝ }
     ensures { λ r. ⌜ r ≡ rowsAnswer (rowsGraph n (now (rows .entry))) m (now (s .entry)) ⌝ }
 {
     let x = record::read_number(s, 0);

@@ -22,12 +22,13 @@ use Rattle.certificates.specs.Records.{certificate}
 use Rattle.certificates.proofs.Accepted.{accepted-there, accepted-back}
 use Rattle.checker.specs.Check.{planGraph, onCertificate, certificateAnswer, onPlan, checkOf}
 use Rattle.claims.specs.Certified.{IsPlan, Certified, IsGrade, IsSequence}
+use Rattle.record.specs.Number.{numberLimit}
 
 -- the graph of an allowed plan is simple, and small enough for numbers
 pub plan-simple : (p : Plan) → Allowed p → Simple (planGraph p)
 plan-simple p a = fromEdges-simple (p .n) (p .edges) (edge-list p a)
 
-pub plan-few : (p : Plan) → Allowed p → p .n < 16384
+pub plan-few : (p : Plan) → Allowed p → p .n < numberLimit
 plan-few p a = omega (arith, a .most)
 
 on-plan : (r : Read Plan) (c : List ℕ) {k : ℕ} → onPlan r c ≡ Grade k → (p : Plan) × (next : ℕ) × (r ≡ Got p next) × (certificateAnswer p c ≡ Grade k)

@@ -19,7 +19,7 @@ use Rattle.connectivity.specs.Certificate.{Certificate.build}
 use Rattle.connectivity.proofs.Edges.{fromEdges-count}
 use Rattle.connectivity.proofs.Steps.{final-append, steps-append}
 use Rattle.connectivity.proofs.Soundness.{kind-connectivity}
-use Rattle.graph.specs.Plan.{Plan, Allowed, plan, maxVertices}
+use Rattle.graph.specs.Plan.{Plan, Allowed, plan}
 use Rattle.graph.specs.Rows.{graphOf}
 use Rattle.graph.specs.declared.Graph.{Graph as RowGraph}
 use Rattle.graph.proofs.Plans.{plan-law}
@@ -42,6 +42,7 @@ use Rattle.checker.specs.Check.{planGraph}
 use Rattle.claims.specs.Certified.{IsPlan, IsGrade}
 use Rattle.claims.specs.Calls.{Call, Call.start, Call.path, Call.close, called, after, CallBytes}
 use Rattle.claims.proofs.Checking.{plan-simple, plan-few, is-grade}
+use Rattle.vertexset.specs.Set.{capacity}
 
 -- EVERY SESSION VALUE: closing leaves it as it is, and so does a call that is refused, which reads nothing.
 pub close-same : (s : Session) → closeStep s .session ≡ s
@@ -135,17 +136,17 @@ module _ (p : Plan) (al : Allowed p) where
   -- the session's rows stand for the plan's graph, which is within the limit
   rows-read : {A : Type 0} (R : Graph → Reader A) (part : List ℕ) → limited (graphOf p .n) (R (rowsGraph (graphOf p .n) (graphOf p .rows))) part 0 ≡ R (planGraph p) part 0
   unfolding graphOf
-  rows-read R part = rw (le-leb (p .n) maxVertices (al .most)) (ap (λ (g : Graph). R g part 0) (network-listed p al))
+  rows-read R part = rw (le-leb (p .n) capacity (omega (arith, al .most))) (ap (λ (g : Graph). R g part 0) (network-listed p al))
 
   -- A START: it is read as a certificate's start is, and the build then shows its paths
   pub start-step : (part : List ℕ) → startStep (openedOn (graphOf p)) part ≡ onStart (openedOn (graphOf p)) (readStart (planGraph p) part 0)
   unfolding startStep readStart
-  start-step part = ap (λ (x : Read ((ℕ × (ℕ × (ℕ × ℕ))) × List Path)). onStart (openedOn (graphOf p)) x) (rows-read buildStart part ∙ start-same (planGraph p) (al .most) part 0)
+  start-step part = ap (λ (x : Read ((ℕ × (ℕ × (ℕ × ℕ))) × List Path)). onStart (openedOn (graphOf p)) x) (rows-read buildStart part ∙ start-same (planGraph p) (omega (arith, al .most)) part 0)
 
   pub start-building : (part : List ℕ) (x : (ℕ × (ℕ × (ℕ × ℕ))) × List Path) (next : ℕ) → readStart (planGraph p) part 0 ≡ Got x next
       → Building p (onStart (openedOn (graphOf p)) (Got x next) .session) (x .1)
   unfolding readStart
-  start-building part x next e = record { graph = refl; ready = refl; started = refl; shows = shows-start (planGraph p) (al .most) part 0 e }
+  start-building part x next e = record { graph = refl; ready = refl; started = refl; shows = shows-start (planGraph p) (omega (arith, al .most)) part 0 e }
 
   -- 31: a path before the start, and a second start
   pub early-path : (part : List ℕ) → pathStep (openedOn (graphOf p)) part ≡ refusedStep (openedOn (graphOf p)) 31 0
@@ -169,7 +170,7 @@ module _ (p : Plan) (al : Allowed p) where
         readIn g = limited (g .n) (buildPath (rowsGraph (g .n) (g .rows)) (s .build)) part 0
 
     pub path-building : (part : List ℕ) (P : Path) (next : ℕ) → furtherPath (planGraph p) links part 0 ≡ Got P next → Building p (onPath s (Got P next) .session) (taken links P)
-    path-building part P next e = record { graph = h .graph; ready = h .ready; started = h .started; shows = shows-read (planGraph p) links part 0 e (al .most) (h .shows) }
+    path-building part P next e = record { graph = h .graph; ready = h .ready; started = h .started; shows = shows-read (planGraph p) links part 0 e (omega (arith, al .most)) (h .shows) }
 
     -- CLOSING
     pub closing-is : closeStep s .answer ≡ cond (eqb (s .taken) (due p)) (cond (allBelow (p .n) (isBranch links)) (Grade 3) (CertificateFault 28 0)) (CertificateFault 31 0)

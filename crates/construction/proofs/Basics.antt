@@ -5,7 +5,7 @@ use mathlib.Core.Logic.{_⊎_}
 use mathlib.Core.Bool.{true, false}
 use mathlib.Core.List.{List, [], _∷_, _++_}
 use lib.ListN.{length}
-use Rattle.vertexset.specs.Set.{has, wordCount}
+use Rattle.vertexset.specs.Set.{has, wordCount, capacity}
 use Rattle.vertexset.specs.declared.VertexSet.{VertexSet}
 use Rattle.vertexset.proofs.Laws.{Words}
 use Rattle.graph.specs.Rows.{adjacentIn, rowWords}
@@ -14,7 +14,7 @@ use Rattle.connectivity.specs.Path.{Link, vertices}
 use Rattle.connectivity.proofs.Lists.{rev}
 use Rattle.connectivity.proofs.Search as searching
 use Rattle.connectivity.proofs.Progress.{Separated}
-use Rattle.construction.specs.Sets.{capacity, stop, members}
+use Rattle.construction.specs.Sets.{stop, members}
 use Rattle.construction.specs.Search.{explore, isFound, route, reached}
 use Rattle.construction.specs.Ears.{Cut, isCut}
 

@@ -22,8 +22,10 @@ use Rattle.connectivity.proofs.Recorded.{Recorded, recorded-path, branch-beside
 use Rattle.connectivity.proofs.RecordedSteps.{recordOf, BuildOf, build-of}
 use Rattle.connectivity.proofs.Progress.{Finished, built-low}
 use Rattle.connectivity.proofs.Completeness.{recorded-most, finished-rules}
+use Rattle.vertexset.specs.Set.{capacity}
+use Rattle.construction.specs.Ears.{pathSpace}
 use Rattle.construction.proofs.Flat.{newestFirst, in-newest, built-newest, used-newest, length-flat}
-use Rattle.construction.proofs.NumberLaws.{pathNumbers, path-number, length-numbers, bytes-append, bytes-first, path-bytes, bytes-once}
+use Rattle.construction.proofs.NumberLaws.{pathNumbers, path-number, length-numbers, bytes-append, bytes-first, path-bytes, bytes-vertices}
 use Rattle.construction.proofs.CutRecords.{Written, low-small}
 
 -- a branch vertex that is not on the path: no path has all vertices
@@ -61,10 +63,10 @@ edges-most g (suc v) h =
     let ih = edges-most g v (omega arith) in
     omega (arith, length-below v, length-higher v l, length-append (withHigher v l) (edgesBelow g v))
 
-record-room : (m n u k : ℕ) → u ≤ m → n + 2 ≤ m → k ≡ (m - n) - 2 → m ≤ 512 → (n ≤ 6 → m ≤ 36) → 5 + (u + 2 * (6 + k)) ≤ 1536
+record-room : (m n u k : ℕ) → u ≤ m → n + 2 ≤ m → k ≡ (m - n) - 2 → m ≤ maxEdges → (n ≤ 6 → m ≤ 36) → 5 + (u + 2 * (6 + k)) ≤ pathSpace
 record-room m n u k hu hn hk hm small = go (below? n 7)
   where
-    go : Dec (n < 7) → 5 + (u + 2 * (6 + k)) ≤ 1536
+    go : Dec (n < 7) → 5 + (u + 2 * (6 + k)) ≤ pathSpace
     go (yes h) = omega (arith, small (omega arith))
     go (no h) = omega arith
 
@@ -76,7 +78,7 @@ module _ (a b c e p q r s : ℕ) (h : sixPairs a b c e ≡ sixPairs p q r s) whe
   rules-as : (g : Graph) (st fu st′ fu′ : List Link) → st ≡ st′ → fu ≡ fu′ → BuildRules g p q r s st fu → BuildRules g a b c e st′ fu′
   rules-as g st fu st′ fu′ hs hf y = rw (ap (λ (l : List (ℕ × ℕ)). at 0 l .0) h, ap (λ (l : List (ℕ × ℕ)). at 0 l .1) h, ap (λ (l : List (ℕ × ℕ)). at 1 l .1) h, ap (λ (l : List (ℕ × ℕ)). at 2 l .1) h, ← hs, ← hf) y
 
-module _ (g : Graph) (p : Simple g) (big : g .n ≤ 128) (few : edgeCount g ≤ maxEdges) (qs : List Link) (six : 6 ≤ length qs) (val : Recorded (Adj g) (newestFirst qs)) where
+module _ (g : Graph) (p : Simple g) (big : g .n ≤ capacity) (few : edgeCount g ≤ maxEdges) (qs : List Link) (six : 6 ≤ length qs) (val : Recorded (Adj g) (newestFirst qs)) where
   path-short : (P : Link) → In P qs → length (vertices P) < g .n
   path-short P h = at-most (g .n) (z .0 ∷ vertices P) (z .2, path .nodup) low
     where
@@ -107,7 +109,7 @@ module _ (g : Graph) (p : Simple g) (big : g .n ≤ 128) (few : edgeCount g ≤ 
     abbrev numbers : List ℕ
     numbers = 3 ∷ (four a b c e ++ pathNumbers qs)
 
-    low : (w : ℕ) → In w numbers → w < 128
+    low : (w : ℕ) → In w numbers → w < capacity
     low w (inl h) = omega arith
     low w (inr (inl h)) = omega (arith, rules .first .pq, rules .first .qr, rules .first .rs, rules .first .low)
     low w (inr (inr (inl h))) = omega (arith, rules .first .qr, rules .first .rs, rules .first .low)
@@ -115,7 +117,7 @@ module _ (g : Graph) (p : Simple g) (big : g .n ≤ 128) (few : edgeCount g ≤ 
     low w (inr (inr (inr (inr (inl h))))) = omega (arith, rules .first .low)
     low w (inr (inr (inr (inr (inr h))))) = omega (arith, number-low w h)
 
-    room : length numbers ≤ 1536
+    room : length numbers ≤ pathSpace
     room =
         let u : length (usedEdges qs) ≤ edgeCount g = omega (arith, used-newest qs, recorded-most g p (newestFirst qs) val) in
         let k = record-room (edgeCount g) (g .n) (length (usedEdges qs)) (length (drop 6 qs)) u (rules .enough) (rules .count) few (λ h. omega (arith, edges-most g (g .n) h)) in
@@ -136,6 +138,7 @@ module _ (g : Graph) (p : Simple g) (big : g .n ≤ 128) (few : edgeCount g ≤ 
       rules = rules;
       grade = refl;
       bytes = same;
-      short = omega (arith, room, bytes-once numbers low);
+      few = room;
+      short = omega (arith, room, bytes-vertices numbers low);
       small = low-small numbers (λ w h. let k = low w h in omega arith);
     }

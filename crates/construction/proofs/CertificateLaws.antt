@@ -1,5 +1,5 @@
 -- THE CERTIFICATE OF A GRAPH KEEPS EVERY RULE: what the definition gives is the record of a certificate, and fits one.
-use Prim.Native.Nat.{ℕ, _+_, _-_, _≤_, _<_}
+use Prim.Native.Nat.{ℕ, _+_, _-_, _*_, _≤_, _<_}
 use mathlib.Core.Path.{_≡_, refl, sym, ap, subst, _∙_}
 use mathlib.Core.Bool.{Bool, true, false, cond}
 use mathlib.Core.Logic.{_⊎_, inl, inr, ⊎-elim}
@@ -20,10 +20,10 @@ use Rattle.connectivity.proofs.Progress.{built-low}
 use Rattle.connectivity.proofs.Completeness.{side-separation}
 use Rattle.construction.specs.Sets.{minus, members, empty}
 use Rattle.construction.specs.Search.{Reach}
-use Rattle.construction.specs.Ears.{Cut, cut, noCut, Eared, ears}
+use Rattle.construction.specs.Ears.{Cut, cut, noCut, Eared, ears, pathSpace}
 use Rattle.construction.specs.Start.{begin}
 use Rattle.construction.specs.Steps.{build, finish}
-use Rattle.construction.specs.Certificate.{lengthened, pairsFrom, evidence, sideNumbers, cutNumbers, buildNumbers, chosen, cutCertificate, buildCertificate, begunCertificate, fullSet, certificateNumbers, certificateRecord}
+use Rattle.construction.specs.Certificate.{certificateRoom, lengthened, pairsFrom, evidence, sideNumbers, cutNumbers, buildNumbers, chosen, cutCertificate, buildCertificate, begunCertificate, fullSet, certificateNumbers, certificateRecord}
 use Rattle.construction.proofs.Basics.{drawnGraph, Drawn, IsCut}
 use Rattle.construction.proofs.SetLaws.{sized-empty, empty-on, members-in, members-nodup, members-ascending, members-count, members-same}
 use Rattle.construction.proofs.SpanningTree.{treeOf, pairsOf, pairNumbers, tree-numbers, tree-of, tree-count, tree-cut, tree-numbers-low}
@@ -36,6 +36,7 @@ use Rattle.construction.proofs.FinishLaws.{FinishedWith, finish-law}
 use Rattle.construction.proofs.NumberLaws.{pathNumbers, lengthened-paths}
 use Rattle.construction.proofs.CutRecords.{Written, none-written, one-written, two-written, ear-vertex}
 use Rattle.construction.proofs.BuildRecords.{build-written}
+use Rattle.record.specs.Number.{numberLimit}
 
 -- numbers alone: omega is slow beside sets
 none-of : (k c : ℕ) → k ≡ c → k ≤ 1 → c < 2
@@ -190,8 +191,9 @@ pub record Certified (rows : List ℕ) (n : ℕ) : Type 0 where
   pub rules : Rules (drawnGraph rows n) certificate
   pub grade : getD (certificateNumbers rows n) 0 0 ≡ kind certificate
   pub bytes : certificateRecord rows n ≡ certificateBytes certificate
-  pub short : length (certificateRecord rows n) ≤ 1536
-  pub small : (i : ℕ) → getD (certificateNumbers rows n) i 0 < 16384
+  pub few : length (certificateNumbers rows n) ≤ pathSpace
+  pub short : length (certificateRecord rows n) ≤ certificateRoom
+  pub small : (i : ℕ) → getD (certificateNumbers rows n) i 0 < numberLimit
 
 pub certified : (rows : List ℕ) (n : ℕ) → Drawn rows n → edgeCount (drawnGraph rows n) ≤ maxEdges → Certified rows n
-certified rows n d few = let w = all-written rows n d few in record { certificate = w .certificate; rules = w .rules; grade = w .grade; bytes = w .bytes; short = w .short; small = w .small }
+certified rows n d few = let w = all-written rows n d few in record { certificate = w .certificate; rules = w .rules; grade = w .grade; bytes = w .bytes; few = w .few; short = w .short; small = w .small }

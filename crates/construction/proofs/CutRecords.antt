@@ -5,7 +5,7 @@ use mathlib.Core.Logic.{_⊎_, inl, inr, ⊎-elim}
 use mathlib.Core.List.{List, [], _∷_, _++_}
 use native.Mathlib.Omega.{arith}
 use lib.ListN.{length, getD, length-append}
-use Rattle.record.specs.Number.{numberBytes, listBytes}
+use Rattle.record.specs.Number.{numberBytes, listBytes, numberLimit}
 use Rattle.certificates.specs.Encoding.{sideBytes, pathBytes, certificateBytes}
 use Rattle.connectivity.specs.Lists.{In, NoDup}
 use Rattle.connectivity.specs.Graph.{Graph, Simple, Adj}
@@ -15,6 +15,9 @@ use Rattle.connectivity.proofs.Lists.{in-append, at-most}
 use Rattle.connectivity.proofs.Paths.{builtVertices, built-in}
 use Rattle.connectivity.proofs.Edges.{path-low}
 use Rattle.connectivity.proofs.Completeness.{EarDecomposition, ears-size}
+use Rattle.vertexset.specs.Set.{capacity}
+use Rattle.construction.specs.Ears.{pathSpace}
+use Rattle.construction.specs.Certificate.{certificateRoom}
 use Rattle.construction.proofs.SpanningTree.{pairNumbers, pair-bytes}
 use Rattle.construction.proofs.NumberLaws.{pathNumbers, path-number, bytes-append, bytes-first, side-bytes, path-bytes, bytes-twice, places-low}
 
@@ -24,30 +27,31 @@ pub record Written (g : Graph) (l : List ℕ) : Type 0 where
   pub rules : Rules g certificate
   pub grade : getD l 0 0 ≡ kind certificate
   pub bytes : listBytes numberBytes l ≡ certificateBytes certificate
-  pub short : length (listBytes numberBytes l) ≤ 1536
-  pub small : (i : ℕ) → getD l i 0 < 16384
+  pub few : length l ≤ pathSpace
+  pub short : length (listBytes numberBytes l) ≤ certificateRoom
+  pub small : (i : ℕ) → getD l i 0 < numberLimit
 
-pub low-small : (l : List ℕ) → ((w : ℕ) → In w l → w < 129) → (i : ℕ) → getD l i 0 < 16384
-low-small l low i = let h = places-low 129 (omega arith) l low i in omega arith
+pub low-small : (l : List ℕ) → ((w : ℕ) → In w l → w < (capacity + 1)) → (i : ℕ) → getD l i 0 < numberLimit
+low-small l low i = let h = places-low (capacity + 1) (omega arith) l low i in omega arith
 
 -- few numbers, two bytes each
-written : (g : Graph) (l : List ℕ) (x : Certificate) → Rules g x → getD l 0 0 ≡ kind x → listBytes numberBytes l ≡ certificateBytes x → length l ≤ 768 → ((w : ℕ) → In w l → w < 129) → Written g l
-written g l x r k b few low = record { certificate = x; rules = r; grade = k; bytes = b; short = omega (arith, bytes-twice l); small = low-small l low }
+written : (g : Graph) (l : List ℕ) (x : Certificate) → Rules g x → getD l 0 0 ≡ kind x → listBytes numberBytes l ≡ certificateBytes x → length l ≤ 5 * capacity + 8 → ((w : ℕ) → In w l → w < (capacity + 1)) → Written g l
+written g l x r k b few low = record { certificate = x; rules = r; grade = k; bytes = b; few = omega arith; short = omega (arith, bytes-twice l); small = low-small l low }
 
 -- a side in a record
 side-most : (g : Graph) (X S : List ℕ) → Separation g X S → NoDup S → length S ≤ g .n
 side-most g X S p nd = at-most (g .n) S nd (λ w h. p .remaining w h .0)
 
-side-number : (g : Graph) → g .n ≤ 128 → (X S : List ℕ) → Separation g X S → NoDup S → (w : ℕ) → In w (length S ∷ S) → w < 129
+side-number : (g : Graph) → g .n ≤ capacity → (X S : List ℕ) → Separation g X S → NoDup S → (w : ℕ) → In w (length S ∷ S) → w < (capacity + 1)
 side-number g big X S p nd w (inl e) = omega (arith, side-most g X S p nd)
 side-number g big X S p nd w (inr h) = omega (arith, p .remaining w h .0)
 
 -- ---- kind 0
 
-pub none-written : (g : Graph) → g .n ≤ 128 → (S : List ℕ) → Separation g [] S → NoDup S → Written g (0 ∷ (length S ∷ S))
+pub none-written : (g : Graph) → g .n ≤ capacity → (S : List ℕ) → Separation g [] S → NoDup S → Written g (0 ∷ (length S ∷ S))
 none-written g big S p nd = written g (0 ∷ (length S ∷ S)) (separation S) p refl (bytes-first numberBytes 0 (length S ∷ S) ∙ ap (λ (k : List ℕ). numberBytes 0 ++ k) (side-bytes S)) (omega (arith, side-most g [] S p nd)) low
   where
-    low : (w : ℕ) → In w (0 ∷ (length S ∷ S)) → w < 129
+    low : (w : ℕ) → In w (0 ∷ (length S ∷ S)) → w < (capacity + 1)
     low w (inl e) = omega arith
     low w (inr h) = side-number g big [] S p nd w h
 
@@ -57,7 +61,7 @@ length-tree : (ps : List (ℕ × ℕ)) → length (pairNumbers ps) ≡ 2 * lengt
 length-tree [] = refl
 length-tree (e ∷ ps) = let ih = length-tree ps in omega arith
 
-pub one-written : (g : Graph) → g .n ≤ 128 → (c : ℕ) (ps : List (ℕ × ℕ)) (S : List ℕ) → TreeRules g c 0 ps S → ((w : ℕ) → In w (0 ∷ pairNumbers ps) → w < g .n) → NoDup S
+pub one-written : (g : Graph) → g .n ≤ capacity → (c : ℕ) (ps : List (ℕ × ℕ)) (S : List ℕ) → TreeRules g c 0 ps S → ((w : ℕ) → In w (0 ∷ pairNumbers ps) → w < g .n) → NoDup S
     → Written g (1 ∷ (c ∷ ((0 ∷ pairNumbers ps) ++ (length S ∷ S))))
 one-written g big c ps S r tree-low nd = written g (1 ∷ (c ∷ (t ++ (length S ∷ S)))) (tree c 0 ps S) r refl same
     (omega (arith, r .count, length-tree ps, side-most g (c ∷ []) S (r .separation) nd, length-append t (length S ∷ S))) low
@@ -65,7 +69,7 @@ one-written g big c ps S r tree-low nd = written g (1 ∷ (c ∷ (t ++ (length S
     t : List ℕ
     t = 0 ∷ pairNumbers ps
 
-    low : (w : ℕ) → In w (1 ∷ (c ∷ (t ++ (length S ∷ S)))) → w < 129
+    low : (w : ℕ) → In w (1 ∷ (c ∷ (t ++ (length S ∷ S)))) → w < (capacity + 1)
     low w (inl e) = omega arith
     low w (inr (inl e)) = omega (arith, r .c-low)
     low w (inr (inr h)) = ⊎-elim (λ k. omega (arith, tree-low w k)) (side-number g big (c ∷ []) S (r .separation) nd w) (in-append w t (length S ∷ S) h)
@@ -90,7 +94,7 @@ ears-length : (B : List ℕ) (es : List Link) → length (pathNumbers es) + leng
 ears-length B [] = omega arith
 ears-length B (P ∷ es) = let ih = ears-length (P .inner ++ B) es in omega (arith, length-append (P .inner) B, length-append (vertices P) (pathNumbers es), length-append (P .inner) (P .t ∷ []))
 
-module _ (g : Graph) (p : Simple g) (big : g .n ≤ 128) (o : EarDecomposition g p) where
+module _ (g : Graph) (p : Simple g) (big : g .n ≤ capacity) (o : EarDecomposition g p) where
   abbrev all : List Link
   all = o .first ∷ o .later
 
@@ -117,11 +121,11 @@ module _ (g : Graph) (p : Simple g) (big : g .n ≤ 128) (o : EarDecomposition g
       t : List ℕ
       t = length all ∷ pathNumbers all
 
-      counted : (w : ℕ) → In w t → w < 129
+      counted : (w : ℕ) → In w t → w < (capacity + 1)
       counted w (inl e) = omega (arith, o .count)
       counted w (inr h) = omega (arith, ear-number w h)
 
-      low : (w : ℕ) → In w (2 ∷ (c ∷ (q ∷ (t ++ (length S ∷ S))))) → w < 129
+      low : (w : ℕ) → In w (2 ∷ (c ∷ (q ∷ (t ++ (length S ∷ S))))) → w < (capacity + 1)
       low w (inl e) = omega arith
       low w (inr (inl e)) = omega (arith, r .order, r .low)
       low w (inr (inr (inl e))) = omega (arith, r .low)

@@ -9,7 +9,7 @@ use native.Mathlib.Decide.{ℕ-discrete}
 use lib.Dec.{ltb}
 use lib.ListN.{length}
 use borrow.Author.Tests.{ltb-true, ltb-false}
-use Rattle.vertexset.specs.Set.{has, emptySet, count, none}
+use Rattle.vertexset.specs.Set.{has, emptySet, count, none, capacity}
 use Rattle.vertexset.specs.declared.VertexSet.{VertexSet}
 use Rattle.graph.specs.Rows.{rowOf, adjacentIn}
 use Rattle.connectivity.specs.Lists.{In, below}
@@ -18,7 +18,7 @@ use Rattle.connectivity.specs.Path.{Link, link, vertices, IsPath}
 use Rattle.connectivity.proofs.Lists.{rev, fewer, beside, clash, bool?, nodup-below, length-below, in-below}
 use Rattle.connectivity.proofs.Paths.{end-or-inner}
 use Rattle.connectivity.proofs.Edges.{edge-high, edge-differ}
-use Rattle.construction.specs.Sets.{capacity, minus, common, single, members, least, empty}
+use Rattle.construction.specs.Sets.{minus, common, single, members, least, empty}
 use Rattle.construction.specs.Search.{Reach, explore, isFound, route, reached}
 use Rattle.construction.specs.Ears.{Cut, cut, noCut, isCut, Found, found, failed, answered, wayOut, backFrom, detour, cycle}
 use Rattle.construction.specs.Certificate.{fullSet}

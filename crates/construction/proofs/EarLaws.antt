@@ -6,7 +6,7 @@ use mathlib.Core.Logic.{_⊎_, inl, inr, ⊎-elim, ⊎-map}
 use mathlib.Core.List.{List, [], _∷_, _++_, append-assoc, append-nil}
 use native.Mathlib.Omega.{arith}
 use lib.ListN.{length, length-append}
-use Rattle.vertexset.specs.Set.{has, emptySet}
+use Rattle.vertexset.specs.Set.{has, emptySet, capacity}
 use Rattle.vertexset.specs.declared.VertexSet.{VertexSet}
 use Rattle.connectivity.specs.Lists.{In, NoDup}
 use Rattle.connectivity.specs.Graph.{Adj, Graph}
@@ -17,7 +17,7 @@ use Rattle.connectivity.proofs.Paths.{along-rev, along-join, end-or-inner, inne
 use Rattle.connectivity.proofs.Edges.{path-low}
 use Rattle.connectivity.proofs.FirstLinks.{reversed}
 use Rattle.connectivity.proofs.Completeness.{EarDecomposition, ear-fair, ear-grows, ears-size}
-use Rattle.construction.specs.Sets.{capacity, stop, minus, withAll, empty}
+use Rattle.construction.specs.Sets.{stop, minus, withAll, empty}
 use Rattle.construction.specs.Ears.{noCut, isCut, detour, cycle, pathSpace, addPath, Eared, eared, earsOn, ears}
 use Rattle.construction.specs.Certificate.{fullSet}
 use Rattle.construction.proofs.Basics.{drawnGraph, Drawn, Sized, On, flatten}

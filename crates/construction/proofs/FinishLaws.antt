@@ -8,7 +8,7 @@ use native.Mathlib.Omega.{arith}
 use lib.Dec.{lit<}
 use lib.ListN.{length, take, length-append}
 use lib.Seq.{take-append-le}
-use Rattle.vertexset.specs.Set.{has}
+use Rattle.vertexset.specs.Set.{has, capacity}
 use Rattle.vertexset.specs.declared.VertexSet.{VertexSet}
 use Rattle.graph.specs.Plan.{maxEdges}
 use Rattle.graph.specs.Rows.{adjacentIn, rowOf, rowWords, bareRows}
@@ -22,7 +22,7 @@ use Rattle.connectivity.proofs.EdgeUse.{used-append}
 use Rattle.connectivity.proofs.Recorded.{Recorded, Extends}
 use Rattle.connectivity.proofs.Progress.{Finished, built-low, told}
 use Rattle.connectivity.proofs.Completeness.{recorded-most}
-use Rattle.construction.specs.Sets.{capacity, stop, minus, membersFrom}
+use Rattle.construction.specs.Sets.{stop, minus, membersFrom}
 use Rattle.construction.specs.Ears.{pathSpace, addPath}
 use Rattle.construction.specs.Steps.{addEdges, addRows, finish}
 use Rattle.construction.proofs.Basics.{drawnGraph, Drawn, Sized, On, flatten}

@@ -5,7 +5,7 @@ use mathlib.Core.Logic.{inl, inr, _≢_}
 use mathlib.Core.List.{List, [], _∷_, _++_, append-nil}
 use native.Mathlib.Omega.{arith}
 use lib.ListN.{length, getD, length-append}
-use Rattle.vertexset.specs.Set.{next}
+use Rattle.vertexset.specs.Set.{next, capacity}
 use Rattle.vertexset.specs.declared.VertexSet.{VertexSet}
 use Rattle.connectivity.specs.Lists.{In, Ascending}
 use Rattle.connectivity.specs.Graph.{Graph, Adj, Simple}
@@ -14,7 +14,7 @@ use Rattle.connectivity.specs.Build.{four, endPairs, sixPairs}
 use Rattle.connectivity.proofs.Lists.{fewer}
 use Rattle.connectivity.proofs.Start.{StartPaths, Subdivision, theFour, start-differ}
 use Rattle.connectivity.proofs.FirstLinks.{OneOf, sorted-start}
-use Rattle.construction.specs.Sets.{capacity, stop, members, least}
+use Rattle.construction.specs.Sets.{stop, members, least}
 use Rattle.construction.specs.Ears.{pathSpace, addPath}
 use Rattle.construction.specs.Start.{linkIn, nextAfter, sixLinks, sorted}
 use Rattle.construction.proofs.Basics.{drawnGraph, Drawn, Sized, On, flatten}
@@ -24,9 +24,9 @@ use Rattle.construction.proofs.LinksIn.{Linked, linked}
 -- paths in one list, with room for more: k paths, none longer than a closed path through every vertex
 pub record Room (flat : List ℕ) (ms : List Link) (k : ℕ) : Type 0 where
   pub same : flat ≡ flatten ms
-  pub short : length (flatten ms) ≤ k * 131
+  pub short : length (flatten ms) ≤ k * (capacity + 3)
 
-pub add-room : (flat path : List ℕ) (ms : List Link) (k : ℕ) (M : Link) → Room flat ms k → k ≤ 8 → path ≡ vertices M → length (vertices M) ≤ 130 → Room (addPath flat path) (ms ++ (M ∷ [])) (suc k)
+pub add-room : (flat path : List ℕ) (ms : List Link) (k : ℕ) (M : Link) → Room flat ms k → k ≤ 8 → path ≡ vertices M → length (vertices M) ≤ capacity + 2 → Room (addPath flat path) (ms ++ (M ∷ [])) (suc k)
 add-room flat path ms k M r few e short = record {
   same = (λ i. addPath (r .same i) (e i)) ∙ added-room pathSpace (flatten ms) (stop ∷ vertices M) (omega (arith, r .short)) ∙ sym more;
   short = omega (arith, r .short, ap length more, length-append (flatten ms) (stop ∷ vertices M));

@@ -8,7 +8,7 @@ use native.Mathlib.Omega.{arith}
 use lib.ListN.{length, take, drop, getD, length-append, length-drop, take-append-drop}
 use lib.Seq.{take-at, drop-at, getD-at, length-take-le}
 use borrow.Author.Tests.{not-true, not-false}
-use Rattle.vertexset.specs.Set.{has}
+use Rattle.vertexset.specs.Set.{has, capacity}
 use Rattle.vertexset.specs.declared.VertexSet.{VertexSet}
 use Rattle.graph.specs.Plan.{maxEdges}
 use Rattle.connectivity.specs.Lists.{In}
@@ -19,7 +19,7 @@ use Rattle.connectivity.proofs.Paths.{builtVertices, branchVertices, in-built, 
 use Rattle.connectivity.proofs.Recorded.{Extends, branch-beside}
 use Rattle.connectivity.proofs.Progress.{NoneIn, link-extends}
 use Rattle.connectivity.proofs.FirstLinks.{reversed}
-use Rattle.construction.specs.Sets.{capacity, stop, minus, pair, setOf, members, placeOf}
+use Rattle.construction.specs.Sets.{stop, minus, pair, setOf, members, placeOf}
 use Rattle.construction.specs.Search.{explore, route, reached}
 use Rattle.construction.specs.Ears.{cut, Found, found, failed, answered}
 use Rattle.construction.specs.Steps.{State, stopped, extended, segment, offLink, linkTaken, runEnd, innerPlace}

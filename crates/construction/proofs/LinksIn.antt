@@ -18,12 +18,13 @@ use Rattle.connectivity.proofs.EdgeUse.{edges-cut}
 use Rattle.connectivity.proofs.Search.{Closed}
 use Rattle.connectivity.proofs.Start.{StartPaths, start-path, clear-start, end-start, inner-sole}
 use Rattle.connectivity.proofs.FirstLinks.{OneOf, reversed, oriented}
-use Rattle.construction.specs.Sets.{capacity, minus, single, pair}
+use Rattle.construction.specs.Sets.{minus, single, pair}
 use Rattle.construction.specs.Start.{linkIn}
 use Rattle.construction.proofs.Basics.{drawnGraph, Drawn, Sized, On, Asked, Met, Shut}
 use Rattle.construction.proofs.SetLaws.{sized-single, sized-pair, sized-minus, on-low, single-on, on-single, pair-on, on-pair, minus-on, on-minus}
 use Rattle.construction.proofs.Searching.{explored}
 use Rattle.construction.proofs.Flat.{rev-rev, rev-vertices, path-reversed}
+use Rattle.vertexset.specs.Set.{capacity}
 
 -- ---- the edges of a path at one of its vertices
 

@@ -1,12 +1,13 @@
 -- THE NUMBERS OF PATHS: each path is its length and its vertices; and how many bytes numbers take.
 use Prim.Native.Nat.{ℕ, zero, suc, _+_, _*_, _≤_, _<_}
 use mathlib.Core.Path.{_≡_, refl, sym, ap, _∙_}
-use mathlib.Core.Bool.{Bool, cond}
+use mathlib.Core.Bool.{Bool, true, false, cond}
 use mathlib.Core.Logic.{_⊎_, inl, inr, ⊎-elim, ⊎-map}
 use mathlib.Core.List.{List, [], _∷_, _++_, append-assoc}
 use native.Mathlib.Omega.{arith}
 use lib.ListN.{length, getD, length-append}
-use borrow.Author.Tests.{ne-eqb}
+use lib.Dec.{leb}
+use borrow.Author.Tests.{ne-eqb, leb-true}
 use Rattle.record.specs.Number.{numberBytes, listBytes}
 use Rattle.record.proofs.Write.{one-byte, few-bytes}
 use Rattle.certificates.specs.Encoding.{sideBytes, pathBytes}
@@ -14,9 +15,10 @@ use Rattle.connectivity.specs.Lists.{In}
 use Rattle.connectivity.specs.Path.{Link, vertices}
 use Rattle.connectivity.proofs.Lists.{in-left, in-right, in-append}
 use Rattle.connectivity.proofs.Paths.{builtVertices}
-use Rattle.construction.specs.Sets.{capacity, stop}
-use Rattle.construction.specs.Certificate.{lengthOn, lengthened}
+use Rattle.construction.specs.Sets.{stop}
+use Rattle.construction.specs.Certificate.{lengthOn, lengthened, vertexBytes}
 use Rattle.construction.proofs.Basics.{flatten}
+use Rattle.vertexset.specs.Set.{capacity}
 
 abbrev pub pathNumbers : List Link → List ℕ
 pathNumbers [] = []
@@ -91,6 +93,14 @@ pub bytes-once : (l : List ℕ) → ((w : ℕ) → In w l → w < 128) → lengt
 unfolding listBytes
 bytes-once [] low = refl
 bytes-once (v ∷ l) low = omega (arith, bytes-once l (λ w h. low w (inr h)), ap length (one-byte v (low v (inl refl))), length-append (numberBytes v) (listBytes numberBytes l))
+
+-- a list of vertices
+pub bytes-vertices : (l : List ℕ) → ((w : ℕ) → In w l → w < capacity) → length (listBytes numberBytes l) ≤ vertexBytes * length l
+bytes-vertices l low = go (leb capacity 128) refl
+  where
+    go : (b : Bool) → leb capacity 128 ≡ b → length (listBytes numberBytes l) ≤ cond b 1 2 * length l
+    go true e = let once = bytes-once l (λ w h. let c : capacity ≤ 128 = leb-true _ _ e in omega (arith, low w h)) in omega arith
+    go false e = bytes-twice l
 
 -- every place of a list whose numbers are below a bound
 pub places-low : (b : ℕ) → 0 < b → (l : List ℕ) → ((w : ℕ) → In w l → w < b) → (i : ℕ) → getD l i 0 < b

@@ -6,11 +6,11 @@ use native.Mathlib.Omega.{arith}
 use lib.Dec.{lit<}
 use lib.ListN.{length, length-set, length-replicate}
 use Rattle.record.specs.Read.{folded}
-use Rattle.vertexset.specs.Set.{withBit}
+use Rattle.vertexset.specs.Set.{withBit, capacity}
 use Rattle.vertexset.proofs.Laws.{Words}
 use Rattle.connectivity.specs.Graph.{edgeCount}
 use Rattle.graph.specs.Plan.{Plan, Allowed, maxEdges}
-use Rattle.graph.specs.Rows.{rowWords, rowBits, joined, bareRows, graphOf}
+use Rattle.graph.specs.Rows.{rowWords, joined, bareRows, graphOf}
 use Rattle.graph.proofs.Adjacency.{network-simple, network-count}
 use Rattle.construction.proofs.Basics.{Drawn, drawnGraph}
 use Rattle.construction.proofs.SetLaws.{zeros-at}
@@ -24,7 +24,7 @@ joined-size (d ∷ es) rows e = joined-size es (joined rows d) (simp length-set 
 joined-words : (es : List (ℕ × ℕ)) (rows : List ℕ) → Words rows → Words (folded joined rows es)
 unfolding folded
 joined-words [] rows h = h
-joined-words (d ∷ es) rows h = joined-words es (joined rows d) (words-bit (withBit rows (d .0 * rowBits + d .1)) (d .1 * rowBits + d .0) (words-bit rows (d .0 * rowBits + d .1) h))
+joined-words (d ∷ es) rows h = joined-words es (joined rows d) (words-bit (withBit rows (d .0 * capacity + d .1)) (d .1 * capacity + d .0) (words-bit rows (d .0 * capacity + d .1) h))
 
 module _ (p : Plan) (a : Allowed p) where
   pub plan-drawn : Drawn (graphOf p .rows) (graphOf p .n)
@@ -32,7 +32,7 @@ module _ (p : Plan) (a : Allowed p) where
   plan-drawn = record {
     words = joined-words (p .edges) bareRows (λ i. rw (zeros-at rowWords i) (lit< tt));
     size = joined-size (p .edges) bareRows (length-replicate {A = ℕ} rowWords 0);
-    low = a .most;
+    low = omega (arith, a .most);
     simple = network-simple p a;
   }
 

@@ -16,13 +16,14 @@ use Rattle.connectivity.proofs.Lists.{in-left, in-right, rev}
 use Rattle.connectivity.proofs.Order.{in-insert, insert-in}
 use Rattle.connectivity.proofs.Paths.{builtVertices, branchVertices}
 use Rattle.connectivity.proofs.Recorded.{Recorded, fill, reroute, reroute-branch, reroute-longer}
-use Rattle.construction.specs.Sets.{capacity, stop, withAll, reversed}
+use Rattle.construction.specs.Sets.{stop, withAll, reversed}
 use Rattle.construction.specs.Ears.{pathSpace}
 use Rattle.construction.specs.Steps.{State, state, segment, turned, putIn}
 use Rattle.construction.proofs.Basics.{drawnGraph, Drawn, On, flatten}
 use Rattle.construction.proofs.SetLaws.{sized-all, on-low, all-on, on-all, rev-same}
 use Rattle.construction.proofs.Flat.{newestFirst, Placed, placed, ends-kept, ConsecutiveAt, consecutive-at, flat-place, rev-rev}
 use Rattle.construction.proofs.StepLaws.{Going, Stepped, goes, room}
+use Rattle.vertexset.specs.Set.{capacity}
 
 -- the new vertices of y, .., x in the direction of the path
 two-less : (k r : ℕ) → k ≡ r + 1 → suc k - 1 - 1 ≡ r

@@ -8,7 +8,7 @@ use native.Mathlib.Omega.{arith}
 use lib.Dec.{ltb}
 use lib.ListN.{length, getD}
 use borrow.Author.Tests.{ltb-true, ltb-false, lt-ltb, le-ltb}
-use Rattle.vertexset.specs.Set.{has}
+use Rattle.vertexset.specs.Set.{has, capacity}
 use Rattle.vertexset.specs.declared.VertexSet.{VertexSet}
 use Rattle.connectivity.specs.Lists.{In, NoDup}
 use Rattle.connectivity.specs.Graph.{Graph, Adj}
@@ -16,7 +16,6 @@ use Rattle.connectivity.specs.Path.{Along, link, vertices}
 use Rattle.connectivity.proofs.Lists.{rev, in-append, in-single, nodup-snoc, bool?, at-most}
 use Rattle.connectivity.proofs.Paths.{along-join}
 use Rattle.connectivity.proofs.Search.{Found, Closed}
-use Rattle.construction.specs.Sets.{capacity}
 use Rattle.construction.specs.Search.{Reach, explore, back, route, reached}
 use Rattle.construction.proofs.Basics.{drawnGraph, Drawn, On, Asked, Explored}
 use Rattle.construction.proofs.Places.{place-in, in-place, same-place, rev-end}

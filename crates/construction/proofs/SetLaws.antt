@@ -14,17 +14,16 @@ use lib.ListN.{length, getD, set, replicate}
 use lib.Seq.{set-out}
 use borrow.Author.Tests.{eqb-true, eq-eqb, ltb-true, lt-ltb, le-leb}
 use Rattle.record.specs.Read.{folded}
-use Rattle.vertexset.specs.Set.{has, with, wordCount, emptySet, inserted, zip, less, next, count, tally}
+use Rattle.vertexset.specs.Set.{has, with, wordCount, emptySet, inserted, zip, less, next, count, tally, capacity}
 use Rattle.vertexset.specs.declared.VertexSet.{VertexSet}
 use Rattle.vertexset.proofs.Laws as laws
 use Rattle.vertexset.proofs.Laws.{Words}
-use Rattle.graph.specs.Plan.{maxVertices}
 use Rattle.graph.specs.Rows.{rowOf, wordsFrom, adjacentIn}
 use Rattle.graph.proofs.Rows.{row-adjacent, length-words}
 use Rattle.connectivity.specs.Lists.{In, NoDup, Ascending, select, upFrom, below}
 use Rattle.connectivity.specs.Path.{Link, vertices}
 use Rattle.connectivity.proofs.Lists.{clash, bool?, or-true, either, below?, in-below, below-in, select-in, in-select, select-nodup, rev}
-use Rattle.construction.specs.Sets.{capacity, stop, plus, minus, common, single, pair, withAll, setOf, membersFrom, members, least, empty, added, reversed, lastOf}
+use Rattle.construction.specs.Sets.{stop, plus, minus, common, single, pair, withAll, setOf, membersFrom, members, least, empty, added, reversed, lastOf}
 use Rattle.construction.specs.Certificate.{fullSet}
 use Rattle.construction.proofs.Basics.{Sized, On, flatten}
 
@@ -85,7 +84,7 @@ pub sized-pair : (u v : ℕ) → Sized (pair u v)
 sized-pair u v = sized-inserted (single u) v (sized-single u)
 
 pub sized-row : (rows : List ℕ) (u : ℕ) → Words rows → Sized (rowOf rows u)
-sized-row rows u h = go (ltb u maxVertices)
+sized-row rows u h = go (ltb u capacity)
   where
     go : (b : Bool) → Sized (cond b (record { words = wordsFrom rows wordCount (u * wordCount) }) emptySet)
     go true = record { size = length-words rows wordCount (u * wordCount); words = row-words rows h wordCount (u * wordCount) }

@@ -9,7 +9,7 @@ use native.Mathlib.Decide.{ℕ-discrete}
 use lib.Dec.{ltb}
 use lib.ListN.{length}
 use borrow.Author.Tests.{ltb-false}
-use Rattle.vertexset.specs.Set.{count, inserted}
+use Rattle.vertexset.specs.Set.{count, inserted, capacity}
 use Rattle.vertexset.specs.declared.VertexSet.{VertexSet}
 use Rattle.graph.specs.Rows.{rowOf, bareRows}
 use Rattle.connectivity.specs.Lists.{In}
@@ -21,7 +21,7 @@ use Rattle.connectivity.proofs.Paths.{end-or-inner, end-s, end-t, ends-differ}
 use Rattle.connectivity.proofs.Edges.{path-low, edge-high, edge-differ}
 use Rattle.connectivity.proofs.Start.{Subdivision, theFour}
 use Rattle.connectivity.proofs.FirstLinks.{reversed}
-use Rattle.construction.specs.Sets.{capacity, minus, single, pair, setOf, members, least, lastOf}
+use Rattle.construction.specs.Sets.{minus, single, pair, setOf, members, least, lastOf}
 use Rattle.construction.specs.Search.{explore, route, reached}
 use Rattle.construction.specs.Ears.{cut, isCut, Found, found, failed, answered, cycle}
 use Rattle.construction.specs.Start.{Begun, broken, marked, sorted, fourOf, startOn, across, thirdPath, crossed, thirded, around, begin}

@@ -7,7 +7,7 @@ use Prim.Native.Nat.{ℕ, suc, _+_, _*_, _≤_, _<_}
 use native.Mathlib.Omega.{arith}
 use lib.ListN.{length, take, drop, length-append, take-append-drop}
 use lib.Seq.{take-append-le}
-use Rattle.vertexset.specs.Set.{inserted}
+use Rattle.vertexset.specs.Set.{inserted, capacity}
 use Rattle.vertexset.specs.declared.VertexSet.{VertexSet}
 use Rattle.graph.specs.Plan.{maxEdges}
 use Rattle.connectivity.specs.Lists.{In}
@@ -20,7 +20,7 @@ use Rattle.connectivity.proofs.Edges.{path-low}
 use Rattle.connectivity.proofs.Recorded.{Recorded, Extends}
 use Rattle.connectivity.proofs.Progress.{built-low}
 use Rattle.connectivity.proofs.Completeness.{recorded-most}
-use Rattle.construction.specs.Sets.{capacity, stop, withAll, lastOf}
+use Rattle.construction.specs.Sets.{stop, withAll, lastOf}
 use Rattle.construction.specs.Ears.{isCut, pathSpace, addPath}
 use Rattle.construction.specs.Steps.{State, extended}
 use Rattle.construction.proofs.Basics.{drawnGraph, Drawn, Sized, On, IsCut, flatten}

@@ -11,17 +11,15 @@ use lib.Pow.{pow-lt}
 use lib.Bits.{or-lt}
 use lib.ListN.{length, length-set, length-replicate}
 use borrow.Author.Tests.{eqb-true, eq-eqb, ltb-true, ltb-false, lt-ltb}
-use Rattle.vertexset.specs.Set.{has, withBit}
+use Rattle.vertexset.specs.Set.{has, withBit, capacity}
 use Rattle.vertexset.proofs.Laws.{Words, has-empty}
-use Rattle.graph.specs.Plan.{maxVertices}
-use Rattle.graph.specs.Rows.{adjacentIn, rowBits, rowWords, bareRows, joined, joinedRows}
+use Rattle.graph.specs.Rows.{adjacentIn, rowWords, bareRows, joined, joinedRows}
 use Rattle.graph.proofs.Adjacency.{has-both, same-bit}
 use Rattle.connectivity.specs.Lists.{In}
 use Rattle.connectivity.specs.Graph.{isPair}
 use Rattle.connectivity.specs.Path.{Link, edge, edgesAlong, usedEdges}
 use Rattle.connectivity.proofs.Lists.{clash, or-true, true-or, and-true, in-append, in-left, in-right, in-single}
 use Rattle.connectivity.proofs.Paths.{SamePair, edge-same, edge-comm}
-use Rattle.construction.specs.Sets.{capacity}
 use Rattle.construction.specs.Start.{marked}
 use Rattle.construction.proofs.Basics.{Drawn, flatten}
 use Rattle.construction.proofs.SetLaws.{set-words, zeros-at}
@@ -38,50 +36,50 @@ pub words-bit : (ws : List ℕ) (v : ℕ) → Words ws → Words (withBit ws v)
 words-bit ws v h = set-words ws (v / 64) _ h (or-lt 64 _ _ (h (v / 64)) (pow-lt (mod-lt v (lit< tt))))
 
 two-size : (rows : List ℕ) (a b : ℕ) → length rows ≡ rowWords → length (joinedRows rows a b) ≡ rowWords
-two-size rows a b l = go (ltb a maxVertices && ltb b maxVertices)
+two-size rows a b l = go (ltb a capacity && ltb b capacity)
   where
     go : (t : Bool) → length (cond t (joined rows (a, b)) rows) ≡ rowWords
     go true = simp length-set l
     go false = l
 
 two-words : (rows : List ℕ) (a b : ℕ) → Words rows → Words (joinedRows rows a b)
-two-words rows a b h = go (ltb a maxVertices && ltb b maxVertices)
+two-words rows a b h = go (ltb a capacity && ltb b capacity)
   where
     go : (t : Bool) → Words (cond t (joined rows (a, b)) rows)
-    go true = words-bit (withBit rows (a * rowBits + b)) (b * rowBits + a) (words-bit rows (a * rowBits + b) h)
+    go true = words-bit (withBit rows (a * capacity + b)) (b * capacity + a) (words-bit rows (a * capacity + b) h)
     go false = h
 
 -- the bit of x and y
 abbrev bitOf : ℕ → ℕ → ℕ
-bitOf x y = x * rowBits + y
+bitOf x y = x * capacity + y
 
 is-pair : (a b x y : ℕ) → isPair (a, b) x y ≡ true → (x ≡ a) × (y ≡ b)
 is-pair a b x y h = let r = and-true (eqb a x) (eqb b y) h in (sym (eqb-true a x (r .0)), sym (eqb-true b y (r .1)))
 
-has-two : (rows : List ℕ) (a b x y : ℕ) → length rows ≡ rowWords → a < maxVertices → b < maxVertices → y < maxVertices
+has-two : (rows : List ℕ) (a b x y : ℕ) → length rows ≡ rowWords → a < capacity → b < capacity → y < capacity
     → has (joined rows (a, b)) (bitOf x y) ≡ has rows (bitOf x y) || (isPair (a, b) x y || isPair (b, a) x y)
 has-two rows a b x y l ha hb hy =
     has-both rows (a, b) l ha hb (bitOf x y)
-    ∙ ap (λ (t : Bool). has rows (bitOf x y) || (t || eqb (bitOf x y) (b * rowBits + a))) (same-bit x y (a, b) hy hb)
+    ∙ ap (λ (t : Bool). has rows (bitOf x y) || (t || eqb (bitOf x y) (b * capacity + a))) (same-bit x y (a, b) hy hb)
     ∙ ap (λ (t : Bool). has rows (bitOf x y) || (isPair (a, b) x y || t)) (same-bit x y (b, a) hy ha)
 
-module _ (rows : List ℕ) (a b x y : ℕ) (l : length rows ≡ rowWords) (hx : x < maxVertices) (hy : y < maxVertices) where
+module _ (rows : List ℕ) (a b x y : ℕ) (l : length rows ≡ rowWords) (hx : x < capacity) (hy : y < capacity) where
   two-in : has (joinedRows rows a b) (bitOf x y) ≡ true → (has rows (bitOf x y) ≡ true) ⊎ SamePair x y a b
-  two-in = go (ltb a maxVertices) refl (ltb b maxVertices) refl
+  two-in = go (ltb a capacity) refl (ltb b capacity) refl
     where
-      go : (p : Bool) → ltb a maxVertices ≡ p → (q : Bool) → ltb b maxVertices ≡ q → has (cond (p && q) (joined rows (a, b)) rows) (bitOf x y) ≡ true → (has rows (bitOf x y) ≡ true) ⊎ SamePair x y a b
+      go : (p : Bool) → ltb a capacity ≡ p → (q : Bool) → ltb b capacity ≡ q → has (cond (p && q) (joined rows (a, b)) rows) (bitOf x y) ≡ true → (has rows (bitOf x y) ≡ true) ⊎ SamePair x y a b
       go true p true q h = ⊎-map (λ k. k) (λ k. ⊎-elim (λ j. inl (is-pair a b x y j)) (λ j. inr (is-pair b a x y j)) (or-true (isPair (a, b) x y) (isPair (b, a) x y) k))
           (or-true (has rows (bitOf x y)) (isPair (a, b) x y || isPair (b, a) x y) (sym (has-two rows a b x y l (ltb-true _ _ p) (ltb-true _ _ q) hy) ∙ h))
       go true p false q h = inl h
       go false p q e h = inl h
 
   in-two : (has rows (bitOf x y) ≡ true) ⊎ SamePair x y a b → has (joinedRows rows a b) (bitOf x y) ≡ true
-  in-two = go (ltb a maxVertices) refl (ltb b maxVertices) refl
+  in-two = go (ltb a capacity) refl (ltb b capacity) refl
     where
       or-left : (s t : Bool) → s ≡ true → s || t ≡ true
       or-left s t e = rw e
 
-      out : (a < maxVertices → b < maxVertices → ⊥) → SamePair x y a b → ⊥
+      out : (a < capacity → b < capacity → ⊥) → SamePair x y a b → ⊥
       out f (inl e) = f (omega arith) (omega arith)
       out f (inr e) = f (omega arith) (omega arith)
 
@@ -89,10 +87,10 @@ module _ (rows : List ℕ) (a b x y : ℕ) (l : length rows ≡ rowWords) (hx : 
       same (inl e) = or-left (isPair (a, b) x y) (isPair (b, a) x y) (rw (eq-eqb a x (sym (e .0)), eq-eqb b y (sym (e .1))))
       same (inr e) = true-or (isPair (a, b) x y) (isPair (b, a) x y) (rw (eq-eqb b x (sym (e .0)), eq-eqb a y (sym (e .1))))
 
-      go : (p : Bool) → ltb a maxVertices ≡ p → (q : Bool) → ltb b maxVertices ≡ q → (has rows (bitOf x y) ≡ true) ⊎ SamePair x y a b → has (cond (p && q) (joined rows (a, b)) rows) (bitOf x y) ≡ true
+      go : (p : Bool) → ltb a capacity ≡ p → (q : Bool) → ltb b capacity ≡ q → (has rows (bitOf x y) ≡ true) ⊎ SamePair x y a b → has (cond (p && q) (joined rows (a, b)) rows) (bitOf x y) ≡ true
       go true p true q h = has-two rows a b x y l (ltb-true _ _ p) (ltb-true _ _ q) hy ∙ ⊎-elim (or-left (has rows (bitOf x y)) (isPair (a, b) x y || isPair (b, a) x y)) (λ k. true-or (has rows (bitOf x y)) (isPair (a, b) x y || isPair (b, a) x y) (same k)) h
-      go true p false q h = ⊎-elim (λ k. k) (λ k. absurd (out (λ i j. omega (arith, ltb-false b maxVertices q)) k)) h
-      go false p q e h = ⊎-elim (λ k. k) (λ k. absurd (out (λ i j. omega (arith, ltb-false a maxVertices p)) k)) h
+      go true p false q h = ⊎-elim (λ k. k) (λ k. absurd (out (λ i j. omega (arith, ltb-false b capacity q)) k)) h
+      go false p q e h = ⊎-elim (λ k. k) (λ k. absurd (out (λ i j. omega (arith, ltb-false a capacity p)) k)) h
 
 -- ---- all neighbours of a list
 
@@ -108,7 +106,7 @@ marked-words rows [] h = h
 marked-words rows (a ∷ []) h = h
 marked-words rows (a ∷ (b ∷ f)) h = marked-words (joinedRows rows a b) (b ∷ f) (two-words rows a b h)
 
-marked-in : (rows flat : List ℕ) (x y : ℕ) → length rows ≡ rowWords → x < maxVertices → y < maxVertices → has (marked rows flat) (bitOf x y) ≡ true
+marked-in : (rows flat : List ℕ) (x y : ℕ) → length rows ≡ rowWords → x < capacity → y < capacity → has (marked rows flat) (bitOf x y) ≡ true
     → (has rows (bitOf x y) ≡ true) ⊎ (Beside flat x y ⊎ Beside flat y x)
 unfolding marked
 marked-in rows [] x y l hx hy h = inl h
@@ -117,7 +115,7 @@ marked-in rows (a ∷ (b ∷ f)) x y l hx hy h =
     ⊎-elim (λ k. ⊎-map (λ j. j) (λ (j : SamePair x y a b). ⊎-map inl (λ e. inl (e .1, e .0)) j) (two-in rows a b x y l hx hy k)) (λ k. inr (⊎-map inr inr k))
     (marked-in (joinedRows rows a b) (b ∷ f) x y (two-size rows a b l) hx hy h)
 
-in-marked : (rows flat : List ℕ) (x y : ℕ) → length rows ≡ rowWords → x < maxVertices → y < maxVertices → (has rows (bitOf x y) ≡ true) ⊎ (Beside flat x y ⊎ Beside flat y x)
+in-marked : (rows flat : List ℕ) (x y : ℕ) → length rows ≡ rowWords → x < capacity → y < capacity → (has rows (bitOf x y) ≡ true) ⊎ (Beside flat x y ⊎ Beside flat y x)
     → has (marked rows flat) (bitOf x y) ≡ true
 unfolding marked
 in-marked rows [] x y l hx hy (inl h) = h
@@ -141,14 +139,14 @@ in-marked rows (a ∷ (b ∷ f)) x y l hx hy h = in-marked (joinedRows rows a b)
 -- THE TABLE OF A LIST: u and v are vertices and neighbours in it, in one of the two orders.
 pub marked-law : (flat : List ℕ) (u v : ℕ) → adjacentIn (marked bareRows flat) u v ≡ true → (u < capacity) × (v < capacity) × (Beside flat u v ⊎ Beside flat v u)
 marked-law flat u v h =
-    let a = and-true (ltb u maxVertices) (ltb v maxVertices && has (marked bareRows flat) (bitOf u v)) h in
-    let b = and-true (ltb v maxVertices) (has (marked bareRows flat) (bitOf u v)) (a .1) in
-    let hu = ltb-true u maxVertices (a .0) in
-    let hv = ltb-true v maxVertices (b .0) in
+    let a = and-true (ltb u capacity) (ltb v capacity && has (marked bareRows flat) (bitOf u v)) h in
+    let b = and-true (ltb v capacity) (has (marked bareRows flat) (bitOf u v)) (a .1) in
+    let hu = ltb-true u capacity (a .0) in
+    let hv = ltb-true v capacity (b .0) in
     (hu, hv, ⊎-elim (λ k. absurd (clash k (has-empty rowWords (bitOf u v)))) (λ k. k) (marked-in bareRows flat u v (length-replicate {A = ℕ} rowWords 0) hu hv (b .1)))
 
 pub law-marked : (flat : List ℕ) (u v : ℕ) → u < capacity → v < capacity → Beside flat u v ⊎ Beside flat v u → adjacentIn (marked bareRows flat) u v ≡ true
-law-marked flat u v hu hv h = rw (lt-ltb u maxVertices hu, lt-ltb v maxVertices hv) (in-marked bareRows flat u v (length-replicate {A = ℕ} rowWords 0) hu hv (inr h))
+law-marked flat u v hu hv h = rw (lt-ltb u capacity hu, lt-ltb v capacity hv) (in-marked bareRows flat u v (length-replicate {A = ℕ} rowWords 0) hu hv (inr h))
 
 -- ---- the table of paths: no edge has a stop as its end, so nothing is joined from one path to the next
 

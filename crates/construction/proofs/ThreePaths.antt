@@ -1,5 +1,5 @@
 -- From the three paths of a start, which are a closed path through vertex 0, a third path and a path across, to its six links.
-use Prim.Native.Nat.{ℕ, _≤_, _<_}
+use Prim.Native.Nat.{ℕ, _+_, _≤_, _<_}
 use mathlib.Core.Path.{_≡_, refl, sym, ap, subst, _∙_}
 use mathlib.Core.Logic.{inl, inr, ⊎-elim, _≢_}
 use mathlib.Core.List.{List, [], _∷_, _++_, append-assoc}
@@ -16,7 +16,7 @@ use Rattle.connectivity.proofs.Edges.{path-low, edge-high}
 use Rattle.connectivity.proofs.EdgeUse.{edges-cut}
 use Rattle.connectivity.proofs.Start.{StartPaths}
 use Rattle.connectivity.proofs.FirstLinks.{reversed, sixBetween, six-paths, three-nodup, two-arcs}
-use Rattle.construction.specs.Sets.{capacity}
+use Rattle.vertexset.specs.Set.{capacity}
 use Rattle.construction.specs.Start.{threePaths}
 use Rattle.construction.proofs.Basics.{drawnGraph, Drawn, Sized, On}
 use Rattle.construction.proofs.Flat.{rev-rev}
@@ -95,7 +95,7 @@ swap-in M x y z l (inr (inr (inr h))) = inr (inr (inr h))
 nodup-behind : (x q r e : List ℕ) → NoDup (x ++ (q ++ (r ++ e))) → NoDup (x ++ (r ++ (q ++ e)))
 nodup-behind x q r e nd = nodup-under x (q ++ (r ++ e)) (r ++ (q ++ e)) nd (nodup-swap q r e (nodup-right x (q ++ (r ++ e)) nd)) (λ w h. in-swap w r q e h)
 
-wrapped-short : (a : ℕ) (l : List ℕ) (c : ℕ) → length l ≤ capacity → length (a ∷ (rev l ++ (c ∷ []))) ≤ 130
+wrapped-short : (a : ℕ) (l : List ℕ) (c : ℕ) → length l ≤ capacity → length (a ∷ (rev l ++ (c ∷ []))) ≤ capacity + 2
 wrapped-short a l c h = omega (arith, length-append (rev l) (c ∷ []), length-rev l)
 
 -- THREE PATHS: a cycle through 0, given by the path P without 0; a third path, over Q; the path R across.

@@ -10,13 +10,13 @@ use native.Mathlib.Decide.{ℕ-discrete}
 use lib.Dec.{ltb}
 use lib.ListN.{length, getD, replicate, length-append, length-replicate, getD-replicate, List·getD-append}
 use borrow.Author.Tests.{ltb-true, ltb-false}
-use Rattle.vertexset.specs.Set.{has}
+use Rattle.vertexset.specs.Set.{has, capacity}
 use Rattle.vertexset.specs.declared.VertexSet.{VertexSet}
 use Rattle.graph.specs.Rows.{adjacentIn, rowOf}
 use Rattle.connectivity.specs.Lists.{In, NoDup}
 use Rattle.connectivity.proofs.Lists.{in-append, in-left, in-right, nodup-append, at-most, below?, true?}
 use Rattle.connectivity.proofs.Edges.{edge-high}
-use Rattle.construction.specs.Sets.{capacity, plus, minus, common, members, least, added}
+use Rattle.construction.specs.Sets.{plus, minus, common, members, least, added}
 use Rattle.construction.specs.Search.{Reach, reach, visit, explore}
 use Rattle.construction.proofs.Basics.{drawnGraph, Drawn, Sized, On, Asked}
 use Rattle.construction.proofs.Places.{place-in, in-place, same-place, place-past}

@@ -1,16 +1,16 @@
 -- THE CERTIFICATE OF A GRAPH, as the numbers of its record.
-use Prim.Native.Nat.{ℕ, zero, suc, _+_, _-_}
+use Prim.Native.Nat.{ℕ, zero, suc, _+_, _-_, _*_}
 use mathlib.Core.Bool.{cond}
 use mathlib.Core.List.{List, [], _∷_, _++_}
-use lib.Dec.{ltb, eqb}
+use lib.Dec.{ltb, leb, eqb}
 use lib.ListN.{length, getD}
 use Rattle.record.specs.Number.{numberBytes, listBytes}
-use Rattle.vertexset.specs.Set.{emptySet, count}
+use Rattle.vertexset.specs.Set.{capacity, emptySet, count}
 use Rattle.vertexset.specs.declared.VertexSet.{VertexSet}
 use Rattle.connectivity.specs.Lists.{below}
 use Rattle.construction.specs.Sets.{stop, minus, single, members, setOf, empty}
 use Rattle.construction.specs.Search.{Reach, explore}
-use Rattle.construction.specs.Ears.{Cut, cut, noCut, isCut, Eared, ears}
+use Rattle.construction.specs.Ears.{Cut, cut, noCut, isCut, pathSpace, Eared, ears}
 use Rattle.construction.specs.Start.{Begun, begin}
 use Rattle.construction.specs.Steps.{State, build, finish}
 
@@ -72,6 +72,14 @@ fullSet n = setOf (below n)
 -- THE NUMBERS OF THE CERTIFICATE of the graph with n vertices and these rows, and its bytes
 unfoldable pub certificateNumbers : List ℕ → ℕ → List ℕ
 certificateNumbers rows n = treeCertificate rows n (fullSet n) (explore rows (single 0) emptySet emptySet)
+
+-- a vertex takes one byte where all are below 128, else two
+abbrev pub vertexBytes : ℕ
+vertexBytes = cond (leb capacity 128) 1 2
+
+-- no certificate is longer (document 01: 1,536)
+abbrev pub certificateRoom : ℕ
+certificateRoom = vertexBytes * pathSpace
 
 abbrev pub certificateRecord : List ℕ → ℕ → List ℕ
 certificateRecord rows n = listBytes numberBytes (certificateNumbers rows n)

@@ -1,12 +1,13 @@
 -- A way out of a set of vertices and back; a cycle through vertex 0; ears.
-use Prim.Native.Nat.{ℕ, zero, suc, _+_}
+use Prim.Native.Nat.{ℕ, zero, suc, _+_, _*_}
 use mathlib.Core.Bool.{Bool, cond, not}
 use mathlib.Core.List.{List, [], _∷_, _++_}
 use lib.Dec.{ltb}
-use Rattle.vertexset.specs.Set.{emptySet, count}
+use Rattle.vertexset.specs.Set.{emptySet, count, capacity}
 use Rattle.vertexset.specs.declared.VertexSet.{VertexSet}
+use Rattle.graph.specs.Plan.{maxEdges}
 use Rattle.graph.specs.Rows.{rowOf}
-use Rattle.construction.specs.Sets.{capacity, stop, minus, common, single, withAll, members, least, empty, added}
+use Rattle.construction.specs.Sets.{stop, minus, common, single, withAll, members, least, empty, added}
 use Rattle.construction.specs.Search.{Reach, explore, isFound, route, reached}
 
 -- Removed vertices, and a side that no edge leaves but to them. Without a side nothing is cut.
@@ -63,7 +64,7 @@ cycle rows =
 
 -- paths one after the other, a stop before each
 abbrev pub pathSpace : ℕ
-pathSpace = 1536
+pathSpace = 3 * maxEdges
 
 abbrev pub addPath : List ℕ → List ℕ → List ℕ
 addPath flat path = added pathSpace flat (stop ∷ path)

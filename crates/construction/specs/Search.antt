@@ -6,7 +6,8 @@ use lib.Dec.{ltb}
 use lib.ListN.{length, getD, replicate}
 use Rattle.vertexset.specs.declared.VertexSet.{VertexSet}
 use Rattle.graph.specs.Rows.{rowOf}
-use Rattle.construction.specs.Sets.{capacity, plus, minus, common, members, least, added}
+use Rattle.construction.specs.Sets.{plus, minus, common, members, least, added}
+use Rattle.vertexset.specs.Set.{capacity}
 
 -- What a search leaves: the vertices reached, the seeds first, and for each the place of the vertex it was reached from; the
 -- vertices not to be reached any more (reached or removed); the goal that was met, or capacity, and the place of the vertex next to it.

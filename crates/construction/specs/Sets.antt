@@ -1,19 +1,16 @@
 -- Vertex sets and lists of vertices, as the certifier (document 01: the maker) uses them.
-use Prim.Native.Nat.{ℕ, _+_, _*_, _-_}
+use Prim.Native.Nat.{ℕ, _+_, _-_}
 use mathlib.Core.Bool.{Bool, cond, not}
 use mathlib.Core.List.{List, [], _∷_, _++_}
 use lib.Dec.{leb}
 use lib.ListN.{length}
 use lib.Bits.{bitOr}
 use Rattle.record.specs.Read.{folded}
-use Rattle.vertexset.specs.Set.{has, wordCount, emptySet, inserted, wordwise, less, none, next}
+use Rattle.vertexset.specs.Set.{has, capacity, emptySet, inserted, wordwise, less, none, next}
 use Rattle.vertexset.specs.declared.VertexSet.{VertexSet}
 use Rattle.connectivity.specs.Lists.{select, upFrom}
 
--- the vertices below it can be members of a set; as a number in a list it is no vertex, and stands before each path
-abbrev pub capacity : ℕ
-capacity = 64 * wordCount
-
+-- as a number in a list it is no vertex, and stands before each path
 abbrev pub stop : ℕ
 stop = capacity
 

@@ -9,10 +9,9 @@ use borrow.Author.Tests.{le-leb, lt-leb}
 use Rattle.record.specs.Read.{Read.Got, Read.Refused, Reader, _needs⟨_⟩_, _▸_, many, counted, check, folded}
 use Rattle.record.specs.Number.{number}
 use Rattle.record.proofs.Loops.{needs-got, leads-bad, leads-got}
-use Rattle.vertexset.specs.Set.{has, emptySet, inserted, wordCount}
+use Rattle.vertexset.specs.Set.{has, emptySet, inserted, wordCount, capacity}
 use Rattle.vertexset.specs.declared.VertexSet.{VertexSet}
 use Rattle.vertexset.proofs.Laws.{empty-has, inserted-has, inserted-length}
-use Rattle.graph.specs.Plan.{maxVertices}
 use Rattle.connectivity.specs.Lists.{member}
 use Rattle.connectivity.specs.Graph.{Graph}
 use Rattle.connectivity.specs.Path.{Link}
@@ -40,7 +39,7 @@ module _ (n c : ℕ) (s : List ℕ) (at : ℕ) {d next : ℕ} (e : vertex n s at
   pub higher-not : d ≤ c → (vertex n needs⟨ 20 ⟩ leb (suc c)) s at ≡ Refused 20 at
   higher-not h = let k : d < suc c = omega arith in needs-got (vertex n) 20 (leb (suc c)) e ∙ rw (lt-leb (suc c) d k)
 
-module _ (g : Graph) (s : List ℕ) (at : ℕ) (low : g .n ≤ maxVertices) where
+module _ (g : Graph) (s : List ℕ) (at : ℕ) (low : g .n ≤ capacity) where
   -- what is left to read after each item
   abbrev sideAfter : ℕ → ℕ → List Link → Unit {0} → Reader (List ℕ)
   sideAfter c d all u = side g (with (with nobody c) d)

@@ -11,10 +11,9 @@ use borrow.Author.Tests.{eqb-true}
 use Rattle.record.specs.Read.{Read, Read.Got, Read.Refused, onRead, _needs⟨_⟩_, _▸_, many, check, folded}
 use Rattle.record.specs.Loop.{runs, finish}
 use Rattle.record.proofs.Loops.{needs-true, many-same, many-kept}
-use Rattle.vertexset.specs.Set.{has, emptySet, inserted, wordCount}
+use Rattle.vertexset.specs.Set.{has, emptySet, inserted, wordCount, capacity}
 use Rattle.vertexset.specs.declared.VertexSet.{VertexSet}
 use Rattle.vertexset.proofs.Laws.{empty-has, has-union, wordwise-length}
-use Rattle.graph.specs.Plan.{maxVertices}
 use Rattle.graph.proofs.Bools.{and-true}
 use Rattle.connectivity.specs.Lists.{member}
 use Rattle.connectivity.specs.Graph.{Graph}
@@ -78,7 +77,7 @@ member-taken (b ∷ B) P v h =
     go i false false true f k = absurd (false≢true (k refl))
     go i false false false f k = refl
 
-same-taken : (g : Graph) → g .n ≤ maxVertices → (B : List ℕ) (e : Ears) → Same B e → (s : List ℕ) (at : ℕ) (P : Link) (next : ℕ) → ear g B s at ≡ Got P next → Same (earTaken B P) (earsWith e P)
+same-taken : (g : Graph) → g .n ≤ capacity → (B : List ℕ) (e : Ears) → Same B e → (s : List ℕ) (at : ℕ) (P : Link) (next : ℕ) → ear g B s at ≡ Got P next → Same (earTaken B P) (earsWith e P)
 same-taken g h B e r s at P next f =
     let p = ear-got g B s at f in
     let set : VertexSet = folded inserted emptySet (vertices P) in
@@ -94,7 +93,7 @@ same-taken g h B e r s at P next f =
     }
 
 -- the loop gives what the ears give
-pub ears-begin : (g : Graph) → g .n ≤ maxVertices → (k : ℕ) (s : List ℕ) (from : ℕ) → runs (earLoop g) k noEars noEars s from ≡ endRead (allEars g k s from)
+pub ears-begin : (g : Graph) → g .n ≤ capacity → (k : ℕ) (s : List ℕ) (from : ℕ) → runs (earLoop g) k noEars noEars s from ≡ endRead (allEars g k s from)
 unfolding runs _▸_ check endRead
 ears-begin g h k s from =
     rw (← many-same Same (ear g) earTaken (earLoop g .item) earsWith (same-ear g) (same-taken g h) k [] noEars same-none s from)

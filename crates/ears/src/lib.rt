@@ -1,8 +1,7 @@
 // Certificates of kind 2: two removed vertices, ears that take in every vertex, and a side.
 ghost use mathlib.Core.Path.{_≡_};
 ghost use Prim.Native.Nat.{_≤_};
-ghost use Rattle.vertexset.specs.Set.{has};
-ghost use Rattle.graph.specs.Plan.{maxVertices};
+ghost use Rattle.vertexset.specs.Set.{has, capacity};
 ghost use Rattle.graph.specs.Rows.{adjacentIn};
 ghost use Rattle.certificates.specs.Tests.{allBelow};
 ghost use Rattle.certificates.specs.Records.{body};
@@ -75,7 +74,7 @@ impl Ears {
 
 // One ear beside those before it.
 fn read_ear(s: &[u8], rows: &[u64; Graph::ROW_WORDS], n: u16, ears: Ears, at: usize) -> EarRead
-    requires { ⌜ n ≤ maxVertices ⌝ }
+    requires { ⌜ n ≤ capacity ⌝ }
     ensures { λ r. ⌜ r ≡ earRead ears (earBeside (rowsGraph n (now (rows .entry))) (ears .begun) (has (ears .set .words)) (now (s .entry)) at) ⌝ }
 {
     let set = ears.set;
@@ -103,7 +102,7 @@ fn all_below(set: VertexSet, n: u16) -> bool
 
 // As many ears as are counted, and then every vertex is in.
 fn read_all_ears(s: &[u8], rows: &[u64; Graph::ROW_WORDS], n: u16, count: u16, from: usize) -> Item
-    requires { ⌜ n ≤ maxVertices ⌝ }
+    requires { ⌜ n ≤ capacity ⌝ }
     ensures { λ r. ⌜ r ≡ endRead (allEars (rowsGraph n (now (rows .entry))) count (now (s .entry)) from) ⌝ }
 {
     let mut ears = Ears::none();
@@ -130,7 +129,7 @@ fn read_all_ears(s: &[u8], rows: &[u64; Graph::ROW_WORDS], n: u16, count: u16, f
 pub fn read_ears(s: &[u8], rows: &[u64; Graph::ROW_WORDS], n: u16, at: usize) -> Item
     ensures { λ r. ⌜ r ≡ endRead (limited n (body (rowsGraph n (now (rows .entry))) 2) (now (s .entry)) at) ⌝ }
 {
-    if Graph::MAX_VERTICES < n {
+    if VertexSet::CAPACITY < n {
         return Item::Fault(9, at);
     }
     let x = paths::read_vertex(s, n, at);

@@ -9,13 +9,13 @@ use lib.ListN.{length, length-set, length-replicate}
 use lib.Dec.{ltb, eqb}
 use borrow.Author.Tests.{ltb-true, ltb-false, eqb-true, eqb-false, eq-eqb, ne-eqb}
 use Rattle.record.specs.Read.{Each, folded}
-use Rattle.vertexset.specs.Set.{has, withBit}
+use Rattle.vertexset.specs.Set.{has, withBit, capacity}
 use Rattle.vertexset.proofs.Laws.{has-insert, has-empty}
 use Rattle.connectivity.specs.Lists.{In}
 use Rattle.connectivity.specs.Graph.{isPair, listed, fromEdges, EdgeList, AscendingEdges, Simple, edgeCount}
 use Rattle.connectivity.proofs.Edges.{listed-in, ascending-nodup, fromEdges-simple, fromEdges-count}
-use Rattle.graph.specs.Plan.{Plan, Allowed, EdgeAllowed, maxVertices}
-use Rattle.graph.specs.Rows.{rowBits, rowWords, adjacentIn, joined, bareRows, graphOf, network}
+use Rattle.graph.specs.Plan.{Plan, Allowed, EdgeAllowed}
+use Rattle.graph.specs.Rows.{rowWords, adjacentIn, joined, bareRows, graphOf, network}
 use Rattle.graph.proofs.Bools.{proper-true, follows-true}
 
 -- every edge has its lower vertex first, and its higher below n
@@ -37,20 +37,20 @@ each-ascending n before (d ∷ (e ∷ es)) h = (follows-true d e (h .1 .0 .1), e
 -- the bits that the edges set
 unfoldable pub bits : List (ℕ × ℕ) → ℕ → Bool
 bits [] x = false
-bits (e ∷ es) x = eqb x (e .0 * rowBits + e .1) || (eqb x (e .1 * rowBits + e .0) || bits es x)
+bits (e ∷ es) x = eqb x (e .0 * capacity + e .1) || (eqb x (e .1 * capacity + e .0) || bits es x)
 
 -- an edge more sets two bits
-pub has-both : (rows : List ℕ) (e : ℕ × ℕ) → length rows ≡ rowWords → e .0 < maxVertices → e .1 < maxVertices → (x : ℕ)
-    → has (joined rows e) x ≡ has rows x || (eqb x (e .0 * rowBits + e .1) || eqb x (e .1 * rowBits + e .0))
+pub has-both : (rows : List ℕ) (e : ℕ × ℕ) → length rows ≡ rowWords → e .0 < capacity → e .1 < capacity → (x : ℕ)
+    → has (joined rows e) x ≡ has rows x || (eqb x (e .0 * capacity + e .1) || eqb x (e .1 * capacity + e .0))
 has-both rows e l h k x =
-    let i : e .0 * rowBits + e .1 < 64 * length rows = omega arith in
-    let m : length (withBit rows (e .0 * rowBits + e .1)) ≡ rowWords = simp length-set l in
-    let j : e .1 * rowBits + e .0 < 64 * length (withBit rows (e .0 * rowBits + e .1)) = omega arith in
-    ap (λ (f : ℕ → Bool). f x) (has-insert (withBit rows (e .0 * rowBits + e .1)) (e .1 * rowBits + e .0) j)
-    ∙ ap (λ (f : ℕ → Bool). f x || eqb x (e .1 * rowBits + e .0)) (has-insert rows (e .0 * rowBits + e .1) i)
+    let i : e .0 * capacity + e .1 < 64 * length rows = omega arith in
+    let m : length (withBit rows (e .0 * capacity + e .1)) ≡ rowWords = simp length-set l in
+    let j : e .1 * capacity + e .0 < 64 * length (withBit rows (e .0 * capacity + e .1)) = omega arith in
+    ap (λ (f : ℕ → Bool). f x) (has-insert (withBit rows (e .0 * capacity + e .1)) (e .1 * capacity + e .0) j)
+    ∙ ap (λ (f : ℕ → Bool). f x || eqb x (e .1 * capacity + e .0)) (has-insert rows (e .0 * capacity + e .1) i)
     ∙ or-assoc (has rows x) _ _
 
-pub has-joined : (es : List (ℕ × ℕ)) (rows : List ℕ) → Proper maxVertices es → length rows ≡ rowWords → (x : ℕ) → has (folded joined rows es) x ≡ has rows x || bits es x
+pub has-joined : (es : List (ℕ × ℕ)) (rows : List ℕ) → Proper capacity es → length rows ≡ rowWords → (x : ℕ) → has (folded joined rows es) x ≡ has rows x || bits es x
 unfolding folded bits
 has-joined [] rows h l x = sym (or-false (has rows x))
 has-joined (e ∷ es) rows h l x =
@@ -59,18 +59,18 @@ has-joined (e ∷ es) rows h l x =
     has-joined es (joined rows e) (λ d q. h d (inr q)) m x
     ∙ ap (λ (b : Bool). b || bits es x) (has-both rows e l (omega arith) (omega arith) x)
     ∙ or-assoc (has rows x) _ (bits es x)
-    ∙ ap (λ (b : Bool). has rows x || b) (or-assoc (eqb x (e .0 * rowBits + e .1)) (eqb x (e .1 * rowBits + e .0)) (bits es x))
+    ∙ ap (λ (b : Bool). has rows x || b) (or-assoc (eqb x (e .0 * capacity + e .1)) (eqb x (e .1 * capacity + e .0)) (bits es x))
 
 -- a bit says which pair it stands for
-pub same-bit : (u v : ℕ) (e : ℕ × ℕ) → v < rowBits → e .1 < rowBits → eqb (u * rowBits + v) (e .0 * rowBits + e .1) ≡ isPair e u v
+pub same-bit : (u v : ℕ) (e : ℕ × ℕ) → v < capacity → e .1 < capacity → eqb (u * capacity + v) (e .0 * capacity + e .1) ≡ isPair e u v
 same-bit u v e h k = go (eqb (e .0) u) refl (eqb (e .1) v) refl
   where
-    go : (p : Bool) → eqb (e .0) u ≡ p → (q : Bool) → eqb (e .1) v ≡ q → eqb (u * rowBits + v) (e .0 * rowBits + e .1) ≡ p && q
-    go true a true b = let c : e .0 ≡ u = eqb-true _ _ a in let d : e .1 ≡ v = eqb-true _ _ b in eq-eqb (u * rowBits + v) (e .0 * rowBits + e .1) (omega arith)
-    go true a false b = ne-eqb (u * rowBits + v) (e .0 * rowBits + e .1) (λ z. let w : e .1 ≡ v = omega arith in eqb-false _ _ b w)
-    go false a q b = ne-eqb (u * rowBits + v) (e .0 * rowBits + e .1) (λ z. let w : e .0 ≡ u = omega arith in eqb-false _ _ a w)
+    go : (p : Bool) → eqb (e .0) u ≡ p → (q : Bool) → eqb (e .1) v ≡ q → eqb (u * capacity + v) (e .0 * capacity + e .1) ≡ p && q
+    go true a true b = let c : e .0 ≡ u = eqb-true _ _ a in let d : e .1 ≡ v = eqb-true _ _ b in eq-eqb (u * capacity + v) (e .0 * capacity + e .1) (omega arith)
+    go true a false b = ne-eqb (u * capacity + v) (e .0 * capacity + e .1) (λ z. let w : e .1 ≡ v = omega arith in eqb-false _ _ b w)
+    go false a q b = ne-eqb (u * capacity + v) (e .0 * capacity + e .1) (λ z. let w : e .0 ≡ u = omega arith in eqb-false _ _ a w)
 
-bits-listed : (es : List (ℕ × ℕ)) → Proper maxVertices es → (u v : ℕ) → u < maxVertices → v < maxVertices → bits es (u * rowBits + v) ≡ listed es u v
+bits-listed : (es : List (ℕ × ℕ)) → Proper capacity es → (u v : ℕ) → u < capacity → v < capacity → bits es (u * capacity + v) ≡ listed es u v
 unfolding bits
 bits-listed [] h u v i j = refl
 bits-listed (e ∷ es) h u v i j =
@@ -83,7 +83,7 @@ bits-listed (e ∷ es) h u v i j =
     )
 
 -- no edge is listed past the limits
-listed-past : (es : List (ℕ × ℕ)) → Proper maxVertices es → (u v : ℕ) → (maxVertices ≤ u) ⊎ (maxVertices ≤ v) → listed es u v ≡ false
+listed-past : (es : List (ℕ × ℕ)) → Proper capacity es → (u v : ℕ) → (capacity ≤ u) ⊎ (capacity ≤ v) → listed es u v ≡ false
 listed-past es h u v past = go (listed es u v) refl
   where
     out : In {A = ℕ × ℕ} (u, v) es ⊎ In {A = ℕ × ℕ} (v, u) es → ⊥
@@ -95,7 +95,7 @@ listed-past es h u v past = go (listed es u v) refl
     go false e = refl
 
 module _ (p : Plan) (a : Allowed p) where
-  edges-low : Proper maxVertices (p .edges)
+  edges-low : Proper capacity (p .edges)
   edges-low e i = let b = each-proper (p .n) (0, 0) (p .edges) (a .each) e i in (b .0, omega arith)
 
   pub edge-list : EdgeList (p .n) (p .edges)
@@ -111,10 +111,10 @@ module _ (p : Plan) (a : Allowed p) where
 
   -- THE ADJACENCY TEST OF A PLAN'S GRAPH IS MEMBERSHIP IN ITS LIST OF EDGES.
   pub adjacent-listed : (u v : ℕ) → adjacentIn (graphOf p .rows) u v ≡ listed (p .edges) u v
-  adjacent-listed u v = go (ltb u maxVertices) refl (ltb v maxVertices) refl
+  adjacent-listed u v = go (ltb u capacity) refl (ltb v capacity) refl
     where
-      go : (b : Bool) → ltb u maxVertices ≡ b → (c : Bool) → ltb v maxVertices ≡ c → b && (c && has (graphOf p .rows) (u * rowBits + v)) ≡ listed (p .edges) u v
-      go true i true j = has-edges (u * rowBits + v) ∙ bits-listed (p .edges) edges-low u v (ltb-true _ _ i) (ltb-true _ _ j)
+      go : (b : Bool) → ltb u capacity ≡ b → (c : Bool) → ltb v capacity ≡ c → b && (c && has (graphOf p .rows) (u * capacity + v)) ≡ listed (p .edges) u v
+      go true i true j = has-edges (u * capacity + v) ∙ bits-listed (p .edges) edges-low u v (ltb-true _ _ i) (ltb-true _ _ j)
       go true i false j = sym (listed-past (p .edges) edges-low u v (inr (ltb-false _ _ j)))
       go false i c j = sym (listed-past (p .edges) edges-low u v (inl (ltb-false _ _ i)))
 

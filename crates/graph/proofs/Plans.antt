@@ -14,6 +14,7 @@ use Rattle.graph.specs.Rows.{graphOf}
 use Rattle.graph.specs.Code.{planRead, wholePlan, leadingPlan}
 use Rattle.graph.specs.declared.PlanRead.{PlanRead}
 use Rattle.graph.proofs.Bools.{within-true, true-within, proper-true}
+use Rattle.record.specs.Number.{numberLimit}
 
 pub plan-law : Reads plan planBytes Allowed
 unfolding plan edge
@@ -27,8 +28,8 @@ plan-law = into-law
     let b = within-true 0 maxEdges (length (p .1)) (o .1 .0 .1) in
     record { least = a .0; most = a .1; few = b .1; each = each-same (λ before e. e) (λ before e k. (k .0 .1, k .1)) (0, 0) (p .1) (o .1 .1) })
     (λ p o.
-    let n : p .n < 16384 = omega arith in
-    let m : length (p .edges) < 16384 = omega arith in
+    let n : p .n < numberLimit = omega arith in
+    let m : length (p .edges) < numberLimit = omega arith in
     let z : 0 ≤ length (p .edges) = omega arith in (
       (p .n, p .edges),
       refl,
@@ -38,8 +39,8 @@ plan-law = into-law
           (m, true-within 0 maxEdges (length (p .edges)) z (o .few)),
           each-same (λ before e. e) (λ before e k.
               let t = proper-true (p .n) e (k .0) in
-              let lower : e .0 < 16384 = omega arith in
-              let higher : e .1 < 16384 = omega arith in
+              let lower : e .0 < numberLimit = omega arith in
+              let higher : e .1 < numberLimit = omega arith in
               (((lower, higher), k .0), k .1)) (0, 0) (p .edges) (o .each),
         ),
       ),

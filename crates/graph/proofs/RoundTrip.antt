@@ -13,19 +13,20 @@ use Rattle.record.specs.Read.{Bytes, Each}
 use Rattle.record.specs.declared.Answer.the-variants.{Accepted}
 use Rattle.record.specs.declared.Written.the-variants.{Next}
 use Rattle.graph.specs.Plan.{Plan, Allowed, EdgeAllowed, minVertices, maxVertices, maxEdges, within, proper, follows, planBytes}
-use Rattle.graph.specs.Rows.{rowBits, graphOf, pairAt, edgeAt, edgesFrom, edgesOf, planOf}
+use Rattle.graph.specs.Rows.{graphOf, pairAt, edgeAt, edgesFrom, edgesOf, planOf}
 use Rattle.graph.specs.Code.{wholePlan, leadingPlan, canWritePlan, writtenPlan, withPlan}
 use Rattle.graph.specs.declared.Graph.{Graph}
 use Rattle.graph.proofs.Bools.{and-true, within-true, true-within, proper-true, follows-true}
 use Rattle.graph.proofs.Plans.{accepted, leads}
 use Rattle.graph.proofs.Adjacency.{Proper, each-proper, bits, has-edges}
+use Rattle.vertexset.specs.Set.{capacity}
 
 -- the place of an edge in the rows
 abbrev place : ℕ × ℕ → ℕ
-place e = e .0 * rowBits + e .1
+place e = e .0 * capacity + e .1
 
-place-pair : (e : ℕ × ℕ) → e .1 < rowBits → pairAt (place e) ≡ e
-place-pair e h = let a : place e / rowBits ≡ e .0 = omega arith in let b : place e % rowBits ≡ e .1 = omega arith in rw (a, b)
+place-pair : (e : ℕ × ℕ) → e .1 < capacity → pairAt (place e) ≡ e
+place-pair e h = let a : place e / capacity ≡ e .0 = omega arith in let b : place e % capacity ≡ e .1 = omega arith in rw (a, b)
 
 -- one of the edges stands at the place k
 unfoldable stands : List (ℕ × ℕ) → ℕ → Bool
@@ -33,19 +34,19 @@ stands [] k = false
 stands (e ∷ es) k = eqb k (place e) || stands es k
 
 -- of the bits that the edges set, those with the lower vertex first
-bits-stand : (n : ℕ) → n ≤ rowBits → (es : List (ℕ × ℕ)) → Proper n es → (k : ℕ) → proper n (pairAt k) && bits es k ≡ stands es k
+bits-stand : (n : ℕ) → n ≤ capacity → (es : List (ℕ × ℕ)) → Proper n es → (k : ℕ) → proper n (pairAt k) && bits es k ≡ stands es k
 unfolding bits stands
 bits-stand n h es p k = go (proper n (pairAt k)) refl es p
   where
     other : (e : ℕ × ℕ) → e .0 < e .1 → e .1 < n → proper n (pairAt k) ≡ false → eqb k (place e) ≡ false
     other e a b f = ne-eqb k (place e) (λ z.
-        let i : e .1 < rowBits = omega arith in
+        let i : e .1 < capacity = omega arith in
         let y : proper n e ≡ true = rw (lt-ltb _ _ a, lt-ltb _ _ b) in
         let t : proper n (pairAt k) ≡ true = ap (λ (x : ℕ). proper n (pairAt x)) z ∙ ap (proper n) (place-pair e i) ∙ y in
         let x : _≡_ {A = ℕ} 0 1 = cc in omega arith)
 
-    swapped : (e : ℕ × ℕ) → e .0 < e .1 → e .1 < n → proper n (pairAt k) ≡ true → eqb k (e .1 * rowBits + e .0) ≡ false
-    swapped e a b t = let c = proper-true n (pairAt k) t in ne-eqb k (e .1 * rowBits + e .0) (λ z. omega arith)
+    swapped : (e : ℕ × ℕ) → e .0 < e .1 → e .1 < n → proper n (pairAt k) ≡ true → eqb k (e .1 * capacity + e .0) ≡ false
+    swapped e a b t = let c = proper-true n (pairAt k) t in ne-eqb k (e .1 * capacity + e .0) (λ z. omega arith)
 
     go : (b : Bool) → proper n (pairAt k) ≡ b → (es : List (ℕ × ℕ)) → Proper n es → b && bits es k ≡ stands es k
     go true t [] p = refl
@@ -56,15 +57,15 @@ bits-stand n h es p k = go (proper n (pairAt k)) refl es p
 -- the edges stand at ascending places from k on and below end
 unfoldable Placed : ℕ → ℕ → List (ℕ × ℕ) → Type 0
 Placed end k [] = Unit {0}
-Placed end k (e ∷ es) = (k ≤ place e) × (place e < end) × (e .1 < rowBits) × (Placed end (place e + 1) es)
+Placed end k (e ∷ es) = (k ≤ place e) × (place e < end) × (e .1 < capacity) × (Placed end (place e + 1) es)
 
-each-placed : (n : ℕ) → n ≤ rowBits → (before : ℕ × ℕ) → before .1 < rowBits → (k : ℕ) → k ≤ place before + 1 → (es : List (ℕ × ℕ)) → Each (EdgeAllowed n) (λ before e. e) before es → Placed (n * rowBits) k es
+each-placed : (n : ℕ) → n ≤ capacity → (before : ℕ × ℕ) → before .1 < capacity → (k : ℕ) → k ≤ place before + 1 → (es : List (ℕ × ℕ)) → Each (EdgeAllowed n) (λ before e. e) before es → Placed (n * capacity) k es
 unfolding Each Placed
 each-placed n h before b k l [] o = tt
 each-placed n h before b k l (e ∷ es) o =
     let p = proper-true n e (o .0 .0) in
-    let i : e .1 < rowBits = omega arith in
-    let j : place e < n * rowBits = omega arith in
+    let i : e .1 < capacity = omega arith in
+    let j : place e < n * capacity = omega arith in
     let f : place before < place e = ⊎-elim (λ z. let y : place before < place e = omega arith in y) (λ z. let y : place before < place e = omega arith in y) (follows-true before e (o .0 .1)) in
     (omega arith, j, i, each-placed n h e i (place e + 1) (omega arith) es (o .1))
 
@@ -103,9 +104,9 @@ same-edges rows n (suc j) k (e ∷ es) p f = same-step rows n j k e es p f (same
 module _ (p : Plan) (a : Allowed p) where
   edges-again : edgesOf (graphOf p .rows) (p .n) ≡ p .edges
   edges-again =
-      let h : p .n ≤ rowBits = a .most in
-      let z : 0 + p .n * rowBits ≡ p .n * rowBits = omega arith in
-      same-edges (graphOf p .rows) (p .n) (p .n * rowBits) 0 (p .edges)
+      let h : p .n ≤ capacity = omega (arith, a .most) in
+      let z : 0 + p .n * capacity ≡ p .n * capacity = omega arith in
+      same-edges (graphOf p .rows) (p .n) (p .n * capacity) 0 (p .edges)
       (rw z (each-placed (p .n) h (0, 0) (omega arith) 0 (omega arith) (p .edges) (a .each)))
       (λ i l. ap (λ (b : Bool). proper (p .n) (pairAt i) && b) (has-edges p a i) ∙ bits-stand (p .n) h (p .edges) (each-proper (p .n) (0, 0) (p .edges) (a .each)) i)
 
@@ -115,18 +116,18 @@ module _ (p : Plan) (a : Allowed p) where
   planned = ap (λ (es : List (ℕ × ℕ)). record { n = p .n; edges = es }) edges-again
 
 -- The plan of any graph within the limits is allowed.
-ordered : (before : ℕ × ℕ) (k : ℕ) → before .1 < rowBits → place before < k → follows before (pairAt k) ≡ true
-ordered before k h l = go (ltb (before .0) (k / rowBits)) refl
+ordered : (before : ℕ × ℕ) (k : ℕ) → before .1 < capacity → place before < k → follows before (pairAt k) ≡ true
+ordered before k h l = go (ltb (before .0) (k / capacity)) refl
   where
-    go : (b : Bool) → ltb (before .0) (k / rowBits) ≡ b → b || (eqb (before .0) (k / rowBits) && ltb (before .1) (k % rowBits)) ≡ true
+    go : (b : Bool) → ltb (before .0) (k / capacity) ≡ b → b || (eqb (before .0) (k / capacity) && ltb (before .1) (k % capacity)) ≡ true
     go true t = refl
     go false t =
-        let m : k / rowBits ≤ before .0 = ltb-false _ _ t in
-        let e : before .0 ≡ k / rowBits = omega arith in
-        let r : before .1 < k % rowBits = omega arith in
-        rw (eq-eqb (before .0) (k / rowBits) e, lt-ltb (before .1) (k % rowBits) r)
+        let m : k / capacity ≤ before .0 = ltb-false _ _ t in
+        let e : before .0 ≡ k / capacity = omega arith in
+        let r : before .1 < k % capacity = omega arith in
+        rw (eq-eqb (before .0) (k / capacity) e, lt-ltb (before .1) (k % capacity) r)
 
-each-from : (rows : List ℕ) (n j k : ℕ) (before : ℕ × ℕ) → before .1 < rowBits → place before < k → Each (EdgeAllowed n) (λ before e. e) before (edgesFrom rows n j k)
+each-from : (rows : List ℕ) (n j k : ℕ) (before : ℕ × ℕ) → before .1 < capacity → place before < k → Each (EdgeAllowed n) (λ before e. e) before (edgesFrom rows n j k)
 unfolding edgesFrom Each
 each-from rows n zero k before h l = tt
 each-from rows n (suc j) k before h l =
@@ -141,8 +142,8 @@ each-from rows n (suc j) k before h l =
 each-of : (rows : List ℕ) (n : ℕ) → 0 < n → Each (EdgeAllowed n) (λ before e. e) (0, 0) (edgesOf rows n)
 unfolding edgesFrom
 each-of rows n h =
-    let z : n * rowBits ≡ suc (n * rowBits - 1) = omega arith in
-    rw z (each-from rows n (n * rowBits - 1) 1 (0, 0) (omega arith) (omega arith))
+    let z : n * capacity ≡ suc (n * capacity - 1) = omega arith in
+    rw z (each-from rows n (n * capacity - 1) 1 (0, 0) (omega arith) (omega arith))
 
 pub planned-allowed : (g : Graph) → minVertices ≤ g .n → g .n ≤ maxVertices → length (planOf g .edges) ≤ maxEdges → Allowed (planOf g)
 unfolding planOf

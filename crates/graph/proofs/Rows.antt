@@ -9,15 +9,14 @@ use lib.ListN.{length, getD, set}
 use lib.Seq.{ext-getD, getD-set-same, getD-set-other}
 use borrow.Author.Tests.{ltb-true, ltb-false}
 use native.Mathlib.Omega.{arith}
-use Rattle.vertexset.specs.Set.{wordCount, has, emptySet}
+use Rattle.vertexset.specs.Set.{wordCount, has, emptySet, capacity}
 use Rattle.vertexset.proofs.Laws.{has-past, has-empty}
-use Rattle.graph.specs.Plan.{maxVertices}
-use Rattle.graph.specs.Rows.{rowBits, adjacentIn, wordsFrom, rowOf}
+use Rattle.graph.specs.Rows.{adjacentIn, wordsFrom, rowOf}
 
-pub word-of : (u v : ℕ) → (u * rowBits + v) / 64 ≡ u * wordCount + v / 64
+pub word-of : (u v : ℕ) → (u * capacity + v) / 64 ≡ u * wordCount + v / 64
 word-of u v = omega arith
 
-pub bit-of : (u v : ℕ) → (u * rowBits + v) % 64 ≡ v % 64
+pub bit-of : (u v : ℕ) → (u * capacity + v) % 64 ≡ v % 64
 bit-of u v = omega arith
 
 -- a row as a set, word by word
@@ -46,12 +45,12 @@ copied rows ws i l h = ext-getD 0 ws (wordsFrom rows wordCount i) (l ∙ sym (le
 
 -- THE ROW OF A VERTEX HAS THE VERTICES ADJACENT TO IT.
 pub row-adjacent : (rows : List ℕ) (u v : ℕ) → has (rowOf rows u .words) v ≡ adjacentIn rows u v
-row-adjacent rows u v = go (ltb u maxVertices) (ltb v maxVertices) refl
+row-adjacent rows u v = go (ltb u capacity) (ltb v capacity) refl
   where
-    low : v < maxVertices → has (wordsFrom rows wordCount (u * wordCount)) v ≡ has rows (u * rowBits + v)
+    low : v < capacity → has (wordsFrom rows wordCount (u * wordCount)) v ≡ has rows (u * capacity + v)
     low h = let i : v / 64 < wordCount = omega arith in rw (getD-words rows wordCount (u * wordCount) (v / 64) i, word-of u v, bit-of u v)
 
-    go : (b c : Bool) → ltb v maxVertices ≡ c → has (cond b (record { words = wordsFrom rows wordCount (u * wordCount) }) emptySet .words) v ≡ b && (c && has rows (u * rowBits + v))
+    go : (b c : Bool) → ltb v capacity ≡ c → has (cond b (record { words = wordsFrom rows wordCount (u * wordCount) }) emptySet .words) v ≡ b && (c && has rows (u * capacity + v))
     go true true e = low (ltb-true _ _ e)
-    go true false e = has-past (wordsFrom rows wordCount (u * wordCount)) v (omega (arith, length-words rows wordCount (u * wordCount), ltb-false v maxVertices e))
+    go true false e = has-past (wordsFrom rows wordCount (u * wordCount)) v (omega (arith, length-words rows wordCount (u * wordCount), ltb-false v capacity e))
     go false c e = has-empty wordCount v

@@ -6,21 +6,18 @@ use lib.Dec.{ltb}
 use lib.ListN.{length, getD, replicate}
 use Rattle.record.specs.Read.{folded}
 use Rattle.connectivity.specs.Graph as connectivity
-use Rattle.vertexset.specs.Set.{has, withBit, wordCount, emptySet}
+use Rattle.vertexset.specs.Set.{has, withBit, wordCount, emptySet, capacity}
 use Rattle.vertexset.specs.declared.VertexSet.{VertexSet}
-use Rattle.graph.specs.Plan.{Plan, maxVertices, proper}
+use Rattle.graph.specs.Plan.{Plan, proper}
 use Rattle.graph.specs.declared.Graph.{Graph}
 
--- a row is as long as a vertex set
-abbrev pub rowBits : ℕ
-rowBits = 64 * wordCount
-
+-- a row for each vertex that a set can hold, as long as a set
 abbrev pub rowWords : ℕ
-rowWords = maxVertices * wordCount
+rowWords = capacity * wordCount
 
 -- u and v are adjacent: bit v of row u; no vertex past the rows is adjacent to any
 abbrev pub adjacentIn : List ℕ → ℕ → ℕ → Bool
-adjacentIn rows u v = ltb u maxVertices && (ltb v maxVertices && has rows (u * rowBits + v))
+adjacentIn rows u v = ltb u capacity && (ltb v capacity && has rows (u * capacity + v))
 
 -- the next j words from the place i on
 unfoldable pub wordsFrom : List ℕ → ℕ → ℕ → List ℕ
@@ -29,7 +26,7 @@ wordsFrom rows (suc j) i = getD rows i 0 ∷ wordsFrom rows j (i + 1)
 
 -- the row of u as a vertex set: the vertices adjacent to u; none where u is past the rows
 abbrev pub rowOf : List ℕ → ℕ → VertexSet
-rowOf rows u = cond (ltb u maxVertices) (record { words = wordsFrom rows wordCount (u * wordCount) }) emptySet
+rowOf rows u = cond (ltb u capacity) (record { words = wordsFrom rows wordCount (u * wordCount) }) emptySet
 
 -- no edges
 abbrev pub bareRows : List ℕ
@@ -37,11 +34,11 @@ bareRows = replicate rowWords 0
 
 -- an edge more, in both directions
 abbrev pub joined : List ℕ → ℕ × ℕ → List ℕ
-joined rows e = withBit (withBit rows (e .0 * rowBits + e .1)) (e .1 * rowBits + e .0)
+joined rows e = withBit (withBit rows (e .0 * capacity + e .1)) (e .1 * capacity + e .0)
 
 -- the same for any two numbers: one past the vertices joins nothing
 abbrev pub joinedRows : List ℕ → ℕ → ℕ → List ℕ
-joinedRows rows u v = cond (ltb u maxVertices && ltb v maxVertices) (joined rows (u, v)) rows
+joinedRows rows u v = cond (ltb u capacity && ltb v capacity) (joined rows (u, v)) rows
 
 -- the graph of a plan
 unfoldable pub graphOf : Plan → Graph
@@ -57,7 +54,7 @@ noGraph = record { n = 0; m = 0; rows = bareRows }
 
 -- the two vertices that a place of the rows stands for
 abbrev pub pairAt : ℕ → ℕ × ℕ
-pairAt k = (k / rowBits, k % rowBits)
+pairAt k = (k / capacity, k % capacity)
 
 -- they are adjacent, the lower first
 abbrev pub edgeAt : List ℕ → ℕ → ℕ → Bool
@@ -70,7 +67,7 @@ edgesFrom rows n (suc j) k = cond (edgeAt rows n k) (pairAt k ∷ edgesFrom rows
 
 -- the edges in the rows of n vertices, in the order of a record
 abbrev pub edgesOf : List ℕ → ℕ → List (ℕ × ℕ)
-edgesOf rows n = edgesFrom rows n (n * rowBits) 0
+edgesOf rows n = edgesFrom rows n (n * capacity) 0
 
 -- the plan of a graph
 unfoldable pub planOf : Graph → Plan

@@ -3,11 +3,11 @@ ghost use mathlib.Core.Path.{_≡_};
 ghost use Prim.Native.Nat.{_+_, _*_, _≤_, _<_};
 ghost use lib.ListN.{length};
 ghost use Rattle.record.specs.Loop.{runs};
-ghost use Rattle.vertexset.specs.Set.{withBit};
-ghost use Rattle.record.specs.Number.{numberBytes};
+ghost use Rattle.vertexset.specs.Set.{withBit, capacity};
+ghost use Rattle.record.specs.Number.{numberBytes, numberLimit};
 ghost use Rattle.record.specs.Write.{overwritten};
-ghost use Rattle.graph.specs.Plan.{edge, edgeBytes, maxVertices};
-ghost use Rattle.graph.specs.Rows.{adjacentIn, rowOf, rowBits, rowWords, bareRows, noGraph, joinedRows, pairAt, edgeAt, edgesOf};
+ghost use Rattle.graph.specs.Plan.{edge, edgeBytes};
+ghost use Rattle.graph.specs.Rows.{adjacentIn, rowOf, rowWords, bareRows, noGraph, joinedRows, pairAt, edgeAt, edgesOf};
 ghost use Rattle.graph.specs.Code.{wholePlan, leadingPlan, edgeRead, testedEdge, edgeFault, refusedPlan, edgeLoop, sizeOf, edgesBytes, writtenPlan, withPlan};
 use record::Answer;
 use record::Number;
@@ -45,9 +45,10 @@ impl Graph {
 
     pub const MAX_EDGES: u16 = 512;
 
-    const ROW_BITS: usize = 64 * VertexSet::WORDS;
+    // a row is as long as a vertex set, and there is one for each vertex that a set can hold
+    const ROW_BITS: usize = VertexSet::CAPACITY as usize;
 
-    pub const ROW_WORDS: usize = Graph::MAX_VERTICES as usize * VertexSet::WORDS;
+    pub const ROW_WORDS: usize = Graph::ROW_BITS * VertexSet::WORDS;
 
     pub fn none() -> Self
         ensures { λ r. ⌜ r ≡ noGraph ⌝ }
@@ -64,8 +65,8 @@ impl Graph {
 pub fn adjacent(rows: &[u64; Graph::ROW_WORDS], u: u16, v: u16) -> bool
     ensures { λ r. ⌜ r ≡ adjacentIn (now (rows .entry)) u v ⌝ }
 {
-    if u < Graph::MAX_VERTICES {
-        if v < Graph::MAX_VERTICES {
+    if u < VertexSet::CAPACITY {
+        if v < VertexSet::CAPACITY {
             let i = u as usize * VertexSet::WORDS + (v / 64) as usize;
             let w = rows[i];
             return (w >> (v % 64)) % 2 == 1;
@@ -79,7 +80,7 @@ pub fn row(rows: &[u64; Graph::ROW_WORDS], u: u16) -> VertexSet
     ensures { λ r. ⌜ r ≡ rowOf (now (rows .entry)) u ⌝ }
 {
     let mut set = VertexSet::empty();
-    if Graph::MAX_VERTICES <= u {
+    if VertexSet::CAPACITY <= u {
         return set;
     }
     let first = u as usize * VertexSet::WORDS;
@@ -90,8 +91,8 @@ pub fn row(rows: &[u64; Graph::ROW_WORDS], u: u16) -> VertexSet
 }
 
 fn set_bit(rows: &mut [u64; Graph::ROW_WORDS], u: u16, v: u16)
-    requires { ⌜ (u < maxVertices) × (v < maxVertices) ⌝ }
-    ensures { λ r. ⌜ now (rows .exit) ≡ withBit (now (rows .entry)) (u * rowBits + v) ⌝ }
+    requires { ⌜ (u < capacity) × (v < capacity) ⌝ }
+    ensures { λ r. ⌜ now (rows .exit) ≡ withBit (now (rows .entry)) (u * capacity + v) ⌝ }
 {
     let i = u as usize * VertexSet::WORDS + (v / 64) as usize;
     let w = rows[i];
@@ -102,10 +103,10 @@ fn set_bit(rows: &mut [u64; Graph::ROW_WORDS], u: u16, v: u16)
 pub fn join(rows: &mut [u64; Graph::ROW_WORDS], u: u16, v: u16)
     ensures { λ r. ⌜ now (rows .exit) ≡ joinedRows (now (rows .entry)) u v ⌝ }
 {
-    if Graph::MAX_VERTICES <= u {
+    if VertexSet::CAPACITY <= u {
         return;
     }
-    if Graph::MAX_VERTICES <= v {
+    if VertexSet::CAPACITY <= v {
         return;
     }
     set_bit(rows, u, v);
@@ -168,7 +169,7 @@ fn edge_fault(x: Edge) -> PlanRead
 }
 
 fn read_edges(s: &[u8], n: u16, m: u16, from: usize) -> PlanRead
-    requires { ⌜ n ≤ maxVertices ⌝ }
+    requires { ⌜ n ≤ capacity ⌝ }
     ensures { λ r. ⌜ r ≡ runs (edgeLoop n m) m (0, 0) bareRows (now (s .entry)) from ⌝ }
 {
     let mut rows = [0u64; Graph::ROW_WORDS];
@@ -242,7 +243,7 @@ pub fn read_plan(s: &[u8]) -> PlanRead
 fn number_length(v: u16) -> usize
     ensures { λ r. ⌜ r ≡ length (numberBytes v) ⌝ }
 {
-    if v < 128 {
+    if v < Number::GROUP {
         return 1;
     }
     2
@@ -274,7 +275,7 @@ fn edge_length(k: usize) -> usize
 
 // How many edges the rows hold, and how many bytes they take.
 fn measure(rows: &[u64; Graph::ROW_WORDS], n: u16) -> Size
-    requires { ⌜ n ≤ maxVertices ⌝ }
+    requires { ⌜ n ≤ capacity ⌝ }
     ensures { λ r. ⌜ r ≡ sizeOf (edgesOf (now (rows .entry)) n) ⌝ }
 {
     let end = n as usize * Graph::ROW_BITS;
@@ -294,7 +295,7 @@ fn measure(rows: &[u64; Graph::ROW_WORDS], n: u16) -> Size
 
 // Writes a number that has room, and gives the place after it.
 fn put_number(out: &mut [u8], at: usize, v: u16) -> usize
-    requires { ⌜ (v < 16384) × (at + length (numberBytes v) ≤ length (now out)) ⌝ }
+    requires { ⌜ (v < numberLimit) × (at + length (numberBytes v) ≤ length (now out)) ⌝ }
     ensures { λ r. ⌜ (r ≡ at + length (numberBytes v)) × (now (out .exit) ≡ overwritten (now (out .entry)) at (numberBytes v)) ⌝ }
 {
     let x = record::write_number(out, at, v);
@@ -315,7 +316,7 @@ fn put_edge(out: &mut [u8], at: usize, k: usize) -> usize
 
 // Writes the edges of the rows, which have room, and gives the place after them.
 fn put_edges(rows: &[u64; Graph::ROW_WORDS], n: u16, out: &mut [u8], from: usize) -> usize
-    requires { ⌜ (n ≤ maxVertices) × (from + length (edgesBytes (now rows) n) ≤ length (now out)) ⌝ }
+    requires { ⌜ (n ≤ capacity) × (from + length (edgesBytes (now rows) n) ≤ length (now out)) ⌝ }
     ensures { λ r. ⌜ (r ≡ from + length (edgesBytes (now (rows .entry)) n)) × (now (out .exit) ≡ overwritten (now (out .entry)) from (edgesBytes (now (rows .entry)) n)) ⌝ }
 {
     let end = n as usize * Graph::ROW_BITS;

@@ -12,7 +12,7 @@ use Rattle.record.specs.Number.{number}
 use Rattle.record.specs.Loop.{runs, finish}
 use Rattle.record.proofs.Laws.{on-got, carry}
 use Rattle.record.proofs.Loops.{needs-true, All, many-length, many-all}
-use Rattle.graph.specs.Plan.{maxVertices}
+use Rattle.vertexset.specs.Set.{capacity}
 use Rattle.graph.proofs.Bools.{within-true}
 use Rattle.connectivity.specs.Path.{Link, vertices}
 use Rattle.certificates.specs.Tests.{within}
@@ -47,13 +47,13 @@ module _ (n least : ℕ) (s : List ℕ) (at : ℕ) where
         go zero h = absurd (omega arith)
         go (suc k) h = rw f
 
-    pub path-rest : (adj : ℕ → ℕ → Bool) (old : ℕ → Bool) {first from : ℕ} → n ≤ maxVertices → vertex n s mid ≡ Got first from
+    pub path-rest : (adj : ℕ → ℕ → Bool) (old : ℕ → Bool) {first from : ℕ} → n ≤ capacity → vertex n s mid ≡ Got first from
         → runs (pathLoop adj old n len first) (len - 1) tt (pathBegun first) s from ≡ pathRead adj old (path n least s at)
     unfolding runs pathRead many
     path-rest adj old {first} {from} h f =
         let k : first < n = vertex-low n s mid f in
         let i : len ≤ n = ranged-low least n s at e .1 in
-        let j : first < maxVertices = omega arith in
+        let j : first < capacity = omega arith in
         go (many (λ (u : Unit {0}). vertex n) (λ u v. u) (len - 1) tt s from) refl (omega arith) j ∙ ap (pathRead adj old) (sym (path-many (more len two)))
       where
         paired : List ℕ → ℕ → Read (List ℕ)
@@ -63,13 +63,13 @@ module _ (n least : ℕ) (s : List ℕ) (at : ℕ) where
         more zero h = absurd (omega arith)
         more (suc k) h = let z : suc k - 1 ≡ k = omega arith in rw (f, z)
 
-        go : (x : Read (List ℕ)) → many (λ (u : Unit {0}). vertex n) (λ u v. u) (len - 1) tt s from ≡ x → len ≤ maxVertices → first < maxVertices
+        go : (x : Read (List ℕ)) → many (λ (u : Unit {0}). vertex n) (λ u v. u) (len - 1) tt s from ≡ x → len ≤ capacity → first < capacity
             → finish (pathLoop adj old n len first .step) (pathLoop adj old n len first .ok) noPath (pathBegun first) x
             ≡ pathRead adj old (onRead (onRead x paired) (λ l next. Got (linkOf l) next))
         go (Got [] next) m i j = absurd (omega (arith, many-length (λ (u : Unit {0}). vertex n) (λ u v. u) (len - 1) tt s from m))
         go (Got (v ∷ l) next) m i j =
             let d = many-length (λ (u : Unit {0}). vertex n) (λ u v. u) (len - 1) tt s from m in
-            let q = many-all {Q = λ x. x < maxVertices} (λ (u : Unit {0}). vertex n) (λ u v. u) (λ st s at v next g. let z : v < n = vertex-low n s at g in omega arith) (len - 1) tt s from m in
+            let q = many-all {Q = λ x. x < capacity} (λ (u : Unit {0}). vertex n) (λ u v. u) (λ st s at v next g. let z : v < n = vertex-low n s at g in omega arith) (len - 1) tt s from m in
             path-walked adj old n len first v l next (omega arith) i j q
         go (Refused q p) m i j = refl
 

@@ -6,7 +6,7 @@ use native.Mathlib.Omega.{arith}
 use lib.Dec.{leb}
 use borrow.Author.Tests.{le-leb}
 use Rattle.record.specs.Read.{Read, Read.Got, Read.Refused}
-use Rattle.graph.specs.Plan.{maxVertices}
+use Rattle.vertexset.specs.Set.{capacity}
 use Rattle.connectivity.specs.Path.{Link}
 use Rattle.paths.specs.Items.{itemRead, endRead}
 use Rattle.paths.specs.Paths.{pathRead, pathTold}
@@ -56,5 +56,5 @@ module _ (adj : ℕ → ℕ → Bool) (old : ℕ → Bool) where
       cc
 
 -- within the limit
-pub limited-in : {A : Type 0} (n at : ℕ) (x : Read A) → n ≤ maxVertices → cond (leb n maxVertices) x (Refused 9 at) ≡ x
-limited-in n at x h = rw (le-leb n maxVertices h)
+pub limited-in : {A : Type 0} (n at : ℕ) (x : Read A) → n ≤ capacity → cond (leb n capacity) x (Refused 9 at) ≡ x
+limited-in n at x h = rw (le-leb n capacity h)

@@ -11,10 +11,9 @@ use lib.Seq.{set-append-seam}
 use borrow.Author.Tests.{eq-eqb, ne-eqb}
 use Rattle.record.specs.Read.{folded}
 use Rattle.record.proofs.Loops.{All}
-use Rattle.vertexset.specs.Set.{has, with, emptySet, inserted, wordCount}
+use Rattle.vertexset.specs.Set.{has, with, emptySet, inserted, wordCount, capacity}
 use Rattle.vertexset.specs.declared.VertexSet.{VertexSet}
 use Rattle.vertexset.proofs.Laws.{empty-has, inserted-has, inserted-length}
-use Rattle.graph.specs.Plan.{maxVertices}
 use Rattle.connectivity.specs.Lists.{member}
 use Rattle.connectivity.specs.Path.{Link, vertices}
 use Rattle.certificates.specs.Tests.{along, each, distinct}
@@ -61,9 +60,9 @@ clear-none (x ∷ l) = clear-none l
 
 -- ---- the list in the code's array
 
-listed-more : (done : List ℕ) (v : ℕ) → length done < maxVertices → set (listed done) (length done) v ≡ listed (done ++ (v ∷ []))
+listed-more : (done : List ℕ) (v : ℕ) → length done < capacity → set (listed done) (length done) v ≡ listed (done ++ (v ∷ []))
 listed-more done v h =
-    let k : maxVertices - length done ≡ suc (maxVertices - (length done + 1)) = omega arith in
+    let k : capacity - length done ≡ suc (capacity - (length done + 1)) = omega arith in
     let e : length (done ++ (v ∷ [])) ≡ length done + 1 = length-append done (v ∷ []) in
     rw (k, e, append-assoc, set-append-seam)
 
@@ -74,7 +73,7 @@ module _ (adj : ℕ → ℕ → Bool) (old : ℕ → Bool) (n len first : ℕ) w
   abbrev walked : ℕ → Bool → Bool → VertexSet → List ℕ → Walked
   walked p a w B done = record { scan = record { last = p; along = a; new = w; set = B }; list = listed done; i = length done }
 
-  walk-one : (p : ℕ) (a w : Bool) (B : VertexSet) (done : List ℕ) (v : ℕ) (end : Bool) → length done < maxVertices → eqb (length done + 1) len ≡ end
+  walk-one : (p : ℕ) (a w : Bool) (B : VertexSet) (done : List ℕ) (v : ℕ) (end : Bool) → length done < capacity → eqb (length done + 1) len ≡ end
       → step (walked p a w B done) v ≡ walked v (a && adj p v) (w && not (has (B .words) v) && (end || not (old v))) (inserted B v) (done ++ (v ∷ []))
   walk-one p a w B done v end h e =
       let k : length (done ++ (v ∷ [])) ≡ length done + 1 = length-append done (v ∷ []) in
@@ -108,16 +107,16 @@ module _ (adj : ℕ → ℕ → Bool) (old : ℕ → Bool) (n len first : ℕ) w
       mix true false false true true d e = refl
       mix true false false true false d e = refl
 
-  walk-all : (p : ℕ) (a w : Bool) (B : VertexSet) (done : List ℕ) (v : ℕ) (l : List ℕ) → length (B .words) ≡ wordCount → length done + suc (length l) ≡ len → len ≤ maxVertices
-      → All (λ x. x < maxVertices) (v ∷ l)
+  walk-all : (p : ℕ) (a w : Bool) (B : VertexSet) (done : List ℕ) (v : ℕ) (l : List ℕ) → length (B .words) ≡ wordCount → length done + suc (length l) ≡ len → len ≤ capacity
+      → All (λ x. x < capacity) (v ∷ l)
       → folded step (walked p a w B done) (v ∷ l)
       ≡ walked (tailLink p v l .t) (a && along adj p (tailLink p v l .inner) (tailLink p v l .t)) (w && newOn B p v l) (folded inserted B (v ∷ l)) (done ++ (v ∷ l))
   unfolding folded along All
   walk-all p a w B done v [] lw e h q =
-      let i : length done < maxVertices = omega arith in
+      let i : length done < capacity = omega arith in
       walk-one p a w B done v true i (eq-eqb (length done + 1) len (omega arith)) ∙ ap (λ (b : Bool). walked v (a && adj p v) b (inserted B v) (done ++ (v ∷ []))) (new-last w B p v)
   walk-all p a w B done v (x ∷ l) lw e h q =
-      let i : length done < maxVertices = omega arith in
+      let i : length done < capacity = omega arith in
       let k : v < 64 * wordCount = omega (arith, q .0) in
       let d : length (done ++ (v ∷ [])) + suc (length l) ≡ len = omega (arith, length-append done (v ∷ [])) in
       ap (λ (t : Walked). folded step t (x ∷ l)) (walk-one p a w B done v false i (ne-eqb (length done + 1) len (λ z. omega arith)))
@@ -137,7 +136,7 @@ module _ (adj : ℕ → ℕ → Bool) (old : ℕ → Bool) (n len first : ℕ) w
       ap (λ (b : Bool). b && (distinct m && clear old (tailLink first v l .inner))) e ∙ sym (and-assoc (not (member first m)) (distinct m) _)
 
   -- from the first vertex on, they tell what the path tells
-  pub path-walked : (v : ℕ) (l : List ℕ) (next : ℕ) → suc (suc (length l)) ≡ len → len ≤ maxVertices → first < maxVertices → All (λ x. x < maxVertices) (v ∷ l)
+  pub path-walked : (v : ℕ) (l : List ℕ) (next : ℕ) → suc (suc (length l)) ≡ len → len ≤ capacity → first < capacity → All (λ x. x < capacity) (v ∷ l)
       → pathLoop adj old n len first .ok (folded step (pathBegun first) (v ∷ l)) next ≡ pathTold adj old (tailLink first v l) next
   unfolding folded
   path-walked v l next e h k q =

@@ -5,8 +5,7 @@ use mathlib.Core.Bool.{Bool, true, _&&_, _||_, not}
 use lib.ListN.{set, replicate}
 use lib.Dec.{eqb}
 use Rattle.record.specs.Loop.{Loop}
-use Rattle.vertexset.specs.Set.{has, emptySet, inserted}
-use Rattle.graph.specs.Plan.{maxVertices}
+use Rattle.vertexset.specs.Set.{has, emptySet, inserted, capacity}
 use Rattle.certificates.specs.Records.{vertex}
 use Rattle.paths.specs.Paths.{noPath}
 use Rattle.paths.specs.declared.PathRead.{PathRead}
@@ -49,7 +48,7 @@ pub record Walked : Type 0 where
   pub i : ℕ
 
 abbrev pub pathBegun : ℕ → Walked
-pathBegun first = record { scan = scanFirst first; list = set (replicate maxVertices 0) 0 first; i = 1 }
+pathBegun first = record { scan = scanFirst first; list = set (replicate capacity 0) 0 first; i = 1 }
 
 abbrev pub pathLoop : (ℕ → ℕ → Bool) → (ℕ → Bool) → ℕ → ℕ → ℕ → Loop (Unit {0}) ℕ Walked PathRead
 pathLoop adj old n len first = record {

@@ -4,7 +4,7 @@ use mathlib.Core.List.{List}
 use mathlib.Core.Bool.{cond}
 use lib.Dec.{leb}
 use Rattle.record.specs.Read.{Read, Read.Got, Read.Refused, Reader}
-use Rattle.graph.specs.Plan.{maxVertices}
+use Rattle.vertexset.specs.Set.{capacity}
 use Rattle.graph.specs.Rows.{adjacentIn}
 use Rattle.connectivity.specs.Graph.{Graph}
 use Rattle.paths.specs.declared.Item.{Item}
@@ -26,4 +26,4 @@ rowsGraph n rows = record { n = n; adj = adjacentIn rows }
 
 -- a reader for graphs within the limit; beyond it everything is refused 9 at once
 abbrev pub limited : {A : Type 0} → ℕ → Reader A → Reader A
-limited n R s at = cond (leb n maxVertices) (R s at) (Refused 9 at)
+limited n R s at = cond (leb n capacity) (R s at) (Refused 9 at)

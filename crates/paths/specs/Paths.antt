@@ -4,8 +4,7 @@ use mathlib.Core.List.{List, _++_}
 use mathlib.Core.Bool.{Bool, false}
 use lib.ListN.{length, replicate}
 use Rattle.record.specs.Read.{Read, Read.Got, Read.Refused, folded}
-use Rattle.graph.specs.Plan.{maxVertices}
-use Rattle.vertexset.specs.Set.{emptySet, inserted}
+use Rattle.vertexset.specs.Set.{emptySet, inserted, capacity}
 use Rattle.connectivity.specs.Path.{Link, vertices}
 use Rattle.certificates.specs.Tests.{along, pathNew}
 use Rattle.paths.specs.declared.PathRead.{PathRead}
@@ -13,7 +12,7 @@ use Rattle.paths.specs.declared.Item.the-variants.{Value, Fault}
 
 -- the vertices of a path at the front of the code's array
 abbrev pub listed : List ℕ → List ℕ
-listed l = l ++ replicate (maxVertices - length l) 0
+listed l = l ++ replicate (capacity - length l) 0
 
 -- what a path tells: its ends, whether its neighbours are adjacent, whether it repeats no vertex and has only new ones inside,
 -- its vertices as a list and as a set, and where reading goes on
@@ -37,7 +36,7 @@ noPath r p = record {
   along = false;
   new = false;
   len = 0;
-  list = replicate maxVertices 0;
+  list = replicate capacity 0;
   set = emptySet;
 }
 

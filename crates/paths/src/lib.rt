@@ -4,8 +4,7 @@ ghost use Prim.Native.Nat.{_-_, _≤_};
 ghost use Rattle.record.specs.Number.{number};
 ghost use Rattle.record.specs.Read.{_needs⟨_⟩_};
 ghost use Rattle.record.specs.Loop.{runs};
-ghost use Rattle.vertexset.specs.Set.{has};
-ghost use Rattle.graph.specs.Plan.{maxVertices};
+ghost use Rattle.vertexset.specs.Set.{has, capacity};
 ghost use Rattle.graph.specs.Rows.{adjacentIn};
 ghost use Rattle.certificates.specs.Tests.{within};
 ghost use Rattle.certificates.specs.Records.{vertex, path};
@@ -31,7 +30,7 @@ pub struct PathRead {
     pub along: bool,
     pub new: bool,
     pub len: u16,
-    pub list: [u16; Graph::MAX_VERTICES as usize],
+    pub list: [u16; VertexSet::CAPACITY as usize],
     pub set: VertexSet,
 }
 
@@ -106,7 +105,7 @@ impl Scan {
         self,
         first: u16,
         len: u16,
-        list: [u16; Graph::MAX_VERTICES as usize],
+        list: [u16; VertexSet::CAPACITY as usize],
         next: usize,
     ) -> PathRead
         ensures { λ r. ⌜ r ≡ scanTold self first len list next ⌝ }
@@ -136,7 +135,7 @@ fn no_path(r: u8, p: usize) -> PathRead
         along: false,
         new: false,
         len: 0,
-        list: [0u16; Graph::MAX_VERTICES as usize],
+        list: [0u16; VertexSet::CAPACITY as usize],
         set: VertexSet::empty(),
     }
 }
@@ -160,10 +159,10 @@ fn read_rest(
     first: u16,
     from: usize,
 ) -> PathRead
-    requires { ⌜ len ≤ maxVertices ⌝ }
+    requires { ⌜ len ≤ capacity ⌝ }
     ensures { λ r. ⌜ r ≡ runs (pathLoop (adjacentIn (now (rows .entry))) (has (old .words)) n len first) (len - 1) tt (pathBegun first) (now (s .entry)) from ⌝ }
 {
-    let mut list = [0u16; Graph::MAX_VERTICES as usize];
+    let mut list = [0u16; VertexSet::CAPACITY as usize];
     list[0] = first;
     let mut scan = Scan::first(first);
     let mut at = from;
@@ -193,7 +192,7 @@ fn read_path(
     requires { ⌜ 2 ≤ least ⌝ }
     ensures { λ r. ⌜ r ≡ pathRead (adjacentIn (now (rows .entry))) (has (old .words)) (limited n (path n least) (now (s .entry)) at) ⌝ }
 {
-    if Graph::MAX_VERTICES < n {
+    if VertexSet::CAPACITY < n {
         return no_path(9, at);
     }
     let x = read_ranged(s, least, n, at);

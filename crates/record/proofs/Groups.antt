@@ -9,7 +9,7 @@ use lib.ListN.{length, getD}
 use lib.Dec.{ltb, eqb, lit<}
 use borrow.Author.Tests.{ltb-true, ltb-false, eqb-false, lt-ltb, le-ltb, ne-eqb}
 use Rattle.record.specs.Read.{Read.Got, Bytes}
-use Rattle.record.specs.Number.{onByte, onHigher, group, higherGroups, numberIn, maxGroups, asRead, number, groupsOf, numberBytes}
+use Rattle.record.specs.Number.{onByte, onHigher, group, higherGroups, numberIn, maxGroups, asRead, number, groupsOf, numberBytes, numberLimit}
 use Rattle.record.specs.declared.Number.{Number}
 use Rattle.record.specs.declared.Number.the-variants.{Value, Ended, Padded, Overlong}
 use Rattle.record.proofs.Laws.{Spans, Spans.none, Spans.more, Reads, drop-spans}
@@ -149,7 +149,7 @@ value-read (Ended p) e = let z : _≡_ {A = ℕ} 0 1 = cc in absurd (omega arith
 value-read (Padded p) e = let z : _≡_ {A = ℕ} 0 1 = cc in absurd (omega arith)
 value-read (Overlong p) e = let z : _≡_ {A = ℕ} 0 1 = cc in absurd (omega arith)
 
-pub number-law : Reads number numberBytes (λ v. v < 16384)
+pub number-law : Reads number numberBytes (λ v. v < numberLimit)
 unfolding number
 number-law = record {
   there = λ {s} {at} {next} {v} small e. let r = number-there maxGroups s at v next small (value-read _ e) in (r .bytes, r .fits);

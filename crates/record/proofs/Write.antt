@@ -9,7 +9,7 @@ use lib.ListN.{length, getD, take, drop, length-append, length-drop, take-append
 use lib.Dec.{ltb}
 use lib.Seq.{sets, sets-eq, append-snoc, getD-at, length-take-le, take-at, drop-at, drop-drop}
 use borrow.Author.Tests.{ltb-true, ltb-false, lt-ltb, le-ltb, le-leb, lt-leb}
-use Rattle.record.specs.Number.{groupsOf, numberBytes, numberIn}
+use Rattle.record.specs.Number.{groupsOf, numberBytes, numberIn, numberLimit}
 use Rattle.record.specs.Write.{canWrite, writtenNumber, withNumber, overwritten}
 use Rattle.record.specs.declared.Number.the-variants.{Value}
 use Rattle.record.specs.declared.Written.{Written}
@@ -21,7 +21,7 @@ pub one-byte : (v : ℕ) → v < 128 → numberBytes v ≡ v ∷ []
 unfolding groupsOf
 one-byte v h = rw (lt-ltb v 128 h)
 
-pub two-bytes : (v : ℕ) → 128 ≤ v → v < 16384 → numberBytes v ≡ (v % 128 + 128) ∷ (v / 128) ∷ []
+pub two-bytes : (v : ℕ) → 128 ≤ v → v < numberLimit → numberBytes v ≡ (v % 128 + 128) ∷ (v / 128) ∷ []
 unfolding groupsOf
 two-bytes v h i = let j : v / 128 < 128 = omega arith in rw (le-ltb v 128 h, lt-ltb (v / 128) 128 j)
 
@@ -54,14 +54,14 @@ module _ (buffer : List ℕ) (at v : ℕ) where
   pub no-room : canWrite buffer at v ≡ false → (Nothing ≡ writtenNumber buffer at v) × (buffer ≡ withNumber buffer at v)
   no-room e = (rw e, rw e)
 
-  pub too-large : 16384 ≤ v → canWrite buffer at v ≡ false
-  too-large h = rw (le-ltb v 16384 h)
+  pub too-large : numberLimit ≤ v → canWrite buffer at v ≡ false
+  too-large h = rw (le-ltb v numberLimit h)
 
   pub too-short : length buffer < at + length (numberBytes v) → canWrite buffer at v ≡ false
-  too-short h = rw (lt-leb (at + length (numberBytes v)) (length buffer) h) (and-false (ltb v 16384))
+  too-short h = rw (lt-leb (at + length (numberBytes v)) (length buffer) h) (and-false (ltb v numberLimit))
 
-  pub can-write : v < 16384 → at + length (numberBytes v) ≤ length buffer → canWrite buffer at v ≡ true
-  can-write h r = rw (lt-ltb v 16384 h, le-leb (at + length (numberBytes v)) (length buffer) r)
+  pub can-write : v < numberLimit → at + length (numberBytes v) ≤ length buffer → canWrite buffer at v ≡ true
+  can-write h r = rw (lt-ltb v numberLimit h, le-leb (at + length (numberBytes v)) (length buffer) r)
 
   -- what a caller who has seen to the room gets
   pub put-told : canWrite buffer at v ≡ true → {x : Written} {next : ℕ} {out : List ℕ} → x ≡ writtenNumber buffer at v → x ≡ Next next → out ≡ withNumber buffer at v
@@ -75,10 +75,10 @@ module _ (buffer : List ℕ) (at v : ℕ) where
       let f : Nothing ≡ Next (at + length (numberBytes v)) = sym b ∙ a ∙ rw e in
       let z : _≡_ {A = ℕ} 0 1 = cc in omega arith
 
-  pub room : {bytes : List ℕ} → numberBytes v ≡ bytes → v < 16384 → at + length bytes ≤ length buffer
+  pub room : {bytes : List ℕ} → numberBytes v ≡ bytes → v < numberLimit → at + length bytes ≤ length buffer
       → (Next (at + length bytes) ≡ writtenNumber buffer at v) × (sets buffer at bytes ≡ withNumber buffer at v)
   room {bytes} e h r =
-      (rw (e, lt-ltb v 16384 h, le-leb (at + length bytes) (length buffer) r), rw (e, lt-ltb v 16384 h, le-leb (at + length bytes) (length buffer) r) (sets-eq bytes buffer at r))
+      (rw (e, lt-ltb v numberLimit h, le-leb (at + length bytes) (length buffer) r), rw (e, lt-ltb v numberLimit h, le-leb (at + length bytes) (length buffer) r) (sets-eq bytes buffer at r))
 
 -- bytes that stand between others
 pub spans-between : (p bs q : List ℕ) (at : ℕ) → length p ≡ at → Spans (p ++ bs ++ q) at bs (at + length bs)

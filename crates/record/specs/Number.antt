@@ -1,5 +1,5 @@
 -- A number of a record: groups of seven bits, lowest group first; a byte of 128 or more says that another follows.
-use Prim.Native.Nat.{ℕ, zero, suc, _+_, _-_, _*_, _/_, _%_}
+use Prim.Native.Nat.{ℕ, zero, suc, _+_, _-_, _*_, _/_, _%_, _^_}
 use mathlib.Core.List.{List, [], _∷_, _++_}
 use mathlib.Core.Bool.{cond}
 use lib.ListN.{length, getD}
@@ -36,6 +36,10 @@ numberIn (suc k) s at = onByte s at (λ b. group (higherGroups k at) s at b)
 -- document 01: a number has one or two bytes
 abbrev pub maxGroups : ℕ
 maxGroups = 2
+
+-- so every number is below
+abbrev pub numberLimit : ℕ
+numberLimit = 128 ^ maxGroups
 
 abbrev pub numberAt : List ℕ → ℕ → Number
 numberAt s at = numberIn maxGroups s at

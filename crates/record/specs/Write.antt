@@ -4,7 +4,7 @@ use mathlib.Core.List.{List, _++_}
 use mathlib.Core.Bool.{Bool, cond, _&&_}
 use lib.ListN.{length, take, drop}
 use lib.Dec.{ltb, leb}
-use Rattle.record.specs.Number.{numberBytes}
+use Rattle.record.specs.Number.{numberBytes, numberLimit}
 use Rattle.record.specs.declared.Written.{Written}
 use Rattle.record.specs.declared.Written.the-variants.{Next, Nothing}
 
@@ -18,7 +18,7 @@ hasRoom buffer at bytes = leb (at + length bytes) (length buffer)
 
 -- the number can be written: it has a form of one or two bytes, and there is room for it
 abbrev pub canWrite : List ℕ → ℕ → ℕ → Bool
-canWrite buffer at v = ltb v 16384 && hasRoom buffer at (numberBytes v)
+canWrite buffer at v = ltb v numberLimit && hasRoom buffer at (numberBytes v)
 
 -- the place after the number, or that nothing was written
 abbrev pub writtenNumber : List ℕ → ℕ → ℕ → Written

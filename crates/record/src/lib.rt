@@ -14,6 +14,14 @@ pub enum Number {
     Overlong(usize),
 }
 
+impl Number {
+    // a byte that is not below it says that another follows
+    pub const GROUP: u16 = 128;
+
+    // every number that one or two bytes can hold is below it
+    pub const LIMIT: u16 = Number::GROUP * Number::GROUP;
+}
+
 // An answer: accepted without a grade; a grade; or the record at fault with document 01's number and a place.
 pub enum Answer {
     Accepted,
@@ -81,11 +89,11 @@ pub fn write_number(out: &mut [u8], at: usize, v: u16) -> Written
     if out.len() <= at {
         return Written::Nothing;
     }
-    if v < 128 {
+    if v < Number::GROUP {
         out[at] = v as u8;
         return Written::Next(at + 1);
     }
-    if 16384 <= v {
+    if Number::LIMIT <= v {
         return Written::Nothing;
     }
     let second = at + 1;

@@ -5,7 +5,7 @@ use mathlib.Core.Bool.{Bool}
 use mathlib.Core.Path.{_≡_, refl, sym, ap, _∙_, fun-ext}
 use Rattle.record.specs.Read.{Read, Read.Got, Read.Refused, Reader, onRead, _▸_, into, many, check, folded}
 use Rattle.record.proofs.Loops.{then-same, many-same, many-kept}
-use Rattle.graph.specs.Plan.{maxVertices}
+use Rattle.vertexset.specs.Set.{capacity}
 use Rattle.connectivity.specs.Graph.{Graph}
 use Rattle.connectivity.specs.Path.{Link as Path}
 use Rattle.connectivity.specs.Build.{taken, final}
@@ -24,7 +24,7 @@ final-folded links [] = refl
 final-folded links (P ∷ ps) = final-folded (taken links P) ps
 
 -- the further paths beside the build that the code keeps
-module _ (g : Graph) (h : g .n ≤ maxVertices) (count : ℕ) {b : Build} {links : List Path} (sh : Shows b links) (s : List ℕ) (at : ℕ) where
+module _ (g : Graph) (h : g .n ≤ capacity) (count : ℕ) {b : Build} {links : List Path} (sh : Shows b links) (s : List ℕ) (at : ℕ) where
   same : (links : List Path) (b : Build) → Shows b links → (s : List ℕ) (at : ℕ) → furtherPath g links s at ≡ buildPath g b s at
   same links b sh s at = sym (shows-path g sh s at)
 
@@ -41,7 +41,7 @@ module _ (g : Graph) (h : g .n ≤ maxVertices) (count : ℕ) {b : Build} {links
 abbrev pub linksBody : Graph → ℕ → Reader ((x : (ℕ × (ℕ × (ℕ × ℕ))) × List Path) × (List Path × Unit {0}))
 linksBody g count = start g ▸ λ x. many (furtherPath g) taken count (x .1) ▸ λ further. check 28 (allBelow (g .n) (isBranch (final (x .1) further)))
 
-pub body-same : (g : Graph) → g .n ≤ maxVertices → (count : ℕ) (s : List ℕ) (at : ℕ) → buildBody g count s at ≡ linksBody g count s at
+pub body-same : (g : Graph) → g .n ≤ capacity → (count : ℕ) (s : List ℕ) (at : ℕ) → buildBody g count s at ≡ linksBody g count s at
 unfolding buildBody start
 body-same g h count s at = then-same (buildStart g) (branchFour (g .n) ▸ λ b. startPaths g b) _ _ s at (start-same g h s at)
     (λ x mid e.
@@ -58,5 +58,5 @@ end-into {A} f R s at = go (R s at)
     go (Refused r p) = refl
 
 -- KIND 3
-pub kind-3 : (g : Graph) → g .n ≤ maxVertices → (s : List ℕ) (at : ℕ) → endRead (buildBody g (furtherCount g) s at) ≡ endRead (body g 3 s at)
+pub kind-3 : (g : Graph) → g .n ≤ capacity → (s : List ℕ) (at : ℕ) → endRead (buildBody g (furtherCount g) s at) ≡ endRead (body g 3 s at)
 kind-3 g h s at = ap endRead (body-same g h (furtherCount g) s at) ∙ sym (end-into _ (linksBody g (furtherCount g)) s at)

@@ -12,8 +12,7 @@ use Rattle.record.specs.Read.{Read.Got, Reader, _needs⟨_⟩_, _▹_, into}
 use Rattle.record.specs.Number.{number}
 use Rattle.record.proofs.Laws.{on-got, carry}
 use Rattle.record.proofs.Loops.{needs-true, needs-same, many-all, many-length, All}
-use Rattle.vertexset.specs.Set.{has}
-use Rattle.graph.specs.Plan.{maxVertices}
+use Rattle.vertexset.specs.Set.{has, capacity}
 use Rattle.connectivity.specs.Lists.{In}
 use Rattle.connectivity.specs.Graph.{Graph, Adj}
 use Rattle.connectivity.specs.Path.{vertices, Along, IsPath}
@@ -116,7 +115,7 @@ module _ (g : Graph) (links : List Path) (s : List ℕ) (at : ℕ) {P : Path} {n
       }
 
   -- taken in, the build shows the links then
-  pub shows-read : g .n ≤ maxVertices → {b : Build} → Shows b links → Shows (pathTaken b P) (taken links P)
+  pub shows-read : g .n ≤ capacity → {b : Build} → Shows b links → Shows (pathTaken b P) (taken links P)
   shows-read h sh = shows-taken sh P further-path (λ w i. let z = tests .low w i in omega arith)
 
 -- A FURTHER PATH IS READ ALIKE; 27 is reached only where 25 and 26 hold

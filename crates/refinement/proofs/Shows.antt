@@ -5,8 +5,7 @@ use mathlib.Core.Bool.{true, false}
 use mathlib.Core.Path.{_≡_, refl, sym, _∙_}
 use mathlib.Core.Logic.{_⊎_, inl, inr, ⊎-elim, ⊎-map, _↔_}
 use lib.ListN.{length}
-use Rattle.vertexset.specs.Set.{has, wordCount}
-use Rattle.graph.specs.Plan.{maxVertices}
+use Rattle.vertexset.specs.Set.{has, wordCount, capacity}
 use Rattle.graph.specs.Rows.{adjacentIn, rowWords}
 use Rattle.connectivity.specs.Lists.{In, NoDup}
 use Rattle.connectivity.specs.Graph.{Graph, Adj}
@@ -28,14 +27,14 @@ use Rattle.refinement.proofs.Splits.{Joined, Sole}
 
 -- the graph with every edge: what is known of the links of a build does not depend on the graph
 abbrev pub everyEdge : Graph
-everyEdge = record { n = maxVertices; adj = λ u v. true }
+everyEdge = record { n = capacity; adj = λ u v. true }
 
 -- the words and arrays have their lengths
 pub record Sizes (b : Build) : Type 0 where
   pub branch : length (b .branch .words) ≡ wordCount
   pub built : length (b .built .words) ≡ wordCount
-  pub before : length (b .before) ≡ maxVertices
-  pub after : length (b .after) ≡ maxVertices
+  pub before : length (b .before) ≡ capacity
+  pub after : length (b .after) ≡ capacity
 
 -- the table has a pair exactly where a link has these ends
 pub record Listed (linked : List ℕ) (links : List Path) : Type 0 where
@@ -47,7 +46,7 @@ abbrev pub Runs : List ℕ → List ℕ → List Path → Type 0
 Runs before after links = (L : Path) → In L links → Back before (L .s) (L .inner) × On after (L .inner) (L .t)
 
 abbrev pub AllLow : List ℕ → Type 0
-AllLow l = (w : ℕ) → In w l → w < maxVertices
+AllLow l = (w : ℕ) → In w l → w < capacity
 
 -- THE BUILD SHOWS THE LINKS; `tally` is what the connectivity crate proves of the links after the start and after every step.
 pub record Shows (b : Build) (links : List Path) : Type 0 where
@@ -86,8 +85,8 @@ module _ {b : Build} {links : List Path} (sh : Shows b links) where
   clear : (L : Path) → In L links → (w : ℕ) → In w (L .inner) → has (b .branch .words) w ≡ false
   clear L h w i = false-of (λ e. not-inside w (branch-shown w .0 e) L h i)
 
-  inner-length : (L : Path) → In L links → length (L .inner) ≤ maxVertices
-  inner-length L h = at-most maxVertices (L .inner) (nodup-inner L (path-of L h)) (λ w i. sh .low L h w (inner-in w L i))
+  inner-length : (L : Path) → In L links → length (L .inner) ≤ capacity
+  inner-length L h = at-most capacity (L .inner) (nodup-inner L (path-of L h)) (λ w i. sh .low L h w (inner-in w L i))
 
   -- THE END AT A VERTEX OF THE BUILD
   pub end-branch : (v : ℕ) → IsBranch v links → endOf b v ≡ Branch v
@@ -97,8 +96,8 @@ module _ {b : Build} {links : List Path} (sh : Shows b links) where
   end-inner v L h i =
       let test = has (b .branch .words) in
       let c = clear L h v i in
-      let s : reach (b .before) test maxVertices v ≡ L .s = back-reach (b .before) test (L .s) (L .inner) maxVertices (sh .runs L h .0) (clear L h) (branch-shown (L .s) .1 (L, h, inl refl)) (inner-length L h) v i in
-      let t : reach (b .after) test maxVertices v ≡ L .t = on-reach (b .after) test (L .inner) (L .t) maxVertices (sh .runs L h .1) (clear L h) (branch-shown (L .t) .1 (L, h, inr refl)) (inner-length L h) v i in
+      let s : reach (b .before) test capacity v ≡ L .s = back-reach (b .before) test (L .s) (L .inner) capacity (sh .runs L h .0) (clear L h) (branch-shown (L .s) .1 (L, h, inl refl)) (inner-length L h) v i in
+      let t : reach (b .after) test capacity v ≡ L .t = on-reach (b .after) test (L .inner) (L .t) capacity (sh .runs L h .1) (clear L h) (branch-shown (L .t) .1 (L, h, inr refl)) (inner-length L h) v i in
       rw (c, s, t)
 
   -- a vertex of the build is a branch vertex, or inside a link

@@ -11,11 +11,10 @@ use borrow.Author.Tests.{eqb-true, leb-true}
 use Rattle.record.specs.Read.{Read.Got, Reader, _needs⟨_⟩_, _▸_, many, folded}
 use Rattle.record.proofs.Laws.{on-got, carry}
 use Rattle.record.proofs.Loops.{needs-true, then-same, many-same, many-length}
-use Rattle.vertexset.specs.Set.{has, emptySet, wordCount}
+use Rattle.vertexset.specs.Set.{has, emptySet, wordCount, capacity}
 use Rattle.vertexset.specs.declared.VertexSet.{VertexSet}
 use Rattle.vertexset.proofs.Laws.{has-empty}
-use Rattle.graph.specs.Plan.{maxVertices}
-use Rattle.graph.specs.Rows.{adjacentIn, bareRows, rowWords, rowBits}
+use Rattle.graph.specs.Rows.{adjacentIn, bareRows, rowWords}
 use Rattle.connectivity.specs.Lists.{In, member}
 use Rattle.connectivity.specs.Graph.{Graph, Adj}
 use Rattle.connectivity.specs.Path.{vertices, End}
@@ -72,7 +71,7 @@ item-same : (g : Graph) (st : BuildStart) (t : Start) → Beside st t → (s : L
 unfolding startOn startPath
 item-same g st t h s at = tests-same g (startEnds (st .ends)) (startEnds (t .ends)) (has (st .build .built .words)) (λ v. member v (t .built)) (λ P. ap (λ (l : List (ℕ × ℕ)). startEnds l P) (h .ends)) (h .built) s at
 
-item-kept : (g : Graph) → g .n ≤ maxVertices → (st : BuildStart) (t : Start) → Beside st t → (s : List ℕ) (at : ℕ) (P : Path) (next : ℕ) → startPath g t s at ≡ Got P next
+item-kept : (g : Graph) → g .n ≤ capacity → (st : BuildStart) (t : Start) → Beside st t → (s : List ℕ) (at : ℕ) (P : Path) (next : ℕ) → startPath g t s at ≡ Got P next
     → Beside (startEntered st P) (startTaken t P)
 item-kept g low st t h s at P next e = record {
   ends = ap laterEnds (h .ends);
@@ -132,7 +131,7 @@ four-has : (b : Four) → AllLow (fourOf b) → (v : ℕ) → has (fourSet b .wo
 unfolding folded
 four-has b low v = has-members emptySet (fourOf b) refl low v ∙ ap (λ (t : Bool). t || member v (fourOf b)) (has-empty wordCount v)
 
-four-low : (n : ℕ) (b : Four) → n ≤ maxVertices → Ascends n b → AllLow (fourOf b)
+four-low : (n : ℕ) (b : Four) → n ≤ capacity → Ascends n b → AllLow (fourOf b)
 four-low n b h a w (inl e) = omega arith
 four-low n b h a w (inr (inl e)) = omega arith
 four-low n b h a w (inr (inr (inl e))) = omega arith
@@ -159,11 +158,11 @@ six-four b e i = go i
     go (inr (inr (inr (inr (inr (inl k)))))) = at (b .1 .1 .0) (b .1 .1 .1) (inr (inr (inl refl))) (inr (inr (inr (inl refl)))) k
     go (inr (inr (inr (inr (inr (inr k)))))) = absurd k
 
-beside-start : (n : ℕ) (b : Four) → n ≤ maxVertices → Ascends n b → Beside (startOf b) (starting b)
+beside-start : (n : ℕ) (b : Four) → n ≤ capacity → Ascends n b → Beside (startOf b) (starting b)
 beside-start n b h a = record { ends = refl; sizes = bare-sizes b; built = four-has b (four-low n b h a); ends-in = six-four b }
 
 -- THE START IS READ ALIKE
-pub start-same : (g : Graph) → g .n ≤ maxVertices → (s : List ℕ) (at : ℕ) → buildStart g s at ≡ (branchFour (g .n) ▸ λ b. startPaths g b) s at
+pub start-same : (g : Graph) → g .n ≤ capacity → (s : List ℕ) (at : ℕ) → buildStart g s at ≡ (branchFour (g .n) ▸ λ b. startPaths g b) s at
 unfolding buildStart
 start-same g h s at = then-same (branchFour (g .n)) (branchFour (g .n)) (λ b. many (startOn g) startEntered 6 (startOf b)) (λ b. startPaths g b) s at refl
     (λ b mid e. sym (many-same (λ t st. Beside st t) (startPath g) startTaken (startOn g) startEntered (λ t st r s at. sym (item-same g st t r s at)) (λ t st r. item-kept g h st t r) 6 (starting b) (startOf b)
@@ -176,7 +175,7 @@ record PathsRead (t : Start) (l : List Path) : Type 0 where
   rest : List (ℕ × ℕ)
   cut : t .ends ≡ endPairs l ++ rest
 
-paths-read : (g : Graph) → g .n ≤ maxVertices → (k : ℕ) (t : Start) (s : List ℕ) (at : ℕ) {l : List Path} {next : ℕ} → many (startPath g) startTaken k t s at ≡ Got l next → PathsRead t l
+paths-read : (g : Graph) → g .n ≤ capacity → (k : ℕ) (t : Start) (s : List ℕ) (at : ℕ) {l : List Path} {next : ℕ} → many (startPath g) startTaken k t s at ≡ Got l next → PathsRead t l
 unfolding many
 paths-read g h zero t s at e = carry (λ l n. PathsRead t l) e (record { starts = tt; low = λ L i. absurd i; rest = t .ends; cut = refl })
 paths-read g h (suc k) t s at e =
@@ -184,7 +183,7 @@ paths-read g h (suc k) t s at e =
     let q = on-got (many (startPath g) startTaken k (startTaken t (p .0)) s (p .1)) _ (p .3) in
     carry (λ l n. PathsRead t l) (q .3) (more g h t s at (p .0) (p .1) (p .2) (q .0) (paths-read g h k (startTaken t (p .0)) s (p .1) (q .2)))
   where
-    more : (g : Graph) → g .n ≤ maxVertices → (t : Start) (s : List ℕ) (at : ℕ) (P : Path) (mid : ℕ) → startPath g t s at ≡ Got P mid → (l : List Path) → PathsRead (startTaken t P) l → PathsRead t (P ∷ l)
+    more : (g : Graph) → g .n ≤ capacity → (t : Start) (s : List ℕ) (at : ℕ) (P : Path) (mid : ℕ) → startPath g t s at ≡ Got P mid → (l : List Path) → PathsRead (startTaken t P) l → PathsRead t (P ∷ l)
     more g h t s at P mid e l r = record {
       starts = (tests g t s at e .is-path, λ w i. member-out w (t .built) (tests g t s at e .new w i), r .starts);
       low = all;
@@ -252,15 +251,15 @@ started-built st (P ∷ ps) z low v =
     ∙ ap (λ (t : Bool). t || inBuild ps v) (built-more (st .build) z P (low P (inl refl)) v) ∙ or-assoc (has (st .build .built .words) v) (member v (vertices P)) (inBuild ps v)
 
 bare-listed : Listed bareRows []
-bare-listed = record { long = refl; tells = λ u v. (λ e. absurd (clash (bare u v e) (has-empty rowWords (u * rowBits + v))), λ r. absurd (r .1)) }
+bare-listed = record { long = refl; tells = λ u v. (λ e. absurd (clash (bare u v e) (has-empty rowWords (u * capacity + v))), λ r. absurd (r .1)) }
   where
-    bare : (u v : ℕ) → adjacentIn bareRows u v ≡ true → has bareRows (u * rowBits + v) ≡ true
+    bare : (u v : ℕ) → adjacentIn bareRows u v ≡ true → has bareRows (u * capacity + v) ≡ true
     bare u v e =
-        let a = and-true (ltb u maxVertices) (ltb v maxVertices && has bareRows (u * rowBits + v)) e in
-        and-true (ltb v maxVertices) (has bareRows (u * rowBits + v)) (a .1) .1
+        let a = and-true (ltb u capacity) (ltb v capacity && has bareRows (u * capacity + v)) e in
+        and-true (ltb v capacity) (has bareRows (u * capacity + v)) (a .1) .1
 
 -- THE BUILD AFTER THE START SHOWS THE SIX PATHS
-module _ (g : Graph) (h : g .n ≤ maxVertices) (b : Four) (asc : Ascends (g .n) b) (s : List ℕ) (at : ℕ) (start : List Path) {next : ℕ} (e : startPaths g b s at ≡ Got start next) where
+module _ (g : Graph) (h : g .n ≤ capacity) (b : Four) (asc : Ascends (g .n) b) (s : List ℕ) (at : ℕ) (start : List Path) {next : ℕ} (e : startPaths g b s at ≡ Got start next) where
   abbrev B : List ℕ
   B = fourOf b
 
@@ -327,7 +326,7 @@ module _ (g : Graph) (h : g .n ≤ maxVertices) (b : Four) (asc : Ascends (g .n)
       in-already : (v : ℕ) → (has (fourSet b .words) v || inBuild start v) ≡ true → inBuild start v ≡ true
       in-already v k = ⊎-elim (λ i. let r = branch-four v .0 i in built-tells start v .1 (r .0, r .1, end-vertex v (r .0) (r .2))) (λ i. i) (or-true (has (fourSet b .words) v) (inBuild start v) k)
 
-pub shows-start : (g : Graph) → g .n ≤ maxVertices → (s : List ℕ) (at : ℕ) {x : Four × List Path} {next : ℕ} → (branchFour (g .n) ▸ λ b. startPaths g b) s at ≡ Got x next → Shows (startedBuild x) (x .1)
+pub shows-start : (g : Graph) → g .n ≤ capacity → (s : List ℕ) (at : ℕ) {x : Four × List Path} {next : ℕ} → (branchFour (g .n) ▸ λ b. startPaths g b) s at ≡ Got x next → Shows (startedBuild x) (x .1)
 shows-start g h s at {x} e =
     let r = pair-got (branchFour (g .n)) (λ b. startPaths g b) e in
     started-shows g h (x .0) (four-read (g .n) s at (r .1)) s (r .0) (x .1) (r .2)

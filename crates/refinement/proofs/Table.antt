@@ -9,52 +9,51 @@ use native.Mathlib.Decide.{decLt}
 use lib.Dec.{eqb, ltb}
 use lib.ListN.{length, length-set}
 use borrow.Author.Tests.{eqb-true, eq-eqb, lt-ltb, ltb-true, not-true}
-use Rattle.vertexset.specs.Set.{has, withBit}
+use Rattle.vertexset.specs.Set.{has, withBit, capacity}
 use Rattle.vertexset.proofs.Laws.{has-insert, has-remove}
-use Rattle.graph.specs.Plan.{maxVertices}
-use Rattle.graph.specs.Rows.{adjacentIn, rowBits, rowWords, joined, joinedRows}
+use Rattle.graph.specs.Rows.{adjacentIn, rowWords, joined, joinedRows}
 use Rattle.connectivity.proofs.Lists.{and-true, or-true, true-or, clash}
 use Rattle.build.specs.State.{linkedWithout, withoutBit}
 use Rattle.connectivity.proofs.Paths.{SamePair}
 use Rattle.refinement.proofs.Tests.{same-test, samePair, pair-tells, both-true, left-true, false-of}
 
 -- two places of the table
-place-same : (u v x y : ℕ) → v < rowBits → y < rowBits → eqb (u * rowBits + v) (x * rowBits + y) ≡ (eqb u x && eqb v y)
+place-same : (u v x y : ℕ) → v < capacity → y < capacity → eqb (u * capacity + v) (x * capacity + y) ≡ (eqb u x && eqb v y)
 place-same u v x y h k = same-test _ _ there back
   where
-    there : eqb (u * rowBits + v) (x * rowBits + y) ≡ true → (eqb u x && eqb v y) ≡ true
+    there : eqb (u * capacity + v) (x * capacity + y) ≡ true → (eqb u x && eqb v y) ≡ true
     there e =
-        let z : u * rowBits + v ≡ x * rowBits + y = eqb-true _ _ e in
+        let z : u * capacity + v ≡ x * capacity + y = eqb-true _ _ e in
         both-true (eq-eqb u x (omega arith)) (eq-eqb v y (omega arith))
 
-    back : (eqb u x && eqb v y) ≡ true → eqb (u * rowBits + v) (x * rowBits + y) ≡ true
+    back : (eqb u x && eqb v y) ≡ true → eqb (u * capacity + v) (x * capacity + y) ≡ true
     back e =
         let r = and-true (eqb u x) (eqb v y) e in
         let p : u ≡ x = eqb-true u x (r .0) in
         let q : v ≡ y = eqb-true v y (r .1) in
-        let z : u * rowBits + v ≡ x * rowBits + y = rw (p, q) in
+        let z : u * capacity + v ≡ x * capacity + y = rw (p, q) in
         eq-eqb _ _ z
 
 -- within the limit the table has a place, past it no pair is linked
 abbrev pub Low : ℕ → ℕ → Type 0
-Low u v = (u < maxVertices) × (v < maxVertices)
+Low u v = (u < capacity) × (v < capacity)
 
 low? : (u v : ℕ) → Low u v ⊎ (¬ Low u v)
-low? u v = go (decLt u maxVertices) (decLt v maxVertices)
+low? u v = go (decLt u capacity) (decLt v capacity)
   where
-    go : Dec (u < maxVertices) → Dec (v < maxVertices) → Low u v ⊎ (¬ Low u v)
+    go : Dec (u < capacity) → Dec (v < capacity) → Low u v ⊎ (¬ Low u v)
     go (yes h) (yes k) = inl (h, k)
     go (yes h) (no k) = inr (λ l. k (l .1))
     go (no h) d = inr (λ l. h (l .0))
 
-place : (T : List ℕ) (u v : ℕ) → Low u v → adjacentIn T u v ≡ has T (u * rowBits + v)
-place T u v h = rw (lt-ltb u maxVertices (h .0), lt-ltb v maxVertices (h .1))
+place : (T : List ℕ) (u v : ℕ) → Low u v → adjacentIn T u v ≡ has T (u * capacity + v)
+place T u v h = rw (lt-ltb u capacity (h .0), lt-ltb v capacity (h .1))
 
 pub linked-low : (T : List ℕ) (u v : ℕ) → adjacentIn T u v ≡ true → Low u v
 linked-low T u v e =
-    let a = and-true (ltb u maxVertices) (ltb v maxVertices && has T (u * rowBits + v)) e in
-    let b = and-true (ltb v maxVertices) (has T (u * rowBits + v)) (a .1) in
-    (ltb-true u maxVertices (a .0), ltb-true v maxVertices (b .0))
+    let a = and-true (ltb u capacity) (ltb v capacity && has T (u * capacity + v)) e in
+    let b = and-true (ltb v capacity) (has T (u * capacity + v)) (a .1) in
+    (ltb-true u capacity (a .0), ltb-true v capacity (b .0))
 
 past : (T : List ℕ) (u v : ℕ) → ¬ Low u v → adjacentIn T u v ≡ false
 past T u v n = false-of (λ e. n (linked-low T u v e))
@@ -68,11 +67,11 @@ pair-past u v x y h n = false-of (λ e. n (go (pair-tells u v x y .0 e)))
 
 -- a change at the two places of a pair changes the test of that pair
 changed : (x y : ℕ) → Low x y → (op : Bool → Bool → Bool) → op false false ≡ false → (T U : List ℕ)
-    → ((i : ℕ) → has U i ≡ op (has T i) (eqb i (x * rowBits + y) || eqb i (y * rowBits + x))) → (u v : ℕ) → adjacentIn U u v ≡ op (adjacentIn T u v) (samePair u v x y)
+    → ((i : ℕ) → has U i ≡ op (has T i) (eqb i (x * capacity + y) || eqb i (y * capacity + x))) → (u v : ℕ) → adjacentIn U u v ≡ op (adjacentIn T u v) (samePair u v x y)
 changed x y h op none T U f u v = ⊎-elim inside outside (low? u v)
   where
     inside : Low u v → adjacentIn U u v ≡ op (adjacentIn T u v) (samePair u v x y)
-    inside k = place U u v k ∙ f (u * rowBits + v) ∙ rw (place T u v k, place-same u v x y (k .1) (h .1), place-same u v y x (k .1) (h .0))
+    inside k = place U u v k ∙ f (u * capacity + v) ∙ rw (place T u v k, place-same u v x y (k .1) (h .1), place-same u v y x (k .1) (h .0))
 
     outside : ¬ Low u v → adjacentIn U u v ≡ op (adjacentIn T u v) (samePair u v x y)
     outside n = past U u v n ∙ rw (past T u v n, pair-past u v x y h n, none)
@@ -83,38 +82,38 @@ neither true false c = refl
 neither false b c = refl
 
 module _ (T : List ℕ) (long : length T ≡ rowWords) (x y : ℕ) (h : Low x y) where
-  first-place : x * rowBits + y < 64 * length T
+  first-place : x * capacity + y < 64 * length T
   first-place = omega (arith, h)
 
   -- the other place, once the list has been set at the first
-  other-place : (U : List ℕ) → length U ≡ length T → y * rowBits + x < 64 * length U
+  other-place : (U : List ℕ) → length U ≡ length T → y * capacity + x < 64 * length U
   other-place U l = omega (arith, h)
 
   pub with-length : length (joinedRows T x y) ≡ rowWords
-  with-length = rw (lt-ltb x maxVertices (h .0), lt-ltb y maxVertices (h .1)) (simp length-set long)
+  with-length = rw (lt-ltb x capacity (h .0), lt-ltb y capacity (h .1)) (simp length-set long)
 
   pub without-length : length (linkedWithout T x y) ≡ rowWords
-  without-length = rw (lt-ltb x maxVertices (h .0), lt-ltb y maxVertices (h .1)) (simp length-set long)
+  without-length = rw (lt-ltb x capacity (h .0), lt-ltb y capacity (h .1)) (simp length-set long)
 
   -- one link more
   linked-with : (u v : ℕ) → adjacentIn (joinedRows T x y) u v ≡ (adjacentIn T u v || samePair u v x y)
-  linked-with = changed x y h _||_ refl T (joinedRows T x y) (λ i. rw (lt-ltb x maxVertices (h .0), lt-ltb y maxVertices (h .1)) (at i))
+  linked-with = changed x y h _||_ refl T (joinedRows T x y) (λ i. rw (lt-ltb x capacity (h .0), lt-ltb y capacity (h .1)) (at i))
     where
-      at : (i : ℕ) → has (joined T (x, y)) i ≡ (has T i || (eqb i (x * rowBits + y) || eqb i (y * rowBits + x)))
+      at : (i : ℕ) → has (joined T (x, y)) i ≡ (has T i || (eqb i (x * capacity + y) || eqb i (y * capacity + x)))
       at i =
-          let U = withBit T (x * rowBits + y) in
-          ap (λ (t : ℕ → Bool). t i) (has-insert U (y * rowBits + x) (other-place U (simp length-set)))
-          ∙ ap (λ (t : ℕ → Bool). t i || eqb i (y * rowBits + x)) (has-insert T (x * rowBits + y) first-place) ∙ or-assoc (has T i) (eqb i (x * rowBits + y)) (eqb i (y * rowBits + x))
+          let U = withBit T (x * capacity + y) in
+          ap (λ (t : ℕ → Bool). t i) (has-insert U (y * capacity + x) (other-place U (simp length-set)))
+          ∙ ap (λ (t : ℕ → Bool). t i || eqb i (y * capacity + x)) (has-insert T (x * capacity + y) first-place) ∙ or-assoc (has T i) (eqb i (x * capacity + y)) (eqb i (y * capacity + x))
 
   -- one link fewer
   linked-without : (u v : ℕ) → adjacentIn (linkedWithout T x y) u v ≡ (adjacentIn T u v && not (samePair u v x y))
-  linked-without = changed x y h (λ t c. t && not c) refl T (linkedWithout T x y) (λ i. rw (lt-ltb x maxVertices (h .0), lt-ltb y maxVertices (h .1)) (at i))
+  linked-without = changed x y h (λ t c. t && not c) refl T (linkedWithout T x y) (λ i. rw (lt-ltb x capacity (h .0), lt-ltb y capacity (h .1)) (at i))
     where
-      at : (i : ℕ) → has (withoutBit (withoutBit T (x * rowBits + y)) (y * rowBits + x)) i ≡ (has T i && not (eqb i (x * rowBits + y) || eqb i (y * rowBits + x)))
+      at : (i : ℕ) → has (withoutBit (withoutBit T (x * capacity + y)) (y * capacity + x)) i ≡ (has T i && not (eqb i (x * capacity + y) || eqb i (y * capacity + x)))
       at i =
-          let U = withoutBit T (x * rowBits + y) in
-          has-remove U (y * rowBits + x) (other-place U (simp length-set)) i
-          ∙ ap (λ (t : Bool). t && not (eqb i (y * rowBits + x))) (has-remove T (x * rowBits + y) first-place i) ∙ neither (has T i) (eqb i (x * rowBits + y)) (eqb i (y * rowBits + x))
+          let U = withoutBit T (x * capacity + y) in
+          has-remove U (y * capacity + x) (other-place U (simp length-set)) i
+          ∙ ap (λ (t : Bool). t && not (eqb i (y * capacity + x))) (has-remove T (x * capacity + y) first-place i) ∙ neither (has T i) (eqb i (x * capacity + y)) (eqb i (y * capacity + x))
 
   pub with-tells : (u v : ℕ) → (adjacentIn (joinedRows T x y) u v ≡ true) ↔ ((adjacentIn T u v ≡ true) ⊎ SamePair u v x y)
   with-tells u v = (λ e. ⊎-map (λ k. k) (pair-tells u v x y .0) (or-true (adjacentIn T u v) (samePair u v x y) (sym (linked-with u v) ∙ e)), λ k. linked-with u v ∙ ⊎-elim (left-true (samePair u v x y)) (λ p. true-or (adjacentIn T u v) (samePair u v x y) (pair-tells u v x y .1 p)) k)

@@ -9,10 +9,9 @@ use lib.ListN.{length}
 use lib.Bits.{bitOr}
 use borrow.Author.Tests.{eqb-true, eq-eqb}
 use Rattle.record.specs.Read.{folded}
-use Rattle.vertexset.specs.Set.{has, emptySet, inserted, wordCount}
+use Rattle.vertexset.specs.Set.{has, emptySet, inserted, wordCount, capacity}
 use Rattle.vertexset.specs.declared.VertexSet.{VertexSet}
 use Rattle.vertexset.proofs.Laws.{has-empty, has-union, inserted-has, inserted-length, wordwise-length}
-use Rattle.graph.specs.Plan.{maxVertices}
 use Rattle.graph.specs.Rows.{adjacentIn, joinedRows}
 use Rattle.connectivity.specs.Lists.{In, NoDup, member}
 use Rattle.connectivity.specs.Graph.{Adj}
@@ -89,7 +88,7 @@ module _ (p q : List ℕ) (links : List Path) (h : Runs p q links) where
       go L i (front k e) = rw e (parts L i k .0 .0, parts L i k .1 .0)
       go L i (back k e) = rw e (parts L i k .0 .1, parts L i k .1 .1)
 
-  pub runs-more : length p ≡ maxVertices → length q ≡ maxVertices → (P : Path) → NoDup (vertices P) → AllLow (vertices P) → ((L : Path) → In L links → (w : ℕ) → In w (L .inner) → ¬ In w (P .inner))
+  pub runs-more : length p ≡ capacity → length q ≡ capacity → (P : Path) → NoDup (vertices P) → AllLow (vertices P) → ((L : Path) → In L links → (w : ℕ) → In w (L .inner) → ¬ In w (P .inner))
       → Runs (pointBack p (P .s) (P .inner)) (pointOn q (P .inner) (P .t)) (P ∷ links)
   runs-more lp lq P nd low new M m = go m
     where
@@ -211,10 +210,10 @@ module _ {b : Build} {links : List Path} (sh : Shows b links) (P : Path) (bg : B
           rw (both-inner (p .0) (q .0) (p .1) (q .1) (p .2) (q .2), split-swap (P .s) (P .t) links (λ L h i j. apart (L, h, inner-in (P .s) L i, inner-in (P .t) L j)))
           (listed-split (splitAt (b .linked) (P .s) (ends (p .0))) (splitLinks (P .s) links) (at (P .s) (p .0) (p .1) (p .2)) (P .t) (q .0) (still-sole (q .0) (q .1) (q .2)) (sh .low (q .0) (q .1)))
 
-  low-first : P .s < maxVertices
+  low-first : P .s < capacity
   low-first = low (P .s) (end-s P)
 
-  low-last : P .t < maxVertices
+  low-last : P .t < capacity
   low-last = low (P .t) (end-t P)
 
   raised-sizes : Sizes (raised b P)

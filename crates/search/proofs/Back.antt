@@ -8,7 +8,7 @@ use lib.ListN.{length, getD, set, take, drop, replicate, length-append, length-t
 use lib.Seq.{getD-take, getD-drop}
 use lib.Dec.{ltb}
 use borrow.Author.Tests.{lt-ltb, le-ltb}
-use Rattle.construction.specs.Sets.{capacity}
+use Rattle.vertexset.specs.Set.{capacity}
 use Rattle.construction.specs.Search.{back}
 use Rattle.search.specs.Arrays.{padded}
 use Rattle.search.specs.Code.{pathRoom, pathOf}

@@ -5,7 +5,7 @@ use Prim.Native.Nat.{ℕ}
 use lib.ListN.{length, take, drop}
 use borrow.Author.Tests.{eq-eqb}
 use Rattle.vertexset.specs.declared.VertexSet.{VertexSet}
-use Rattle.construction.specs.Sets.{capacity, members}
+use Rattle.construction.specs.Sets.{members}
 use Rattle.construction.specs.Search as construction
 use Rattle.construction.specs.Search.{explore, back, route}
 use Rattle.search.specs.Code.{searchSpace, pathOf, reachOf, spaceAfter, leftIn, answerIn, routeIn}
@@ -14,6 +14,7 @@ use Rattle.search.specs.declared.Reach.{Reach}
 use Rattle.search.proofs.Sizes.{Sized, explore-sized}
 use Rattle.search.proofs.Spaces.{both-order, both-from}
 use Rattle.search.proofs.Visits.{first, second, first-size, second-size}
+use Rattle.vertexset.specs.Set.{capacity}
 
 module _ (rows space : List ℕ) (seeds goals removed : VertexSet) (size : length space ≡ searchSpace) where
   abbrev found : construction.Reach

@@ -9,11 +9,11 @@ use native.Mathlib.Omega.{arith}
 use lib.Dec.{ltb}
 use lib.ListN.{length, set}
 use borrow.Author.Tests.{lt-ltb, le-ltb}
-use Rattle.vertexset.specs.Set.{has, wordCount, firstFrom, next, count, tally}
+use Rattle.vertexset.specs.Set.{has, wordCount, firstFrom, next, count, tally, capacity}
 use Rattle.vertexset.specs.declared.VertexSet.{VertexSet}
 use Rattle.vertexset.proofs.Laws.{Words, count-tally}
 use Rattle.connectivity.specs.Lists.{select, upFrom}
-use Rattle.construction.specs.Sets.{capacity, membersFrom, members}
+use Rattle.construction.specs.Sets.{membersFrom, members}
 use Rattle.search.specs.Arrays.{placed, placedEnd}
 use Rattle.search.proofs.Puts.{put-none}
 use Rattle.search.proofs.Filling.{Filling, fill-start, fill-place, fill-length, fill-turn, fill-done}

@@ -8,10 +8,11 @@ use lib.Dec.{ltb, leb}
 use lib.ListN.{length, getD, replicate, length-append, length-replicate}
 use Rattle.vertexset.specs.declared.VertexSet.{VertexSet}
 use Rattle.graph.specs.Rows.{rowOf}
-use Rattle.construction.specs.Sets.{capacity, plus, minus, common, members, least, added}
+use Rattle.construction.specs.Sets.{plus, minus, common, members, least, added}
 use Rattle.construction.specs.Search.{Reach, reach, visit, explore}
 use Rattle.search.proofs.Members.{members-low}
 use Rattle.search.proofs.Placed.{added-length}
+use Rattle.vertexset.specs.Set.{capacity}
 
 -- at least so many were reached
 pub record Sized (k : ℕ) (r : Reach) : Type 0 where

@@ -10,9 +10,10 @@ use lib.Seq.{take-append-le, drop-append-le, take-append-add, drop-append-add, t
 use borrow.Author.Tests.{le-leb, lt-leb, leb-true}
 use Rattle.record.specs.Write.{overwritten}
 use Rattle.record.proofs.Write.{overwritten-none, overwritten-length, overwritten-more}
-use Rattle.construction.specs.Sets.{capacity, added}
+use Rattle.construction.specs.Sets.{added}
 use Rattle.search.specs.Arrays.{placed}
 use Rattle.search.specs.Code.{searchSpace, reachedAfter, reachedEnd}
+use Rattle.vertexset.specs.Set.{capacity}
 
 -- ---- writing into one of two lists
 

@@ -9,10 +9,10 @@ use lib.Dec.{ltb, leb}
 use lib.ListN.{length, getD, take, drop, replicate, length-replicate, length-drop, take-append-drop}
 use lib.Seq.{length-take-le, take-take}
 use borrow.Author.Tests.{lt-ltb, le-ltb, le-leb, eq-eqb, ne-eqb}
-use Rattle.vertexset.specs.Set.{emptySet}
+use Rattle.vertexset.specs.Set.{emptySet, capacity}
 use Rattle.vertexset.specs.declared.VertexSet.{VertexSet}
 use Rattle.graph.specs.Rows.{rowOf}
-use Rattle.construction.specs.Sets.{capacity, plus, minus, common, members, least, added}
+use Rattle.construction.specs.Sets.{plus, minus, common, members, least, added}
 use Rattle.construction.specs.Search.{Reach, reach, visit, explore}
 use Rattle.search.specs.Code.{reachOf, searchSpace, spaceAfter, leftIn, answerIn, reachedAfter, reachedEnd, visitsIn}
 use Rattle.search.specs.declared.Reach as code

@@ -8,12 +8,12 @@ use native.Mathlib.Omega.{arith}
 use lib.ListN.{length, getD, set}
 use lib.Pow.{shr-lt, shr-shr}
 use lib.Count.{trailingZeros}
-use Rattle.vertexset.specs.Set.{wordCount, next, count}
+use Rattle.vertexset.specs.Set.{wordCount, next, count, capacity}
 use Rattle.vertexset.specs.declared.VertexSet.{VertexSet}
 use Rattle.vertexset.proofs.Bit.{trailing-low}
 use Rattle.vertexset.proofs.Laws.{Words}
 use Rattle.vertexset.proofs.Steps.{next-past, next-word, next-found}
-use Rattle.construction.specs.Sets.{capacity, members}
+use Rattle.construction.specs.Sets.{members}
 use Rattle.search.specs.Arrays.{placed, placedEnd}
 use Rattle.search.proofs.Filling.{Filling}
 use Rattle.search.proofs.Members.{listed, after, members-begin, members-length, members-place, members-turn, members-done}

@@ -5,9 +5,8 @@ use mathlib.Core.List.{List, _∷_, _++_}
 use lib.Dec.{eqb, leb}
 use lib.ListN.{length, take, drop, replicate}
 use Rattle.record.specs.Write.{overwritten}
-use Rattle.vertexset.specs.Set.{emptySet}
+use Rattle.vertexset.specs.Set.{emptySet, capacity}
 use Rattle.vertexset.specs.declared.VertexSet.{VertexSet}
-use Rattle.construction.specs.Sets.{capacity}
 use Rattle.construction.specs.Search as construction
 use Rattle.construction.specs.Search.{back, visit}
 use Rattle.search.specs.Arrays.{padded}

@@ -2,10 +2,11 @@
 ghost use mathlib.Core.Path.{_≡_};
 ghost use Prim.Native.Nat.{_≤_};
 ghost use lib.ListN.{getD, length, replicate, take, drop};
-ghost use Rattle.construction.specs.Sets.{members, capacity};
+ghost use Rattle.construction.specs.Sets.{members};
 ghost use Rattle.construction.specs.Search.{explore};
 ghost use Rattle.search.specs.Arrays.{placed, placedEnd};
 ghost use Rattle.search.specs.Code.{reachOf, pathOf, routeIn, searchSpace, spaceAfter, leftIn, answerIn, reachedAfter, reachedEnd, visitsIn};
+ghost use Rattle.vertexset.specs.Set.{capacity};
 use graph::Graph;
 use vertexset::VertexSet;
 

@@ -9,10 +9,9 @@ use native.Mathlib.Decide.{ℕ-discrete}
 use lib.Dec.{ltb}
 use lib.ListN.{length}
 use borrow.Author.Tests.{ltb-true, ltb-false, not-true}
-use Rattle.vertexset.specs.Set.{has, wordCount, wordwise, less, within, next}
+use Rattle.vertexset.specs.Set.{has, wordCount, wordwise, less, within, next, capacity}
 use Rattle.vertexset.specs.declared.VertexSet.{VertexSet}
 use Rattle.vertexset.proofs.Laws.{Words, Found, within-has, has-within, next-is, has-minus, has-past, wordwise-length}
-use Rattle.graph.specs.Plan.{maxVertices}
 use Rattle.graph.specs.Rows.{adjacentIn, rowOf}
 use Rattle.graph.proofs.Rows.{row-adjacent}
 use Rattle.connectivity.proofs.Lists.{and-true, true-or, bool?, clash}
@@ -30,9 +29,9 @@ off b n = not-true b (decide-not (decide-test b) .passes n)
 decide-within : (xs ys : List ℕ) → length xs ≡ length ys → Words xs → Decides (within xs ys) ((x : ℕ) → x < 64 * length xs → has xs x ≡ true → has ys x ≡ true)
 decide-within xs ys l w = record { holds = λ e x i m. within-has xs ys l e x m; passes = has-within xs ys l w }
 
-decide-misses : (rows : List ℕ) (left : ℕ → Bool) (u : ℕ) → Decides (missesRow rows left u) ((v : ℕ) → v < maxVertices → ¬ ((left v ≡ true) × (adjacentIn rows u v ≡ true)))
+decide-misses : (rows : List ℕ) (left : ℕ → Bool) (u : ℕ) → Decides (missesRow rows left u) ((v : ℕ) → v < capacity → ¬ ((left v ≡ true) × (adjacentIn rows u v ≡ true)))
 unfolding missesRow
-decide-misses rows left u = decide-all (λ v. decide-not (decide-and (decide-test (left v)) (decide-test (adjacentIn rows u v)))) maxVertices
+decide-misses rows left u = decide-all (λ v. decide-not (decide-and (decide-test (left v)) (decide-test (adjacentIn rows u v)))) capacity
 
 -- the rest loses nothing by taking out a row
 pub misses-same : (rows : List ℕ) (u : ℕ) (left row : VertexSet) → length (left .words) ≡ wordCount → length (row .words) ≡ wordCount → Words (left .words) → row ≡ rowOf rows u
@@ -48,11 +47,11 @@ misses-same rows u left row l m w e =
 
 -- ---- all of them
 
-pub between-same : (rows : List ℕ) (n : ℕ) → n ≤ maxVertices → (removed side left : List ℕ) → RestOf n removed side left → Low n side
+pub between-same : (rows : List ℕ) (n : ℕ) → n ≤ capacity → (removed side left : List ℕ) → RestOf n removed side left → Low n side
     → noneBetween rows (has side) (has left) ≡ noEdgeBetween (rowsGraph n rows) (has removed) (has side)
 unfolding noneBetween
 between-same rows n small removed side left r low = same-test
-    (decide-same (decide-all (λ u. decide-or (decide-not (decide-test (has side u))) (decide-misses rows (has left) u)) maxVertices)
+    (decide-same (decide-all (λ u. decide-or (decide-not (decide-test (has side u))) (decide-misses rows (has left) u)) capacity)
     (λ f u i v j p. ⊎-elim (λ k. k (p .0)) (λ k. k v (omega arith) (left-rest n removed side left r v j ∙ p .1 .0, p .1 .1)) (f u (omega arith)))
     (λ f u i. ⊎-elim
     (λ t. inr (λ v j p. let k = rest-low n removed side left r v (p .0) in f u (low u t) v k (t, (sym (left-rest n removed side left r v k) ∙ p .0, p .1))))
@@ -69,8 +68,8 @@ abbrev pub Cleared : List ℕ → List ℕ → (ℕ → Bool) → ℕ → Type 0
 Cleared rows side left from = (u : ℕ) → u < from → clearAt rows side left u ≡ true
 
 module _ (rows side : List ℕ) (left : ℕ → Bool) (l : length side ≡ wordCount) (from : ℕ) {u : ℕ} (e : u ≡ next side from) where
-  decide-clear : Decides (allBelow maxVertices (clearAt rows side left)) (Cleared rows side left maxVertices)
-  decide-clear = decide-all (λ u. decide-test (clearAt rows side left u)) maxVertices
+  decide-clear : Decides (allBelow capacity (clearAt rows side left)) (Cleared rows side left capacity)
+  decide-clear = decide-all (λ u. decide-test (clearAt rows side left u)) capacity
 
   next-found : u < 64 * wordCount → Found (has side) from u
   next-found h = rw e (⊎-elim (λ f. f) (λ m. absurd (omega (arith, m .limit))) (next-is side from))

@@ -11,8 +11,7 @@ use Rattle.record.specs.Number.{number}
 use Rattle.record.specs.Loop.{runs, finish}
 use Rattle.record.proofs.Laws.{on-got, carry}
 use Rattle.record.proofs.Loops.{All, many-all, needs-true, leads-bad, leads-got}
-use Rattle.vertexset.specs.Set.{has, emptySet, inserted, wordCount}
-use Rattle.graph.specs.Plan.{maxVertices}
+use Rattle.vertexset.specs.Set.{has, emptySet, inserted, wordCount, capacity}
 use Rattle.connectivity.specs.Lists.{member}
 use Rattle.connectivity.specs.Graph.{Graph}
 use Rattle.connectivity.specs.Certificate.{Certificate.tree}
@@ -33,16 +32,16 @@ use Rattle.sides.proofs.Between.{between-same}
 -- ---- the limit
 
 module _ (n : ℕ) (s : List ℕ) (at : ℕ) where
-  pub over-limit : {A : Type 0} (R : Reader A) → maxVertices < n → Fault 9 at ≡ endRead (limited n R s at)
+  pub over-limit : {A : Type 0} (R : Reader A) → capacity < n → Fault 9 at ≡ endRead (limited n R s at)
   unfolding endRead
-  over-limit R h = rw (lt-leb n maxVertices h)
+  over-limit R h = rw (lt-leb n capacity h)
 
-  pub in-limit : {A : Type 0} (R : Reader A) → n ≤ maxVertices → endRead (R s at) ≡ endRead (limited n R s at)
+  pub in-limit : {A : Type 0} (R : Reader A) → n ≤ capacity → endRead (R s at) ≡ endRead (limited n R s at)
   in-limit R h = ap endRead (sym (limited-in n at (R s at) h))
 
   pub limited-same : {A B : Type 0} (R : Reader A) (Q : Reader B) → endRead (R s at) ≡ endRead (Q s at) → endRead (limited n R s at) ≡ endRead (limited n Q s at)
   unfolding endRead
-  limited-same R Q e = go (leb n maxVertices)
+  limited-same R Q e = go (leb n capacity)
     where
       go : (b : Bool) → endRead (cond b (R s at) (Refused 9 at)) ≡ endRead (cond b (Q s at) (Refused 9 at))
       go true = e
@@ -111,7 +110,7 @@ module _ (g : Graph) (removed : ℕ → Bool) (s : List ℕ) (at : ℕ) where
             let c : Fault q p ≡ Fault a b = sym f ∙ y in
             c ∙ list-refused (leads-got sideCount sideList e ∙ m)
 
-    pub side-read : {v next : ℕ} → g .n ≤ maxVertices → x .end ≡ Value v next
+    pub side-read : {v next : ℕ} → g .n ≤ capacity → x .end ≡ Value v next
         → (Low (g .n) (x .set .words)) × (sideTested g removed (has (x .set .words)) at next ≡ endRead (side g removed s at))
     unfolding runs
     side-read {v} {next} small f = go (sideList k s from) refl h
@@ -137,7 +136,7 @@ unfolding sideTested
 side-empty g removed set at next e = rw e
 
 -- the tests as the code makes them: of the side, of the rest, and between them
-pub side-tests : (rows : List ℕ) (n : ℕ) → n ≤ maxVertices → (removed set left : List ℕ) → RestOf n removed set left → Low n set → (at next : ℕ) {y z : Bool}
+pub side-tests : (rows : List ℕ) (n : ℕ) → n ≤ capacity → (removed set left : List ℕ) → RestOf n removed set left → Low n set → (at next : ℕ) {y z : Bool}
     → true ≡ someBelow n (has set) → y ≡ someBelow n (has left) → z ≡ noneBetween rows (has set) (has left)
     → cond y (cond z (Value 0 next) (Fault 23 at)) (Fault 22 at) ≡ sideTested (rowsGraph n rows) (has removed) (has set) at next
 unfolding sideTested

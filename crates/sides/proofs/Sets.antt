@@ -11,10 +11,9 @@ use lib.Dec.{ltb, eqb}
 use lib.ListN.{length}
 use borrow.Author.Tests.{lt-ltb, le-ltb, ltb-true, ne-eqb}
 use Rattle.record.proofs.Loops.{All}
-use Rattle.vertexset.specs.Set.{has, emptySet, inserted, wordCount, wordwise, less, count, tally}
+use Rattle.vertexset.specs.Set.{has, emptySet, inserted, wordCount, wordwise, less, count, tally, capacity}
 use Rattle.vertexset.specs.declared.VertexSet.{VertexSet}
 use Rattle.vertexset.proofs.Laws.{Words, has-minus, empty-has, inserted-has, inserted-length, wordwise-length, count-tally}
-use Rattle.graph.specs.Plan.{maxVertices}
 use Rattle.connectivity.specs.Lists.{member}
 use Rattle.connectivity.proofs.Lists.{and-true}
 use Rattle.certificates.specs.Tests.{nobody, with, someBelow, rest}
@@ -60,7 +59,7 @@ below-more x n = same-test (decide-same (decide-or (decide-less x n) (decide-equ
     last : x < suc n → (x < n) ⊎ (x ≡ n)
     last h = elim (ℕ-discrete x n) [ yes e ↦ inr e | no k ↦ inl (omega arith) ]
 
-all-has : (n : ℕ) → n ≤ maxVertices → has (allBelowSet n .words) ≡ (λ x. ltb x n)
+all-has : (n : ℕ) → n ≤ capacity → has (allBelowSet n .words) ≡ (λ x. ltb x n)
 unfolding allBelowSet
 all-has zero h = empty-has ∙ fun-ext (λ x. sym (le-ltb x 0 (omega arith)))
 all-has (suc n) h =
@@ -88,7 +87,7 @@ size-some ws w n small low = rw (count-tally ws w) (tally-some (has ws) (64 * le
 
 -- ---- the rest
 
-pub rest-made : (n : ℕ) → n ≤ maxVertices → (removed side : VertexSet) → length (removed .words) ≡ wordCount → length (side .words) ≡ wordCount
+pub rest-made : (n : ℕ) → n ≤ capacity → (removed side : VertexSet) → length (removed .words) ≡ wordCount → length (side .words) ≡ wordCount
     → RestOf n (removed .words) (side .words) (wordwise less (wordwise less (allBelowSet n) removed) side .words)
 rest-made n small removed side l m x =
     let k = wordwise-length less (allBelowSet n) removed (all-length n) l in

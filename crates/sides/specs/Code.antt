@@ -6,9 +6,8 @@ use mathlib.Core.Path.{_≡_}
 use lib.Dec.{ltb}
 use Rattle.record.specs.Read.{Read, Read.Got, Read.Refused}
 use Rattle.record.specs.Loop.{Loop}
-use Rattle.vertexset.specs.Set.{has, emptySet, inserted}
+use Rattle.vertexset.specs.Set.{has, emptySet, inserted, capacity}
 use Rattle.vertexset.specs.declared.VertexSet.{VertexSet}
-use Rattle.graph.specs.Plan.{maxVertices}
 use Rattle.graph.specs.Rows.{adjacentIn}
 use Rattle.connectivity.specs.Graph.{Graph}
 use Rattle.certificates.specs.Tests.{with, allBelow, rest, bothHold, noEdgeBetween}
@@ -34,11 +33,11 @@ allBelowSet (suc n) = inserted (allBelowSet n) n
 
 -- no vertex of the rest is adjacent to u
 unfoldable pub missesRow : List ℕ → (ℕ → Bool) → ℕ → Bool
-missesRow rows rest u = allBelow maxVertices (λ v. not (rest v && adjacentIn rows u v))
+missesRow rows rest u = allBelow capacity (λ v. not (rest v && adjacentIn rows u v))
 
 -- no vertex of the side is adjacent to one of the rest
 unfoldable pub noneBetween : List ℕ → (ℕ → Bool) → (ℕ → Bool) → Bool
-noneBetween rows side rest = allBelow maxVertices (λ u. not (side u) || missesRow rows rest u)
+noneBetween rows side rest = allBelow capacity (λ u. not (side u) || missesRow rows rest u)
 
 -- the members are the vertices below n that are in the rest
 abbrev pub RestOf : ℕ → List ℕ → List ℕ → List ℕ → Type 0

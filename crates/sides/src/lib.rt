@@ -2,8 +2,7 @@
 ghost use mathlib.Core.Path.{_≡_};
 ghost use Prim.Native.Nat.{_≤_, _<_};
 ghost use Rattle.record.specs.Loop.{runs};
-ghost use Rattle.vertexset.specs.Set.{has, emptySet};
-ghost use Rattle.graph.specs.Plan.{maxVertices};
+ghost use Rattle.vertexset.specs.Set.{has, emptySet, capacity};
 ghost use Rattle.graph.specs.Rows.{adjacentIn};
 ghost use Rattle.certificates.specs.Tests.{with, nobody, someBelow};
 ghost use Rattle.certificates.specs.Records.{sideVertex, side, pair, body};
@@ -100,7 +99,7 @@ fn none_between(rows: &[u64; Graph::ROW_WORDS], side: VertexSet, rest: VertexSet
 
 // The vertices below n that are neither removed nor in the side.
 fn rest_of(n: u16, removed: VertexSet, side: VertexSet) -> VertexSet
-    requires { ⌜ n ≤ maxVertices ⌝ }
+    requires { ⌜ n ≤ capacity ⌝ }
     ensures { λ r. ⌜ RestOf n (removed .words) (side .words) (r .words) ⌝ }
 {
     all_below(n).minus(removed).minus(side)
@@ -108,7 +107,7 @@ fn rest_of(n: u16, removed: VertexSet, side: VertexSet) -> VertexSet
 
 // A set of vertices below n holds one.
 fn holds_one(n: u16, set: VertexSet) -> bool
-    requires { ⌜ (n ≤ maxVertices) × Low n (set .words) ⌝ }
+    requires { ⌜ (n ≤ capacity) × Low n (set .words) ⌝ }
     ensures { λ r. ⌜ r ≡ someBelow n (has (set .words)) ⌝ }
 {
     0 < set.size()
@@ -123,7 +122,7 @@ fn tested_side(
     at: usize,
     next: usize,
 ) -> Item
-    requires { ⌜ (n ≤ maxVertices) × Low n (side .words) ⌝ }
+    requires { ⌜ (n ≤ capacity) × Low n (side .words) ⌝ }
     ensures { λ r. ⌜ r ≡ sideTested (rowsGraph n (now (rows .entry))) (has (removed .words)) (has (side .words)) at next ⌝ }
 {
     if holds_one(n, side) {
@@ -148,7 +147,7 @@ pub fn read_side(
 ) -> Item
     ensures { λ r. ⌜ r ≡ endRead (limited n (side (rowsGraph n (now (rows .entry))) (has (removed .words))) (now (s .entry)) at) ⌝ }
 {
-    if Graph::MAX_VERTICES < n {
+    if VertexSet::CAPACITY < n {
         return Item::Fault(9, at);
     }
     let x = paths::read_ranged(s, 0, n, at);
@@ -204,7 +203,7 @@ fn read_pairs(
     count: u16,
     from: usize,
 ) -> Item
-    requires { ⌜ (n ≤ maxVertices) × (first < n) ⌝ }
+    requires { ⌜ (n ≤ capacity) × (first < n) ⌝ }
     ensures { λ r. ⌜ r ≡ runs (pairLoop n (adjacentIn (now (rows .entry)))) count (with nobody first) tt (now (s .entry)) from ⌝ }
 {
     let mut named = VertexSet::empty().insert(first);
@@ -226,7 +225,7 @@ fn read_pairs(
 pub fn read_tree(s: &[u8], rows: &[u64; Graph::ROW_WORDS], n: u16, at: usize) -> Item
     ensures { λ r. ⌜ r ≡ endRead (limited n (body (rowsGraph n (now (rows .entry))) 1) (now (s .entry)) at) ⌝ }
 {
-    if Graph::MAX_VERTICES < n {
+    if VertexSet::CAPACITY < n {
         return Item::Fault(9, at);
     }
     let x = paths::read_vertex(s, n, at);

@@ -12,6 +12,10 @@ use Rattle.vertexset.specs.declared.VertexSet.{VertexSet}
 abbrev pub wordCount : ℕ
 wordCount = 2
 
+-- the vertices below it can be members of a set
+abbrev pub capacity : ℕ
+capacity = 64 * wordCount
+
 -- vertex v is a member: bit v % 64 of word v / 64 is 1; no vertex past the words is one
 abbrev pub has : List ℕ → ℕ → Bool
 has ws v = eqb (getD ws (v / 64) 0 / 2 ^ (v % 64) % 2) 1

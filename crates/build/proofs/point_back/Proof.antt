@@ -3,7 +3,7 @@ use Prim.Native.Nat.{_-_, _≤_}
 use mathlib.Core.Path.{_≡_, refl, ap, _∙_}
 use borrow.Author.Needs.{needs}
 use lib.ListN.{length, getD, length-set}
-use Rattle.graph.specs.Plan.{maxVertices}
+use Rattle.vertexset.specs.Set.{capacity}
 use Rattle.build.specs.State.{pointBack}
 use Rattle.build.specs.Code.{innerIn}
 use Rattle.build.proofs.Pointers.{inner, back-on, back-done}
@@ -12,7 +12,7 @@ use Rattle.build.proofs.point_back.Tie as tie
 
 abbrev Inv-loop : tie.InvT-loop
 Inv-loop before₀ list len i₀ before i =
-    ((1 ≤ i) × (i ≤ maxVertices)) × ((length before ≡ maxVertices) × (pointBack before (getD list (i - 1) 0) (inner list len i) ≡ pointBack before₀ (getD list 0 0) (innerIn list len)))
+    ((1 ≤ i) × (i ≤ capacity)) × ((length before ≡ capacity) × (pointBack before (getD list (i - 1) 0) (inner list len i) ≡ pointBack before₀ (getD list 0 0) (innerIn list len)))
 
 abbrev μ-loop : tie.MeasureT-loop
 μ-loop before₀ list len i₀ before i = len - i

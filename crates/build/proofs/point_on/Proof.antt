@@ -3,7 +3,7 @@ use Prim.Native.Nat.{_-_, _≤_}
 use mathlib.Core.Path.{_≡_, refl, ap, _∙_}
 use borrow.Author.Needs.{needs}
 use lib.ListN.{length, getD, length-set}
-use Rattle.graph.specs.Plan.{maxVertices}
+use Rattle.vertexset.specs.Set.{capacity}
 use Rattle.build.specs.State.{pointOn}
 use Rattle.build.specs.Code.{innerIn}
 use Rattle.build.proofs.Pointers.{inner, on-on, on-done}
@@ -12,7 +12,7 @@ use Rattle.build.proofs.point_on.Tie as tie
 
 abbrev Inv-loop : tie.InvT-loop
 Inv-loop after₀ list len i₀ after i =
-    ((1 ≤ i) × (i ≤ maxVertices)) × ((length after ≡ maxVertices) × (pointOn after (inner list len i) (getD list (len - 1) 0) ≡ pointOn after₀ (innerIn list len) (getD list (len - 1) 0)))
+    ((1 ≤ i) × (i ≤ capacity)) × ((length after ≡ capacity) × (pointOn after (inner list len i) (getD list (len - 1) 0) ≡ pointOn after₀ (innerIn list len) (getD list (len - 1) 0)))
 
 abbrev μ-loop : tie.MeasureT-loop
 μ-loop after₀ list len i₀ after i = len - i

@@ -1,15 +1,14 @@
 -- `build::reach` meets its contract: what is left of the way gives the same from here as from the start. Assumes nothing.
 use mathlib.Core.Path.{_≡_, refl, sym, _∙_}
 use borrow.Author.Needs.{needs}
-use Rattle.vertexset.specs.Set.{has}
-use Rattle.graph.specs.Plan.{maxVertices}
+use Rattle.vertexset.specs.Set.{has, capacity}
 use Rattle.build.specs.Ends.{reach}
 use Rattle.build.proofs.Ways.{reach-at, reach-on, reach-end}
 use Rattle.build.proofs.reach.Statement.{statement}
 use Rattle.build.proofs.reach.Tie as tie
 
 abbrev Inv-loop : tie.InvT-loop
-Inv-loop pointers branch v at₀ left₀ at left = reach pointers (has (branch .words)) left at ≡ reach pointers (has (branch .words)) maxVertices v
+Inv-loop pointers branch v at₀ left₀ at left = reach pointers (has (branch .words)) left at ≡ reach pointers (has (branch .words)) capacity v
 
 abbrev μ-loop : tie.MeasureT-loop
 μ-loop pointers branch v at₀ left₀ at left = left

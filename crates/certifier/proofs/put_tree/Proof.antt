@@ -5,7 +5,7 @@ use mathlib.Core.List.{List}
 use native.Mathlib.Omega.{arith}
 use lib.ListN.{length, getD, take, drop, length-set}
 use borrow.Author.Needs.{needs}
-use Rattle.construction.specs.Sets.{capacity}
+use Rattle.vertexset.specs.Set.{capacity}
 use Rattle.construction.specs.Certificate.{pairsFrom}
 use Rattle.search.proofs.Filling.{Filling}
 use Rattle.search.proofs.entry.Reads as entry-reads

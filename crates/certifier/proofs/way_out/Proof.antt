@@ -4,9 +4,9 @@ use mathlib.Core.Path.{_≡_, sym, ap, _∙_}
 use native.Mathlib.Omega.{arith}
 use borrow.Author.Needs.{needs}
 use lib.ListN.{length}
-use Rattle.vertexset.specs.Set.{wordCount}
+use Rattle.vertexset.specs.Set.{wordCount, capacity}
 use Rattle.graph.specs.Rows.{rowOf}
-use Rattle.construction.specs.Sets.{capacity, common, least}
+use Rattle.construction.specs.Sets.{common, least}
 use Rattle.construction.specs.Ears.{wayOut}
 use Rattle.search.proofs.Members.{listed, after}
 use Rattle.certifier.proofs.Ways.{next-up, way-begin, way-members, way-here, way-turn, way-end}

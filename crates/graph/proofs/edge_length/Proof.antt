@@ -3,13 +3,14 @@ use Prim.Native.Nat.{_/_, _%_}
 use borrow.Author.Needs.{needs}
 use native.Mathlib.Omega.{arith}
 use Rattle.record.proofs.Write.{few-bytes}
-use Rattle.graph.specs.Rows.{rowBits, pairAt}
+use Rattle.graph.specs.Rows.{pairAt}
 use Rattle.graph.proofs.Edges.{edge-bytes}
 use Rattle.graph.proofs.edge_length.Statement.{statement}
+use Rattle.vertexset.specs.Set.{capacity}
 use Rattle.graph.proofs.edge_length.Tie as tie
 
 add-result : tie.Need-add-result
-add-result c = let k = c .before .before .args .k in omega (arith, few-bytes (k / rowBits), few-bytes (k % rowBits))
+add-result c = let k = c .before .before .args .k in omega (arith, few-bytes (k / capacity), few-bytes (k % capacity))
 
 returns : tie.Need-returns
 returns c = omega (arith, edge-bytes (pairAt (c .before .before .args .k)))

@@ -3,16 +3,17 @@ use Prim.Native.Nat.{_≤_, _*_, _-_}
 use mathlib.Core.Path.{sym, _∙_}
 use native.Mathlib.Omega.{arith}
 use borrow.Author.Needs.{needs}
-use Rattle.graph.specs.Rows.{rowBits, pairAt}
+use Rattle.graph.specs.Rows.{pairAt}
 use Rattle.graph.proofs.Edges.{Counted, count-start, count-here, count-next, count-end, edge-short}
 use Rattle.graph.proofs.measure.Statement.{statement}
+use Rattle.vertexset.specs.Set.{capacity}
 use Rattle.graph.proofs.measure.Tie as tie
 
 abbrev Inv-loop : tie.InvT-loop
-Inv-loop rows n end edges₀ bytes₀ at₀ edges bytes at = (at ≤ n * rowBits) × (Counted rows n (n * rowBits) at edges bytes)
+Inv-loop rows n end edges₀ bytes₀ at₀ edges bytes at = (at ≤ n * capacity) × (Counted rows n (n * capacity) at edges bytes)
 
 abbrev μ-loop : tie.MeasureT-loop
-μ-loop rows n end edges₀ bytes₀ at₀ edges bytes at = n * rowBits - at
+μ-loop rows n end edges₀ bytes₀ at₀ edges bytes at = n * capacity - at
 
 loop-holds : tie.Need-loop-holds Inv-loop μ-loop
 loop-holds c = (omega arith, count-start _ _ _)

@@ -3,16 +3,16 @@ use Prim.Native.Nat.{_≤_, _*_, _-_}
 use mathlib.Core.Path.{sym, _∙_}
 use native.Mathlib.Omega.{arith}
 use borrow.Author.Needs.{needs}
-use Rattle.graph.specs.Rows.{rowBits}
+use Rattle.vertexset.specs.Set.{capacity}
 use Rattle.graph.proofs.Edges.{Putting, put-start, put-room, put-here, put-next, put-end}
 use Rattle.graph.proofs.put_edges.Statement.{statement}
 use Rattle.graph.proofs.put_edges.Tie as tie
 
 abbrev Inv-loop : tie.InvT-loop
-Inv-loop rows n out₀ from end next₀ at₀ out next at = (at ≤ n * rowBits) × (Putting rows n (n * rowBits) out₀ from at next out)
+Inv-loop rows n out₀ from end next₀ at₀ out next at = (at ≤ n * capacity) × (Putting rows n (n * capacity) out₀ from at next out)
 
 abbrev μ-loop : tie.MeasureT-loop
-μ-loop rows n out₀ from end next₀ at₀ out next at = n * rowBits - at
+μ-loop rows n out₀ from end next₀ at₀ out next at = n * capacity - at
 
 loop-holds : tie.Need-loop-holds Inv-loop μ-loop
 loop-holds c = (omega arith, put-start _ _ _)

@@ -5,7 +5,7 @@ use borrow.Author.Tests.{lt-ltb}
 use native.Mathlib.Omega.{arith}
 use Rattle.record.specs.Loop.{runs}
 use Rattle.record.proofs.Loops.{turn-go, turn-stop, turn-done}
-use Rattle.graph.specs.Plan.{maxVertices}
+use Rattle.vertexset.specs.Set.{capacity}
 use Rattle.graph.specs.Rows.{joined, bareRows}
 use Rattle.graph.specs.Code.{edgeLoop}
 use Rattle.graph.proofs.Reading.{joins-told, fault-told, edge-low}
@@ -34,7 +34,7 @@ loop-again c =
     let v = x .x .given .0 .1 .0 in
     let e = joins-told _ (x .x .given .1) (h .read-edge .ensures) in
     let l = edge-low _ _ _ _ e in
-    let j : c .join .last .0 ≡ joined (h .before .before .loop .rows) (u, v) = c .join .ensures ∙ rw (lt-ltb u maxVertices (omega arith), lt-ltb v maxVertices (omega arith)) in
+    let j : c .join .last .0 ≡ joined (h .before .before .loop .rows) (u, v) = c .join .ensures ∙ rw (lt-ltb u capacity (omega arith), lt-ltb v capacity (omega arith)) in
     turn-go _ _ _ (h .before .loop-test .taken) _ _ e refl j ∙ h .before .before .loop .inv
 
 returns-2 : tie.Need-returns-2 Inv-loop μ-loop

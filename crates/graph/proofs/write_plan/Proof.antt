@@ -59,7 +59,7 @@ put-edges-requires c κs =
     let x = y .before .before .before .before .before in
     let a = x .before .before .before .before .before .before .args in
     let m = ap (λ (s : Size). s .edges) (x .measure .ensures) in (
-      x .before .before .before .if2 .left,
+      omega (arith, x .before .before .before .if2 .left),
       edges-room (a .out .now) (a .t1) m (has-room (a .out .now) (a .t1) m (ap (λ (s : Size). s .bytes) (x .measure .ensures)) (y .before .number-length .ensures) (y .number-length2 .ensures) (p .before .before .if4 .left))
           (p .put-number .ensures) (q .put-number2 .ensures),
     )

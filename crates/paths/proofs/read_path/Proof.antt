@@ -4,7 +4,7 @@ use mathlib.Core.Path.{_∙_, sym, ap}
 use borrow.Author.Needs.{needs}
 use borrow.Author.Tests.{le-leb, lt-leb}
 use native.Mathlib.Omega.{arith}
-use Rattle.graph.specs.Plan.{maxVertices}
+use Rattle.vertexset.specs.Set.{capacity}
 use Rattle.paths.specs.Paths.{pathRead}
 use Rattle.paths.proofs.Told.{value-told, fault-told}
 use Rattle.paths.proofs.Reading.{ranged-low, path-length, path-first, path-rest}
@@ -50,7 +50,7 @@ returns-4 c =
     let a = k .before .before .before .args in
     let e = value-told _ (x .x .given .1) (k .read-ranged .ensures) in
     let two : 2 ≤ x .x .given .0 .0 = omega (arith, ranged-low (a .least) (a .n) _ _ e) in
-    let h : a .n ≤ maxVertices = omega arith in
+    let h : a .n ≤ capacity = omega arith in
     c .read-rest .ensures ∙ rw (le-leb _ _ h) (path-rest _ _ _ _ e two _ _ h (value-told _ (y .y .given .1) (y .before .before .read-vertex .ensures)))
 
 pub read-path-spec : {M : Type 1} → statement M

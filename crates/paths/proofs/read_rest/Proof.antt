@@ -7,8 +7,7 @@ use mathlib.Core.List.{List}
 use lib.ListN.{length, set, length-set}
 use Rattle.record.specs.Loop.{runs}
 use Rattle.record.proofs.Loops.{turn-start, turn-go, turn-stop, turn-done}
-use Rattle.vertexset.specs.Set.{has}
-use Rattle.graph.specs.Plan.{maxVertices}
+use Rattle.vertexset.specs.Set.{has, capacity}
 use Rattle.graph.specs.Rows.{adjacentIn}
 use Rattle.paths.specs.Code.{Walked, pathLoop, pathBegun}
 use Rattle.paths.specs.declared.Scan.{Scan}
@@ -21,7 +20,7 @@ walkedTo scan list i = record { scan = scan; list = list; i = i }
 
 abbrev Inv-loop : tie.InvT-loop
 Inv-loop s rows n old len first from list₀ scan₀ at₀ i₀ list scan at i =
-    (length list ≡ maxVertices)
+    (length list ≡ capacity)
     × (runs (pathLoop (adjacentIn rows) (has (old .words)) n len first) (len - i) tt (walkedTo scan list i) s at
     ≡ runs (pathLoop (adjacentIn rows) (has (old .words)) n len first) (len - 1) tt (pathBegun first) s from)
 

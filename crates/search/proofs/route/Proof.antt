@@ -2,7 +2,7 @@
 use native.Mathlib.Omega.{arith}
 use lib.ListN.{take, drop}
 use borrow.Author.Needs.{needs}
-use Rattle.construction.specs.Sets.{capacity}
+use Rattle.vertexset.specs.Set.{capacity}
 use Rattle.search.specs.Code.{routeIn}
 use Rattle.search.proofs.Back.{Going, going-first, going-end, going-seed, going-on}
 use Rattle.search.proofs.route.Statement.{statement}

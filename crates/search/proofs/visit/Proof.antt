@@ -3,7 +3,7 @@ use Prim.Native.Nat.{_-_}
 use mathlib.Core.Path.{sym, _∙_}
 use native.Mathlib.Omega.{arith}
 use borrow.Author.Needs.{needs}
-use Rattle.construction.specs.Sets.{capacity}
+use Rattle.vertexset.specs.Set.{capacity}
 use Rattle.search.specs.Code.{visitsIn}
 use Rattle.search.proofs.Visits.{Visiting, begun, now-length, head-low, goal-of, found, ended, again}
 use Rattle.search.proofs.visit.Statement.{statement}
