@@ -16,7 +16,8 @@ use Rattle.connectivity.specs.Graph.{Graph}
 use Rattle.connectivity.specs.Path.{Link as Path}
 use Rattle.certificates.specs.Tests.{allBelow, laterEnds}
 use Rattle.certificates.specs.Records.{vertex, branchFour}
-use Rattle.paths.specs.Items.{rowsGraph, limited}
+use Rattle.graph.specs.Rows.{rowsGraph}
+use Rattle.paths.specs.Items.{limited}
 use Rattle.paths.specs.declared.Item.the-variants.{Value, Fault}
 use Rattle.paths.proofs.Told.{end-told, end-fault}
 use Rattle.build.specs.declared.Build.{Build}

@@ -9,10 +9,10 @@ use Rattle.record.specs.Read.{Read, Read.Got, Read.Refused, Reader}
 use Rattle.record.specs.Loop.{Loop}
 use Rattle.vertexset.specs.Set.{has, emptySet, wordwise}
 use Rattle.vertexset.specs.declared.VertexSet.{VertexSet}
-use Rattle.graph.specs.Rows.{joinedRows}
+use Rattle.graph.specs.Rows.{joinedRows, rowsGraph}
 use Rattle.connectivity.specs.Path.{Link as Path}
 use Rattle.certificates.specs.Tests.{allBelow}
-use Rattle.paths.specs.Items.{rowsGraph, endRead, limited}
+use Rattle.paths.specs.Items.{endRead, limited}
 use Rattle.paths.specs.declared.PathRead.{PathRead}
 use Rattle.paths.specs.declared.Item.{Item}
 use Rattle.paths.specs.declared.Item.the-variants.{Value, Fault}

@@ -8,12 +8,13 @@ use Rattle.record.specs.Read.{Read, Read.Got, Read.Refused, ended}
 use Rattle.record.specs.declared.Answer.{Answer}
 use Rattle.record.specs.declared.Answer.the-variants.{Accepted, Grade, PlanFault, CertificateFault}
 use Rattle.vertexset.specs.Set.{has, emptySet}
-use Rattle.graph.specs.Plan.{Plan, plan}
-use Rattle.graph.specs.Rows.{graphOf, noGraph}
+use Rattle.reading.specs.Plan.{Plan, plan}
+use Rattle.reading.specs.Code.{graphOf}
+use Rattle.graph.specs.Rows.{noGraph, rowsGraph}
 use Rattle.graph.specs.declared.Graph.{Graph}
 use Rattle.connectivity.specs.Path.{Link as Path}
 use Rattle.certificates.specs.Tests.{allBelow}
-use Rattle.paths.specs.Items.{rowsGraph, limited}
+use Rattle.paths.specs.Items.{limited}
 use Rattle.paths.specs.declared.Item.{Item}
 use Rattle.paths.specs.declared.Item.the-variants.{Value, Fault}
 use Rattle.build.specs.declared.Session.{Session}

@@ -8,7 +8,8 @@ ghost use Rattle.record.specs.Loop.{runs};
 ghost use Rattle.vertexset.specs.Set.{has, capacity};
 ghost use Rattle.certificates.specs.Tests.{allBelow};
 ghost use Rattle.certificates.specs.Records.{vertex, branchFour};
-ghost use Rattle.paths.specs.Items.{itemRead, endRead, rowsGraph, limited};
+ghost use Rattle.paths.specs.Items.{itemRead, endRead, limited};
+ghost use Rattle.graph.specs.Rows.{rowsGraph};
 ghost use Rattle.build.specs.Ends.{reach, sameLink, linkEnd, additionOf, held};
 ghost use Rattle.build.specs.State.{endIn, linkedWithout, withoutBit, splitAt, splitBy, pointBack, pointOn, entered, pathTaken, buildPath, bareBuild, fourSet, startOn, startOf, buildStart, buildBody};
 ghost use Rattle.build.specs.Code.{innerIn, pathFault, buildIn, enteredFrom, Leaves, towards, noFour, fourRead, fourOf, noStart, startRead, startLoop, furtherLoop};
@@ -832,7 +833,7 @@ impl Session {
 pub fn open(plan: &[u8]) -> Opened
     ensures { λ r. ⌜ r ≡ opening (now (plan .entry)) ⌝ }
 {
-    let x = graph::read_plan(plan);
+    let x = reading::read_plan(plan);
     let answer = x.answer;
     let Answer::Accepted = answer else {
         let session = Session::none();

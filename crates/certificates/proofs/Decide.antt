@@ -11,7 +11,8 @@ use borrow.Author.Tests.{eqb-true, eq-eqb, leb-true, le-leb, ltb-true, lt-ltb}
 use Rattle.connectivity.specs.Lists.{In, NoDup, member}
 use Rattle.connectivity.specs.Path.{Link, Along, vertices}
 use Rattle.connectivity.proofs.Lists.{clash, or-true, true-or, and-true, member-in, in-member}
-use Rattle.certificates.specs.Tests.{someBelow, allBelow, anyLink, each, along, distinct, within}
+use Rattle.certificates.specs.Tests.{someBelow, allBelow, anyLink, each, along, distinct}
+use Rattle.record.specs.Read.{within}
 
 pub record Decides (b : Bool) (P : Type 0) : Type 0 where
   pub holds : b ≡ true → P

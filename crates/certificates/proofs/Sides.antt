@@ -6,14 +6,14 @@ use mathlib.Core.List.{List, [], _∷_}
 use mathlib.Core.Bool.{Bool}
 use native.Mathlib.Omega.{arith}
 use lib.ListN.{length}
-use Rattle.record.specs.Read.{Reader, Each, _needs⟨_⟩_}
+use Rattle.record.specs.Read.{Reader, Each, _needs⟨_⟩_, within}
 use Rattle.record.specs.Number.{number, numberBytes, numberLimit}
 use Rattle.record.proofs.Laws.{Reads, needs-law, counted-law, same-law, each-same}
 use Rattle.record.proofs.Groups.{number-law}
 use Rattle.connectivity.specs.Lists.{In, Ascending, member}
 use Rattle.connectivity.specs.Graph.{Graph, Remaining}
 use Rattle.connectivity.specs.Certificate.{Separation}
-use Rattle.certificates.specs.Tests.{nobody, with, within, rest}
+use Rattle.certificates.specs.Tests.{nobody, with, rest}
 use Rattle.certificates.specs.Records.{vertex, sideVertex, side}
 use Rattle.certificates.specs.Encoding.{sideBytes}
 use Rattle.certificates.proofs.Decide.{Decides, decide-same, decide-test, decide-false, decide-and, decide-or, decide-not, decide-equal, decide-less, decide-most, decide-within, decide-some, decide-all, decide-member}

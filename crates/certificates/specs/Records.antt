@@ -3,14 +3,14 @@ use Prim.Native.Nat.{ℕ, zero, suc, _+_, _-_}
 use mathlib.Core.List.{List, [], _∷_}
 use mathlib.Core.Bool.{Bool, not, _||_}
 use lib.Dec.{ltb, leb}
-use Rattle.record.specs.Read.{Read.Refused, Reader, _needs⟨_⟩_, _▸_, _▹_, into, many, counted, check, folded}
+use Rattle.record.specs.Read.{Read.Refused, Reader, _needs⟨_⟩_, _▸_, _▹_, into, many, counted, check, folded, within}
 use Rattle.record.specs.Number.{number}
 use Rattle.connectivity.specs.Lists.{member}
 use Rattle.connectivity.specs.Graph.{Graph, edgeCount}
 use Rattle.connectivity.specs.Path.{Link, link}
 use Rattle.connectivity.specs.Build.{four, sixPairs, taken, final}
 use Rattle.connectivity.specs.Certificate.{Certificate, Certificate.separation, Certificate.tree, Certificate.ears, Certificate.build}
-use Rattle.certificates.specs.Tests.{within, nobody, with, allBelow, bothHold, noEdgeBetween, pathAlong, pathNew, earAlong, earEnds, earNew, earTaken, Start, startEnds, startTaken, isBranch, inBuild, endsIn, endsApart}
+use Rattle.certificates.specs.Tests.{nobody, with, allBelow, bothHold, noEdgeBetween, pathAlong, pathNew, earAlong, earEnds, earNew, earTaken, Start, startEnds, startTaken, isBranch, inBuild, endsIn, endsApart}
 
 -- 9: a vertex below n
 unfoldable pub vertex : ℕ → Reader ℕ

@@ -7,9 +7,6 @@ use Rattle.connectivity.specs.Lists.{member}
 use Rattle.connectivity.specs.Graph.{Graph}
 use Rattle.connectivity.specs.Path.{Link, vertices}
 
-abbrev pub within : ℕ → ℕ → ℕ → Bool
-within least most k = leb least k && leb k most
-
 -- vertex sets as tests
 abbrev pub nobody : ℕ → Bool
 nobody v = false

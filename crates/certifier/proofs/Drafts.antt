@@ -17,10 +17,10 @@ use Rattle.record.specs.declared.Answer.{Answer}
 use Rattle.record.specs.declared.Answer.the-variants.{Accepted, Grade, PlanFault, CertificateFault}
 use Rattle.record.proofs.Answer.{the-type}
 use Rattle.record.proofs.Write.{some-bytes, overwritten-none}
-use Rattle.graph.specs.Code.{wholePlan}
+use Rattle.reading.specs.Code.{wholePlan}
 use Rattle.graph.specs.declared.Graph.{Graph}
-use Rattle.graph.specs.declared.PlanRead.{PlanRead}
-use Rattle.graph.proofs.Plans.{accepted}
+use Rattle.reading.specs.declared.PlanRead.{PlanRead}
+use Rattle.reading.proofs.Plans.{accepted}
 use Rattle.certificates.proofs.Accepted.{kind-low}
 use Rattle.vertexset.specs.Set.{capacity}
 use Rattle.construction.specs.Certificate.{certificateNumbers}

@@ -7,7 +7,7 @@ use lib.ListN.{length, getD}
 use Rattle.record.specs.Write.{overwritten}
 use Rattle.record.specs.declared.Answer.{Answer}
 use Rattle.record.specs.declared.Answer.the-variants.{Accepted, Grade, PlanFault, CertificateFault}
-use Rattle.graph.specs.Code.{wholePlan}
+use Rattle.reading.specs.Code.{wholePlan}
 use Rattle.graph.specs.declared.Graph.{Graph}
 use Rattle.search.specs.Arrays.{padded}
 use Rattle.construction.specs.Certificate.{certificateNumbers, certificateRecord, certificateRoom}

@@ -7,7 +7,7 @@ ghost use lib.ListN.{length, take, drop, getD};
 ghost use Rattle.record.specs.Number.{numberBytes, listBytes};
 ghost use Rattle.record.specs.Write.{overwritten};
 ghost use Rattle.vertexset.specs.Set.{emptySet, capacity};
-ghost use Rattle.graph.specs.Plan.{maxEdges};
+ghost use Rattle.graph.specs.Limits.{maxEdges};
 ghost use Rattle.graph.specs.Rows.{bareRows};
 ghost use Rattle.search.specs.Arrays.{placed, placedEnd};
 ghost use Rattle.search.specs.Code.{pathOf, pathRoom, searchSpace};
@@ -1157,7 +1157,7 @@ fn no_draft(answer: Answer) -> Draft
 fn decide(plan: &[u8], room: usize) -> Draft
     ensures { λ r. ⌜ r ≡ draftFrom (now (plan .entry)) room ⌝ }
 {
-    let p = graph::read_plan(plan);
+    let p = reading::read_plan(plan);
     let answer = p.answer;
     let Answer::Accepted = answer else {
         return no_draft(answer);

@@ -15,16 +15,16 @@ use Rattle.record.specs.declared.Answer.the-variants.{Accepted, Grade, PlanFaul
 use Rattle.record.proofs.Laws.{Spans, Spans.none, Spans.more, on-got, carry, ended-there}
 use Rattle.connectivity.specs.Graph.{Graph, edgeCount}
 use Rattle.connectivity.specs.Certificate.{Certificate, kind}
-use Rattle.graph.specs.Plan.{Plan, Allowed, plan}
-use Rattle.graph.specs.Rows.{graphOf}
-use Rattle.graph.specs.Code.{planRead, wholePlan, leadingPlan}
-use Rattle.graph.specs.declared.PlanRead.{PlanRead}
+use Rattle.reading.specs.Plan.{Plan, Allowed, plan}
+use Rattle.reading.specs.Code.{graphOf, planRead, wholePlan, leadingPlan}
+use Rattle.reading.specs.declared.PlanRead.{PlanRead}
 use Rattle.graph.specs.declared.Graph.{Graph as Built}
-use Rattle.graph.proofs.Plans.{plan-law}
+use Rattle.reading.proofs.Plans.{plan-law}
 use Rattle.connectivity.proofs.Edges.{fromEdges-count}
-use Rattle.graph.proofs.Adjacency.{network-listed, edge-list}
+use Rattle.reading.proofs.Adjacency.{graph-listed, edge-list}
 use Rattle.certificates.specs.Records.{body, certificate}
-use Rattle.paths.specs.Items.{endRead, limited, rowsGraph}
+use Rattle.paths.specs.Items.{endRead, limited}
+use Rattle.graph.specs.Rows.{rowsGraph}
 use Rattle.build.specs.State.{buildBody}
 use Rattle.refinement.proofs.Kind3.{kind-3}
 use Rattle.checker.specs.Check.{planGraph, onCertificate, certificateAnswer, onPlan, checkOf, onLeading, gradeOf}
@@ -106,7 +106,7 @@ module _ (p : Plan) (a : Allowed p) where
   unfolding certificateAnswer graphOf
   plan-answer s =
       let count : edgeCount (planGraph p) ≡ length (p .edges) = fromEdges-count (p .n) (p .edges) (edge-list p a) in
-      ap (λ (g : Graph). rowsAnswer g (length (p .edges)) s) (network-listed p a) ∙ ap (λ (m : ℕ). rowsAnswer (planGraph p) m s) (sym count) ∙ rows-answer (planGraph p) (fits-table p a) s
+      ap (λ (g : Graph). rowsAnswer g (length (p .edges)) s) (graph-listed p a) ∙ ap (λ (m : ℕ). rowsAnswer (planGraph p) m s) (sym count) ∙ rows-answer (planGraph p) (fits-table p a) s
 
 -- the code's steps: the body by its kind
 module _ (g : Graph) (m : ℕ) (s : List ℕ) (at : ℕ) where

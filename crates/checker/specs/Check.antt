@@ -7,7 +7,7 @@ use Rattle.record.specs.declared.Answer.{Answer}
 use Rattle.record.specs.declared.Answer.the-variants.{Grade, PlanFault, CertificateFault}
 use Rattle.connectivity.specs.Graph.{Graph, fromEdges}
 use Rattle.connectivity.specs.Certificate.{Certificate, kind}
-use Rattle.graph.specs.Plan.{Plan, plan}
+use Rattle.reading.specs.Plan.{Plan, plan}
 use Rattle.certificates.specs.Records.{certificate}
 use Rattle.checker.specs.declared.Graded.{Graded}
 

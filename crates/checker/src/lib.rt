@@ -4,7 +4,7 @@ ghost use Prim.Native.Nat.{_≤_, _<_, _-_, _+_};
 ghost use mathlib.Core.Bool.{_||_};
 ghost use lib.Dec.{ltb, leb};
 ghost use Rattle.vertexset.specs.Set.{capacity};
-ghost use Rattle.paths.specs.Items.{rowsGraph};
+ghost use Rattle.graph.specs.Rows.{rowsGraph};
 ghost use Rattle.checker.specs.Check.{checkOf, gradeOf};
 ghost use Rattle.checker.specs.Code.{bodyEnd, onEnd, rowsAnswer};
 use graph::Graph;
@@ -102,7 +102,7 @@ fn check_certificate<'a>(s: &'a [u8], rows: &'a [u64; Graph::ROW_WORDS], n: u16,
 pub fn check(plan: &[u8], certificate: &[u8]) -> Answer
     ensures { λ r. ⌜ r ≡ checkOf (now (plan .entry)) (now (certificate .entry)) ⌝ }
 {
-    let read = graph::read_plan(plan);
+    let read = reading::read_plan(plan);
     let answer = read.answer;
     let found = read.graph;
     match answer {
@@ -117,7 +117,7 @@ pub fn check(plan: &[u8], certificate: &[u8]) -> Answer
 pub fn grade(input: &[u8]) -> Graded
     ensures { λ r. ⌜ r ≡ gradeOf (now (input .entry)) ⌝ }
 {
-    let read = graph::read_leading_plan(input);
+    let read = reading::read_leading_plan(input);
     let answer = read.answer;
     let found = read.graph;
     let next = read.next;

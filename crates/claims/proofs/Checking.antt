@@ -15,9 +15,9 @@ use Rattle.connectivity.proofs.Closure.{connectivity-is}
 use Rattle.connectivity.proofs.Soundness.{kind-connectivity}
 use Rattle.connectivity.proofs.Main.{edges-once}
 use Rattle.connectivity.proofs.Additions.{bg-sequence}
-use Rattle.graph.specs.Plan.{Plan, Allowed, plan, planBytes}
-use Rattle.graph.proofs.Plans.{plan-law}
-use Rattle.graph.proofs.Adjacency.{edge-list}
+use Rattle.reading.specs.Plan.{Plan, Allowed, plan, planBytes}
+use Rattle.reading.proofs.Plans.{plan-law}
+use Rattle.reading.proofs.Adjacency.{edge-list}
 use Rattle.certificates.specs.Records.{certificate}
 use Rattle.certificates.proofs.Accepted.{accepted-there, accepted-back}
 use Rattle.checker.specs.Check.{planGraph, onCertificate, certificateAnswer, onPlan, checkOf}

@@ -14,12 +14,11 @@ use Rattle.record.proofs.Laws.{ended-there}
 use Rattle.connectivity.specs.Graph.{Graph}
 use Rattle.connectivity.specs.Connectivity.{connectivity}
 use Rattle.connectivity.specs.Certificate.{Rules}
-use Rattle.graph.specs.Plan.{Plan, Allowed, plan, planBytes}
-use Rattle.graph.specs.Rows.{graphOf}
-use Rattle.graph.specs.Code.{wholePlan, planRead}
-use Rattle.graph.specs.declared.PlanRead.{PlanRead}
-use Rattle.graph.proofs.Plans.{plan-law, accepted, accepts, injective}
-use Rattle.graph.proofs.Adjacency.{network-listed}
+use Rattle.reading.specs.Plan.{Plan, Allowed, plan, planBytes}
+use Rattle.reading.specs.Code.{graphOf, wholePlan, planRead}
+use Rattle.reading.specs.declared.PlanRead.{PlanRead}
+use Rattle.reading.proofs.Plans.{plan-law, accepted, accepts, injective}
+use Rattle.reading.proofs.Adjacency.{graph-listed}
 use Rattle.construction.proofs.PlanLaws.{plan-drawn, plan-edges}
 use Rattle.construction.proofs.CertificateLaws as construction
 use Rattle.construction.proofs.CertificateLaws.{certified}
@@ -44,7 +43,7 @@ module _ (p : Plan) (a : Allowed p) where
   its = certified (graphOf p .rows) (graphOf p .n) (plan-drawn p a) (plan-edges p a)
 
   its-rules : Rules (planGraph p) (its .certificate)
-  its-rules = subst (λ (g : Graph). Rules g (its .certificate)) (network-listed p a) (its .rules)
+  its-rules = subst (λ (g : Graph). Rules g (its .certificate)) (graph-listed p a) (its .rules)
 
   pub made-accepted : checkOf (planBytes p) (certificateOf (graphOf p)) ≡ Grade (gradeMade (graphOf p))
   made-accepted = certified-grade (planBytes p) (certificateOf (graphOf p)) (gradeMade (graphOf p))

@@ -9,8 +9,8 @@ use Rattle.record.specs.Read.{Read, Read.Got, Read.Refused, Bytes}
 use Rattle.record.specs.declared.Answer.the-variants.{Grade}
 use Rattle.record.proofs.Laws.{ended-back}
 use Rattle.record.proofs.Parts.{leads-there, leads-back}
-use Rattle.graph.specs.Plan.{Plan, Allowed, plan, planBytes}
-use Rattle.graph.proofs.Plans.{plan-law}
+use Rattle.reading.specs.Plan.{Plan, Allowed, plan, planBytes}
+use Rattle.reading.proofs.Plans.{plan-law}
 use Rattle.checker.specs.Check.{checkOf, onLeading, gradeOf}
 use Rattle.checker.specs.declared.Graded.{Graded}
 use Rattle.claims.specs.Certified.{IsGrade}

@@ -19,17 +19,18 @@ use Rattle.connectivity.specs.Certificate.{Certificate.build}
 use Rattle.connectivity.proofs.Edges.{fromEdges-count}
 use Rattle.connectivity.proofs.Steps.{final-append, steps-append}
 use Rattle.connectivity.proofs.Soundness.{kind-connectivity}
-use Rattle.graph.specs.Plan.{Plan, Allowed, plan}
-use Rattle.graph.specs.Rows.{graphOf}
+use Rattle.reading.specs.Plan.{Plan, Allowed, plan}
+use Rattle.reading.specs.Code.{graphOf}
 use Rattle.graph.specs.declared.Graph.{Graph as RowGraph}
-use Rattle.graph.proofs.Plans.{plan-law}
-use Rattle.graph.proofs.Adjacency.{edge-list, network-listed}
+use Rattle.reading.proofs.Plans.{plan-law}
+use Rattle.reading.proofs.Adjacency.{edge-list, graph-listed}
 use Rattle.certificates.specs.Tests.{allBelow, isBranch}
 use Rattle.certificates.specs.Records.{start as readStart, furtherPath}
 use Rattle.certificates.proofs.Decide.{decide-all}
 use Rattle.certificates.proofs.Paths.{further-path-law}
 use Rattle.certificates.proofs.Items.{decide-branch, start-law}
-use Rattle.paths.specs.Items.{rowsGraph, limited}
+use Rattle.graph.specs.Rows.{rowsGraph}
+use Rattle.paths.specs.Items.{limited}
 use Rattle.build.specs.declared.Session.{Session}
 use Rattle.build.specs.declared.Opened.{Opened}
 use Rattle.build.specs.declared.Stepped.{Stepped}
@@ -136,7 +137,7 @@ module _ (p : Plan) (al : Allowed p) where
   -- the session's rows stand for the plan's graph, which is within the limit
   rows-read : {A : Type 0} (R : Graph → Reader A) (part : List ℕ) → limited (graphOf p .n) (R (rowsGraph (graphOf p .n) (graphOf p .rows))) part 0 ≡ R (planGraph p) part 0
   unfolding graphOf
-  rows-read R part = rw (le-leb (p .n) capacity (omega (arith, al .most))) (ap (λ (g : Graph). R g part 0) (network-listed p al))
+  rows-read R part = rw (le-leb (p .n) capacity (omega (arith, al .most))) (ap (λ (g : Graph). R g part 0) (graph-listed p al))
 
   -- A START: it is read as a certificate's start is, and the build then shows its paths
   pub start-step : (part : List ℕ) → startStep (openedOn (graphOf p)) part ≡ onStart (openedOn (graphOf p)) (readStart (planGraph p) part 0)

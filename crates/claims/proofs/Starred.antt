@@ -3,7 +3,7 @@ use mathlib.Core.Path.{_≡_, refl}
 use mathlib.Core.List.{_++_}
 use Rattle.record.specs.Read.{_needs⟨_⟩_, _▸_, _▹_, into, many, check, ended, folded}
 use Rattle.record.specs.Number.{number, numberIn, higherGroups}
-use Rattle.graph.specs.Plan.{edge, plan}
+use Rattle.reading.specs.Plan.{edge, plan}
 use Rattle.certificates.specs.Tests.{someBelow, allBelow, anyLink, each, along, distinct}
 use Rattle.certificates.specs.Records.{vertex, sideVertex, side, pair, vertexList, path, ear, startPath, furtherPath, branchFour, start, certificate}
 use Rattle.checker.specs.Check.{checkOf, certificateAnswer, gradeOf}

@@ -9,7 +9,7 @@ use Rattle.connectivity.specs.Build.{EachEdgeOnce}
 use Rattle.connectivity.specs.TopologicalGraph.{BGSequence, complete, listedGraph}
 use Rattle.connectivity.specs.Certificate.{Certificate, kind, Rules}
 use Rattle.certificates.specs.Encoding.{certificateBytes}
-use Rattle.graph.specs.Plan.{Plan, Allowed, planBytes}
+use Rattle.reading.specs.Plan.{Plan, Allowed, planBytes}
 use Rattle.checker.specs.Check.{planGraph}
 
 -- P is the record of a plan that Records allows

@@ -8,7 +8,7 @@ use lib.ListN.{length}
 use Rattle.vertexset.specs.Set.{has, wordCount, capacity}
 use Rattle.vertexset.specs.declared.VertexSet.{VertexSet}
 use Rattle.vertexset.proofs.Laws.{Words}
-use Rattle.graph.specs.Rows.{adjacentIn, rowWords}
+use Rattle.graph.specs.Rows.{adjacentIn, rowWords, rowsGraph}
 use Rattle.connectivity.specs.Graph.{Graph, Simple}
 use Rattle.connectivity.specs.Path.{Link, vertices}
 use Rattle.connectivity.proofs.Lists.{rev}
@@ -18,15 +18,11 @@ use Rattle.construction.specs.Sets.{stop, members}
 use Rattle.construction.specs.Search.{explore, isFound, route, reached}
 use Rattle.construction.specs.Ears.{Cut, isCut}
 
--- the graph of n vertices with these rows
-abbrev pub drawnGraph : List ℕ → ℕ → Graph
-drawnGraph rows n = record { n = n; adj = adjacentIn rows }
-
 pub record Drawn (rows : List ℕ) (n : ℕ) : Type 0 where
   pub words : Words rows
   pub size : length rows ≡ rowWords
   pub low : n ≤ capacity
-  pub simple : Simple (drawnGraph rows n)
+  pub simple : Simple (rowsGraph n rows)
 
 -- a set of as many words as a vertex set has
 pub record Sized (s : VertexSet) : Type 0 where
@@ -44,7 +40,7 @@ pub record IsCut (rows : List ℕ) (n : ℕ) (c : Cut) : Type 0 where
   pub low : (w : ℕ) → On (c .removed) w → w < n
   pub side-low : (w : ℕ) → On (c .side) w → w < n
   pub few : length (members (c .removed)) ≤ 2
-  pub separated : Separated (drawnGraph rows n) (members (c .removed))
+  pub separated : Separated (rowsGraph n rows) (members (c .removed))
   pub same-side : separated .side ≡ has (c .side .words)
 
 -- paths one after the other, a stop before each
@@ -65,13 +61,13 @@ pub record Asked (n : ℕ) (seeds goals removed : VertexSet) : Type 0 where
 -- WHAT IT ANSWERS: a path, listed from its goal to its seed; or a closed set
 pub record Met (rows : List ℕ) (n : ℕ) (seeds goals removed : VertexSet) : Type 0 where
   pub is-found : isFound (explore rows seeds goals removed) ≡ true
-  pub found : searching.Found (drawnGraph rows n) (On seeds) (On goals) (On removed)
+  pub found : searching.Found (rowsGraph n rows) (On seeds) (On goals) (On removed)
   pub same : route (explore rows seeds goals removed) ≡ rev (vertices (found .path))
 
 pub record Shut (rows : List ℕ) (n : ℕ) (seeds goals removed : VertexSet) : Type 0 where
   pub not-found : isFound (explore rows seeds goals removed) ≡ false
   pub sized : Sized (explore rows seeds goals removed .shut)
-  pub closed : searching.Closed (drawnGraph rows n) (On seeds) (On goals) (On removed)
+  pub closed : searching.Closed (rowsGraph n rows) (On seeds) (On goals) (On removed)
   pub same : closed .side ≡ has (reached (explore rows seeds goals removed) removed .words)
   pub low : (w : ℕ) → On (reached (explore rows seeds goals removed) removed) w → w < n
 

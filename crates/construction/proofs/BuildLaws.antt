@@ -9,7 +9,7 @@ use lib.Dec.{ltb}
 use lib.ListN.{length, take, length-append, drop-of-length-le}
 use lib.Seq.{take-all, take-at}
 use borrow.Author.Tests.{lt-ltb, le-ltb}
-use Rattle.graph.specs.Plan.{maxEdges}
+use Rattle.graph.specs.Limits.{maxEdges}
 use Rattle.connectivity.specs.Lists.{In}
 use Rattle.connectivity.specs.Graph.{Adj, edgeCount}
 use Rattle.connectivity.specs.Path.{Link, usedEdges}
@@ -23,7 +23,8 @@ use Rattle.construction.specs.Sets.{members}
 use Rattle.construction.specs.Start.{Begun}
 use Rattle.construction.specs.Steps.{State, linkStep, outStep, innerPlace, step, steps, firstState, build}
 use Rattle.construction.specs.Certificate.{fullSet}
-use Rattle.construction.proofs.Basics.{drawnGraph, Drawn, Sized, On, IsCut, flatten}
+use Rattle.graph.specs.Rows.{rowsGraph}
+use Rattle.construction.proofs.Basics.{Drawn, Sized, On, IsCut, flatten}
 use Rattle.construction.proofs.SetLaws.{sized-empty, sized-all, set-on, on-set, members-in, in-members}
 use Rattle.construction.proofs.Flat.{newestFirst}
 use Rattle.construction.proofs.Finding.{front-low, end-high}
@@ -44,7 +45,7 @@ still m u v f h k = omega arith
 enough : (m u : ℕ) → m ≤ maxEdges → m < u + (maxEdges + 1)
 enough m u h = omega arith
 
-module _ (rows : List ℕ) (n : ℕ) (dr : Drawn rows n) (few : edgeCount (drawnGraph rows n) ≤ maxEdges) (ms : List Link) where
+module _ (rows : List ℕ) (n : ℕ) (dr : Drawn rows n) (few : edgeCount (rowsGraph n rows) ≤ maxEdges) (ms : List Link) where
   -- ONE STEP
   module _ (ps : List Link) (st : State) (go : Going rows n ms ps st) where
     abbrev Step : State → Type 0
@@ -79,13 +80,13 @@ module _ (rows : List ℕ) (n : ℕ) (dr : Drawn rows n) (few : edgeCount (drawn
   abbrev Outcome : State → Type 0
   Outcome st = Completed rows n ms st ⊎ IsCut rows n (st .cutBy)
 
-  steps-law : (f : ℕ) (ps : List Link) (st : State) → Going rows n ms ps st → edgeCount (drawnGraph rows n) < length (usedEdges (newestFirst ps)) + f → Outcome (steps rows (fullSet n) f st)
+  steps-law : (f : ℕ) (ps : List Link) (st : State) → Going rows n ms ps st → edgeCount (rowsGraph n rows) < length (usedEdges (newestFirst ps)) + f → Outcome (steps rows (fullSet n) f st)
   unfolding steps
-  steps-law zero ps st go h = absurd (spent (edgeCount (drawnGraph rows n)) (length (usedEdges (newestFirst ps))) (recorded-most (drawnGraph rows n) (dr .simple) (newestFirst ps) (go .recorded)) h)
+  steps-law zero ps st go h = absurd (spent (edgeCount (rowsGraph n rows)) (length (usedEdges (newestFirst ps))) (recorded-most (rowsGraph n rows) (dr .simple) (newestFirst ps) (go .recorded)) h)
   steps-law (suc f) ps st go h = subst (λ (b : Bool). Outcome (cond b (steps rows (fullSet n) f (step rows (fullSet n) st)) st)) (sym (go .goes-on)) (next (step rows (fullSet n) st) (step-law ps st go) (λ qs s. steps-law f qs s))
     where
-      next : (s : State) → Stepped rows n ms (length (usedEdges (newestFirst ps))) s → ((qs : List Link) (s : State) → Going rows n ms qs s → edgeCount (drawnGraph rows n) < length (usedEdges (newestFirst qs)) + f → Outcome (steps rows (fullSet n) f s)) → Outcome (steps rows (fullSet n) f s)
-      next s (goes qs g more) rest = rest qs s g (still (edgeCount (drawnGraph rows n)) (length (usedEdges (newestFirst ps))) (length (usedEdges (newestFirst qs))) f more h)
+      next : (s : State) → Stepped rows n ms (length (usedEdges (newestFirst ps))) s → ((qs : List Link) (s : State) → Going rows n ms qs s → edgeCount (rowsGraph n rows) < length (usedEdges (newestFirst qs)) + f → Outcome (steps rows (fullSet n) f s)) → Outcome (steps rows (fullSet n) f s)
+      next s (goes qs g more) rest = rest qs s g (still (edgeCount (rowsGraph n rows)) (length (usedEdges (newestFirst ps))) (length (usedEdges (newestFirst qs))) f more h)
       next s (ends e r) rest = subst Outcome (sym (steps-stopped f s e)) (inl r)
       next s (cuts e c) rest = subst Outcome (sym (steps-stopped f s e)) (inr c)
 
@@ -110,15 +111,15 @@ recorded-start : (E : ℕ → ℕ → Type 0) (ms : List Link) → Subdivision E
 recorded-start E [] x = absurd (omega (arith, start-six E [] x))
 recorded-start E (P ∷ ms) x = inl x
 
-first-going : (rows : List ℕ) (n : ℕ) (b : Begun) (ms : List Link) (x : Subdivision (Adj (drawnGraph rows n)) ms) → b .flat ≡ flatten ms → members (b .four) ≡ theFour x → Sized (b .four) → Going rows n ms ms (firstState b)
+first-going : (rows : List ℕ) (n : ℕ) (b : Begun) (ms : List Link) (x : Subdivision (Adj (rowsGraph n rows)) ms) → b .flat ≡ flatten ms → members (b .four) ≡ theFour x → Sized (b .four) → Going rows n ms ms (firstState b)
 first-going rows n b ms x flat four sized = record {
-  recorded = subst (λ (k : List Link). Recorded (Adj (drawnGraph rows n)) k) (sym start) (recorded-start (Adj (drawnGraph rows n)) ms x);
-  six = start-six (Adj (drawnGraph rows n)) ms x;
-  ends = ap endPairs (take-all 6 ms (six-paths (Adj (drawnGraph rows n)) ms x));
+  recorded = subst (λ (k : List Link). Recorded (Adj (rowsGraph n rows)) k) (sym start) (recorded-start (Adj (rowsGraph n rows)) ms x);
+  six = start-six (Adj (rowsGraph n rows)) ms x;
+  ends = ap endPairs (take-all 6 ms (six-paths (Adj (rowsGraph n rows)) ms x));
   same-flat = flat;
   branch-sized = sized;
   built-sized = sized-all _ (b .flat) sized-empty;
-  branch-on = λ w h. subst (λ (k : List Link). In w (branchVertices k)) (sym start) (four-branch (Adj (drawnGraph rows n)) ms x w (subst (λ (l : List ℕ). In w l) four (in-members (b .four) w sized h)));
+  branch-on = λ w h. subst (λ (k : List Link). In w (branchVertices k)) (sym start) (four-branch (Adj (rowsGraph n rows)) ms x w (subst (λ (l : List ℕ). In w l) four (in-members (b .four) w sized h)));
   on-branch = λ w h. members-in (b .four) w (subst (λ (l : List ℕ). In w l) (sym four) (of w (branch-in ms w (subst (λ (k : List Link). In w (branchVertices k)) start h))));
   built-on = λ w h. set-on (b .flat) w h;
   on-built = λ w h k. on-set (b .flat) w k h;
@@ -128,16 +129,16 @@ first-going rows n b ms x flat four sized = record {
 }
   where
     start : newestFirst ms ≡ ms
-    start = newest-start (Adj (drawnGraph rows n)) ms x
+    start = newest-start (Adj (rowsGraph n rows)) ms x
 
     of : (w : ℕ) → IsBranch w ms → In w (theFour x)
-    of w r = end-start (Adj (drawnGraph rows n)) (theFour x) ms (x .paths) (r .0) (r .1) w (r .2)
+    of w r = end-start (Adj (rowsGraph n rows)) (theFour x) ms (x .paths) (r .0) (r .1) w (r .2)
 
 -- THE BUILD
 abbrev pub Built : List ℕ → ℕ → Begun → List Link → Type 0
 Built rows n b ms = Completed rows n ms (build rows (fullSet n) b)
 
-pub build-law : (rows : List ℕ) (n : ℕ) → Drawn rows n → edgeCount (drawnGraph rows n) ≤ maxEdges → (b : Begun) → (ms : List Link) (x : Subdivision (Adj (drawnGraph rows n)) ms)
+pub build-law : (rows : List ℕ) (n : ℕ) → Drawn rows n → edgeCount (rowsGraph n rows) ≤ maxEdges → (b : Begun) → (ms : List Link) (x : Subdivision (Adj (rowsGraph n rows)) ms)
     → b .flat ≡ flatten ms → members (b .four) ≡ theFour x → Sized (b .four) → Built rows n b ms ⊎ IsCut rows n (build rows (fullSet n) b .cutBy)
 unfolding build
-build-law rows n dr few b ms x flat four sized = steps-law rows n dr few ms (maxEdges + 1) ms (firstState b) (first-going rows n b ms x flat four sized) (enough (edgeCount (drawnGraph rows n)) (length (usedEdges (newestFirst ms))) few)
+build-law rows n dr few b ms x flat four sized = steps-law rows n dr few ms (maxEdges + 1) ms (firstState b) (first-going rows n b ms x flat four sized) (enough (edgeCount (rowsGraph n rows)) (length (usedEdges (newestFirst ms))) few)

@@ -7,7 +7,7 @@ use native.Mathlib.Omega.{arith}
 use lib.ListN.{length, getD, take, drop, length-append, length-drop, take-append-drop}
 use lib.Seq.{length-take-le}
 use Rattle.record.specs.Number.{numberBytes, listBytes}
-use Rattle.graph.specs.Plan.{maxEdges}
+use Rattle.graph.specs.Limits.{maxEdges}
 use Rattle.certificates.specs.Encoding.{pathBytes, certificateBytes}
 use Rattle.connectivity.specs.Lists.{In, select, below}
 use Rattle.connectivity.specs.Graph.{Graph, Simple, Adj, edgeCount, edgesBelow, withHigher}

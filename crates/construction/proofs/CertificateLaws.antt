@@ -8,7 +8,7 @@ use native.Mathlib.Omega.{arith}
 use lib.ListN.{length, getD}
 use borrow.Author.Tests.{lt-ltb, le-ltb}
 use Rattle.vertexset.specs.Set.{has, emptySet, count}
-use Rattle.graph.specs.Plan.{maxEdges}
+use Rattle.graph.specs.Limits.{maxEdges}
 use Rattle.certificates.specs.Encoding.{certificateBytes}
 use Rattle.connectivity.specs.Lists.{In, Ascending, select, below}
 use Rattle.connectivity.specs.Graph.{Graph, edgeCount}
@@ -24,7 +24,8 @@ use Rattle.construction.specs.Ears.{Cut, cut, noCut, Eared, ears, pathSp
 use Rattle.construction.specs.Start.{begin}
 use Rattle.construction.specs.Steps.{build, finish}
 use Rattle.construction.specs.Certificate.{certificateRoom, lengthened, pairsFrom, evidence, sideNumbers, cutNumbers, buildNumbers, chosen, cutCertificate, buildCertificate, begunCertificate, fullSet, certificateNumbers, certificateRecord}
-use Rattle.construction.proofs.Basics.{drawnGraph, Drawn, IsCut}
+use Rattle.graph.specs.Rows.{rowsGraph}
+use Rattle.construction.proofs.Basics.{Drawn, IsCut}
 use Rattle.construction.proofs.SetLaws.{sized-empty, empty-on, members-in, members-nodup, members-ascending, members-count, members-same}
 use Rattle.construction.proofs.SpanningTree.{treeOf, pairsOf, pairNumbers, tree-numbers, tree-of, tree-count, tree-cut, tree-numbers-low}
 use Rattle.construction.proofs.Detours.{OneCut, low-capacity}
@@ -47,7 +48,7 @@ two-of k c e h = omega arith
 
 module _ (rows : List ℕ) (n : ℕ) (d : Drawn rows n) where
   abbrev g : Graph
-  g = drawnGraph rows n
+  g = rowsGraph n rows
 
   -- THE SIDE OF A CUT, as it is written
   side-of : (c : Cut) → IsCut rows n c → Separation g (members (c .removed)) (members (c .side))
@@ -188,12 +189,12 @@ module _ (rows : List ℕ) (n : ℕ) (d : Drawn rows n) where
 -- THE THEOREM
 pub record Certified (rows : List ℕ) (n : ℕ) : Type 0 where
   pub certificate : Certificate
-  pub rules : Rules (drawnGraph rows n) certificate
+  pub rules : Rules (rowsGraph n rows) certificate
   pub grade : getD (certificateNumbers rows n) 0 0 ≡ kind certificate
   pub bytes : certificateRecord rows n ≡ certificateBytes certificate
   pub few : length (certificateNumbers rows n) ≤ pathSpace
   pub short : length (certificateRecord rows n) ≤ certificateRoom
   pub small : (i : ℕ) → getD (certificateNumbers rows n) i 0 < numberLimit
 
-pub certified : (rows : List ℕ) (n : ℕ) → Drawn rows n → edgeCount (drawnGraph rows n) ≤ maxEdges → Certified rows n
+pub certified : (rows : List ℕ) (n : ℕ) → Drawn rows n → edgeCount (rowsGraph n rows) ≤ maxEdges → Certified rows n
 certified rows n d few = let w = all-written rows n d few in record { certificate = w .certificate; rules = w .rules; grade = w .grade; bytes = w .bytes; few = w .few; short = w .short; small = w .small }

@@ -11,7 +11,7 @@ use lib.ListN.{length}
 use borrow.Author.Tests.{ltb-true, ltb-false}
 use Rattle.vertexset.specs.Set.{has, emptySet, count, none, capacity}
 use Rattle.vertexset.specs.declared.VertexSet.{VertexSet}
-use Rattle.graph.specs.Rows.{rowOf, adjacentIn}
+use Rattle.graph.specs.Rows.{rowOf, adjacentIn, rowsGraph}
 use Rattle.connectivity.specs.Lists.{In, below}
 use Rattle.connectivity.specs.Graph.{Adj}
 use Rattle.connectivity.specs.Path.{Link, link, vertices, IsPath}
@@ -22,7 +22,7 @@ use Rattle.construction.specs.Sets.{minus, common, single, members, leas
 use Rattle.construction.specs.Search.{Reach, explore, isFound, route, reached}
 use Rattle.construction.specs.Ears.{Cut, cut, noCut, isCut, Found, found, failed, answered, wayOut, backFrom, detour, cycle}
 use Rattle.construction.specs.Certificate.{fullSet}
-use Rattle.construction.proofs.Basics.{drawnGraph, Drawn, Sized, On, IsCut, Asked, Met, Shut}
+use Rattle.construction.proofs.Basics.{Drawn, Sized, On, IsCut, Asked, Met, Shut}
 use Rattle.construction.proofs.SetLaws.{sized-empty, sized-minus, sized-single, sized-row, sized-all, on-low, minus-on, on-minus, common-on, on-common, empty-on, single-on, on-single, full-on, on-full, members-in, in-members, members-nodup, members-count, least-on, least-first, least-none, empty-some, not-empty, row-on, on-row}
 use Rattle.construction.proofs.Searching.{explored}
 
@@ -39,7 +39,7 @@ pub record OutAndBack (rows : List ℕ) (n : ℕ) (set : VertexSet) (f : Found) 
   pub q : List ℕ
   pub x-on : On set x
   pub y-on : On set y
-  pub is-path : IsPath (Adj (drawnGraph rows n)) (link x q y)
+  pub is-path : IsPath (Adj (rowsGraph n rows)) (link x q y)
   pub some : 0 < length q
   pub new : (w : ℕ) → In w q → ¬ On set w
   pub same : f .path ≡ rev (vertices (link x q y))
@@ -57,12 +57,12 @@ DetourLaw rows n set = Detoured rows n set ⊎ DetourCut rows n set
 pub record ThroughZero (rows : List ℕ) (n : ℕ) (f : Found) : Type 0 where
   pub not-cut : isCut (f .cutBy) ≡ false
   pub P : Link
-  pub is-path : IsPath (Adj (drawnGraph rows n)) P
+  pub is-path : IsPath (Adj (rowsGraph n rows)) P
   pub from : P .s ≡ least (rowOf rows 0)
-  pub ks : Adj (drawnGraph rows n) 0 (P .s)
-  pub kt : Adj (drawnGraph rows n) 0 (P .t)
+  pub ks : Adj (rowsGraph n rows) 0 (P .s)
+  pub kt : Adj (rowsGraph n rows) 0 (P .t)
   pub off : ¬ In 0 (vertices P)
-  pub inner-off : (w : ℕ) → In w (P .inner) → ¬ Adj (drawnGraph rows n) 0 w
+  pub inner-off : (w : ℕ) → In w (P .inner) → ¬ Adj (rowsGraph n rows) 0 w
   pub same : f .path ≡ rev (vertices P) ++ (0 ∷ [])
 
 abbrev pub Cycled : List ℕ → ℕ → Type 0
@@ -181,7 +181,7 @@ module _ (rows : List ℕ) (n : ℕ) (d : Drawn rows n) (set : VertexSet) (s : S
   Answer f = OutAndBack rows n set f ⊎ OneCut rows n (f .cutBy)
 
   -- an edge from x in the set to c outside, and another vertex b of the set
-  module _ (x c : ℕ) (hx : On set x) (lc : c < n) (hc : ¬ On set c) (k : Adj (drawnGraph rows n) x c) where
+  module _ (x c : ℕ) (hx : On set x) (lc : c < n) (hc : ¬ On set c) (k : Adj (rowsGraph n rows) x c) where
     abbrev goals : VertexSet
     goals = minus set (single x)
 
@@ -210,7 +210,7 @@ module _ (rows : List ℕ) (n : ℕ) (d : Drawn rows n) (set : VertexSet) (s : S
       q = P .s ∷ P .inner;
       x-on = hx;
       y-on = goal-on (P .t) (m .found .goal) .0;
-      is-path = record { along = (subst (λ (v : ℕ). Adj (drawnGraph rows n) x v) (sym start) k, m .found .is-path .along); nodup = (away, m .found .is-path .nodup) };
+      is-path = record { along = (subst (λ (v : ℕ). Adj (rowsGraph n rows) x v) (sym start) k, m .found .is-path .along); nodup = (away, m .found .is-path .nodup) };
       some = omega arith;
       new = new;
       same = ap (λ (l : List ℕ). l ++ (x ∷ [])) (m .same);
@@ -274,8 +274,8 @@ module _ (rows : List ℕ) (n : ℕ) (d : Drawn rows n) (set : VertexSet) (s : S
       out-sized : Sized (minus (fullSet n) set)
       out-sized = sized-minus (fullSet n) set (full-sized n) s
 
-      into : (u v : ℕ) → On set u → Adj (drawnGraph rows n) u v → On set v
-      into u v h k = ⊎-elim (λ i. i) (λ i. absurd (f v u (in-members (minus (fullSet n) set) v out-sized (on-minus (fullSet n) set (full-sized n) s v (on-full n v (d .low) (edge-high (drawnGraph rows n) (d .simple) u v k)) (λ j. clash j i))) h (d .simple .symmetric u v k)))
+      into : (u v : ℕ) → On set u → Adj (rowsGraph n rows) u v → On set v
+      into u v h k = ⊎-elim (λ i. i) (λ i. absurd (f v u (in-members (minus (fullSet n) set) v out-sized (on-minus (fullSet n) set (full-sized n) s v (on-full n v (d .low) (edge-high (rowsGraph n rows) (d .simple) u v k)) (λ j. clash j i))) h (d .simple .symmetric u v k)))
           (bool? (has (set .words) v))
 
       outside : On (fullSet n) z × (¬ On set z)
@@ -313,7 +313,7 @@ module _ (rows : List ℕ) (n : ℕ) (d : Drawn rows n) where
   row-sized : Sized row
   row-sized = sized-row rows 0 (d .words)
 
-  row-adj : (w : ℕ) → On row w → Adj (drawnGraph rows n) 0 w
+  row-adj : (w : ℕ) → On row w → Adj (rowsGraph n rows) 0 w
   row-adj w h = row-on rows 0 w h
 
   zero-low : 0 < n
@@ -323,7 +323,7 @@ module _ (rows : List ℕ) (n : ℕ) (d : Drawn rows n) where
   zero-on = on-single 0 (low-capacity n 0 (d .low) zero-low)
 
   zero-off : (w : ℕ) → On row w → ¬ On (single 0) w
-  zero-off w h k = edge-differ (drawnGraph rows n) (d .simple) 0 w (row-adj w h) (single-on 0 w k)
+  zero-off w h k = edge-differ (rowsGraph n rows) (d .simple) 0 w (row-adj w h) (single-on 0 w k)
 
   row-count : length (members row) ≡ count (row .words)
   row-count = members-count row row-sized
@@ -337,13 +337,13 @@ module _ (rows : List ℕ) (n : ℕ) (d : Drawn rows n) where
     is-cut = ap not (not-empty (single 0) 0 (sized-single 0) zero-on);
     removed-sized = row-sized;
     side-sized = sized-single 0;
-    low = λ w h. edge-high (drawnGraph rows n) (d .simple) 0 w (row-adj w h);
+    low = λ w h. edge-high (rowsGraph n rows) (d .simple) 0 w (row-adj w h);
     side-low = λ w h. subst (λ (z : ℕ). z < n) (sym (single-on 0 w h)) zero-low;
     few = few;
     separated = record {
       side = has (single 0 .words);
       out = λ w h. off-false (single 0) w (zero-off w (members-in row w h));
-      closed = λ u v e k no. absurd (no (in-members row v row-sized (on-row rows 0 v (subst (λ (z : ℕ). Adj (drawnGraph rows n) z v) (single-on 0 u e) k))));
+      closed = λ u v e k no. absurd (no (in-members row v row-sized (on-row rows 0 v (subst (λ (z : ℕ). Adj (rowsGraph n rows) z v) (single-on 0 u e) k))));
       w = 0;
       w-low = zero-low;
       w-in = zero-on;
@@ -373,7 +373,7 @@ module _ (rows : List ℕ) (n : ℕ) (d : Drawn rows n) where
       seeds-sized = sized-single x;
       goals-sized = sized-minus row (single x) row-sized (sized-single x);
       removed-sized = sized-single 0;
-      low = λ w h. rw (single-on x w h) (edge-high (drawnGraph rows n) (d .simple) 0 x (row-adj x hx));
+      low = λ w h. rw (single-on x w h) (edge-high (rowsGraph n rows) (d .simple) 0 x (row-adj x hx));
       no-goal = λ w h i. other-on w i .1 h;
       no-removed = λ w h i. zero-off w (rw (single-on x w h) hx) i;
       goal-stays = λ w h. zero-off w (other-on w h .0);
@@ -398,15 +398,15 @@ module _ (rows : List ℕ) (n : ℕ) (d : Drawn rows n) where
         start : P .s ≡ x
         start = single-on x (P .s) (m .found .seed)
 
-        ks : Adj (drawnGraph rows n) 0 (P .s)
-        ks = subst (λ (v : ℕ). Adj (drawnGraph rows n) 0 v) (sym start) (row-adj x hx)
+        ks : Adj (rowsGraph n rows) 0 (P .s)
+        ks = subst (λ (v : ℕ). Adj (rowsGraph n rows) 0 v) (sym start) (row-adj x hx)
 
-        kt : Adj (drawnGraph rows n) 0 (P .t)
+        kt : Adj (rowsGraph n rows) 0 (P .t)
         kt = row-adj (P .t) (other-on (P .t) (m .found .goal) .0)
 
         off : ¬ In 0 (vertices P)
         off h = ⊎-elim
-            (λ e. ⊎-elim (λ i. edge-differ (drawnGraph rows n) (d .simple) 0 (P .s) ks (sym i)) (λ i. edge-differ (drawnGraph rows n) (d .simple) 0 (P .t) kt (sym i)) e)
+            (λ e. ⊎-elim (λ i. edge-differ (rowsGraph n rows) (d .simple) 0 (P .s) ks (sym i)) (λ i. edge-differ (rowsGraph n rows) (d .simple) 0 (P .t) kt (sym i)) e)
             (λ i. m .found .off 0 i .2 zero-on) (end-or-inner P 0 h)
 
     cycle-back : (y : ℕ) → On row y → y ≢ x → CycleAnswer (answered (explore rows (single x) others (single 0)) (single 0) (0 ∷ []))
@@ -419,7 +419,7 @@ module _ (rows : List ℕ) (n : ℕ) (d : Drawn rows n) where
 
         separates : Shut rows n (single x) others (single 0) → IsCut rows n (cut (single 0) (reached r (single 0)))
         separates t = shut-cut rows n (single x) others (single 0) cycle-asked t (λ w h. rw (single-on 0 w h) zero-low) (one-two (length (members (single 0))) (single-members 0)) x (on-single x (on-low row x row-sized hx)) y
-            (on-other y hy (λ h. ne (single-on x y h))) (edge-high (drawnGraph rows n) (d .simple) 0 y (row-adj y hy))
+            (on-other y hy (λ h. ne (single-on x y h))) (edge-high (rowsGraph n rows) (d .simple) 0 y (row-adj y hy))
 
   few-around : ltb (count (row .words)) 2 ≡ true → OneCut rows n (cut row (single 0))
   few-around e = let few = at-most-of (length (members row)) (count (row .words)) 1 row-count e in record { is = row-cut (one-two (length (members row)) few); one = few }

@@ -20,7 +20,8 @@ use Rattle.connectivity.proofs.Completeness.{EarDecomposition, ear-fair, ear-gr
 use Rattle.construction.specs.Sets.{stop, minus, withAll, empty}
 use Rattle.construction.specs.Ears.{noCut, isCut, detour, cycle, pathSpace, addPath, Eared, eared, earsOn, ears}
 use Rattle.construction.specs.Certificate.{fullSet}
-use Rattle.construction.proofs.Basics.{drawnGraph, Drawn, Sized, On, flatten}
+use Rattle.graph.specs.Rows.{rowsGraph}
+use Rattle.construction.proofs.Basics.{Drawn, Sized, On, flatten}
 use Rattle.construction.proofs.SetLaws.{sized-empty, sized-all, sized-minus, all-on, on-all, empty-on, empty-none, on-minus, on-full, added-room}
 use Rattle.construction.proofs.Flat.{rev-vertices, path-reversed}
 use Rattle.construction.proofs.Detours.{OneCut, Detoured, DetourLaw, Cycled, detour-law, cycle-law, no-cut, low-capacity, full-sized}
@@ -30,7 +31,7 @@ length-vertices P = omega (arith, length-append (P .inner) (P .t ∷ []))
 
 pub record EarsFound (rows : List ℕ) (n : ℕ) (d : Drawn rows n) : Type 0 where
   pub not-cut : isCut (ears rows (fullSet n) .cutBy) ≡ false
-  pub o : EarDecomposition (drawnGraph rows n) (d .simple)
+  pub o : EarDecomposition (rowsGraph n rows) (d .simple)
   pub same-flat : ears rows (fullSet n) .flat ≡ flatten (o .first ∷ o .later)
   pub same-count : ears rows (fullSet n) .count ≡ suc (length (o .later))
 
@@ -39,7 +40,7 @@ EarsCut rows n = OneCut rows n (ears rows (fullSet n) .cutBy)
 
 module _ (rows : List ℕ) (n : ℕ) (d : Drawn rows n) where
   abbrev g : Graph
-  g = drawnGraph rows n
+  g = rowsGraph n rows
 
   -- the vertices that are in are B; the list has room for the others: an ear lists three numbers and its new vertices, at most 4 for each of these
   record Stage (B flat : List ℕ) (set : VertexSet) : Type 0 where

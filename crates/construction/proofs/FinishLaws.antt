@@ -10,8 +10,8 @@ use lib.ListN.{length, take, length-append}
 use lib.Seq.{take-append-le}
 use Rattle.vertexset.specs.Set.{has, capacity}
 use Rattle.vertexset.specs.declared.VertexSet.{VertexSet}
-use Rattle.graph.specs.Plan.{maxEdges}
-use Rattle.graph.specs.Rows.{adjacentIn, rowOf, rowWords, bareRows}
+use Rattle.graph.specs.Limits.{maxEdges}
+use Rattle.graph.specs.Rows.{adjacentIn, rowOf, rowWords, bareRows, rowsGraph}
 use Rattle.connectivity.specs.Lists.{In, NoDup, below, upFrom}
 use Rattle.connectivity.specs.Graph.{Graph, Adj, edgeCount}
 use Rattle.connectivity.specs.Path.{Link, link, vertices, usedEdges, edge}
@@ -25,7 +25,7 @@ use Rattle.connectivity.proofs.Completeness.{recorded-most}
 use Rattle.construction.specs.Sets.{stop, minus, membersFrom}
 use Rattle.construction.specs.Ears.{pathSpace, addPath}
 use Rattle.construction.specs.Steps.{addEdges, addRows, finish}
-use Rattle.construction.proofs.Basics.{drawnGraph, Drawn, Sized, On, flatten}
+use Rattle.construction.proofs.Basics.{Drawn, Sized, On, flatten}
 use Rattle.construction.proofs.SetLaws.{zeros-at, sized-row, sized-minus, minus-on, on-minus, row-on, on-row, members-from-in, in-members-from, nodup-up, added-room, flatten-append}
 use Rattle.construction.proofs.Flat.{newestFirst, newest-snoc, newest-in, in-newest, flat-most}
 use Rattle.construction.proofs.Table.{tableOf, table-used, used-table, marked-words}
@@ -36,8 +36,8 @@ pub record FinishedWith (rows : List ℕ) (n : ℕ) (ps : List Link) : Type 0 wh
   pub same : finish rows n (flatten ps) ≡ flatten qs
   pub first : take 6 qs ≡ take 6 ps
   pub six : 6 ≤ length qs
-  pub recorded : Recorded (Adj (drawnGraph rows n)) (newestFirst qs)
-  pub finished : Finished (drawnGraph rows n) (newestFirst qs)
+  pub recorded : Recorded (Adj (rowsGraph n rows)) (newestFirst qs)
+  pub finished : Finished (rowsGraph n rows) (newestFirst qs)
 
 used-snoc : (qs : List Link) (u v : ℕ) (e : ℕ × ℕ) → In e (usedEdges (qs ++ (link u [] v ∷ []))) → In e (usedEdges qs) ⊎ (e ≡ edge u v)
 used-snoc qs u v e h = ⊎-map (λ k. k) (in-single e (edge u v)) (in-append e (usedEdges qs) (edge u v ∷ []) (subst (λ (k : List (ℕ × ℕ)). In e k) (used-append qs (link u [] v ∷ [])) h))
@@ -45,9 +45,9 @@ used-snoc qs u v e h = ⊎-map (λ k. k) (in-single e (edge u v)) (in-append e (
 snoc-used : (qs : List Link) (u v : ℕ) (e : ℕ × ℕ) → In e (usedEdges qs) ⊎ (e ≡ edge u v) → In e (usedEdges (qs ++ (link u [] v ∷ [])))
 snoc-used qs u v e h = subst (λ (k : List (ℕ × ℕ)). In e k) (sym (used-append qs (link u [] v ∷ []))) (⊎-elim (in-left e (usedEdges qs) (edge u v ∷ [])) (λ k. in-right e (usedEdges qs) (edge u v ∷ []) (inl k)) h)
 
-module _ (rows : List ℕ) (n : ℕ) (d : Drawn rows n) (few : edgeCount (drawnGraph rows n) ≤ maxEdges) (ps : List Link) where
+module _ (rows : List ℕ) (n : ℕ) (d : Drawn rows n) (few : edgeCount (rowsGraph n rows) ≤ maxEdges) (ps : List Link) where
   abbrev g : Graph
-  g = drawnGraph rows n
+  g = rowsGraph n rows
 
   -- a build in which every vertex is a branch vertex, and whose start is that of ps
   record Full (qs : List Link) : Type 0 where
@@ -183,19 +183,19 @@ module _ (rows : List ℕ) (n : ℕ) (d : Drawn rows n) (few : edgeCount (drawnG
           (on-minus (rowOf rows u) (rowOf (tableOf ps) u) row-sized (table-sized u) v (on-row rows u v k) (λ o. h (row-on (tableOf ps) u v o))) (omega arith))
 
 -- EVERY EDGE IS USED THEN.
-pub finish-law : (rows : List ℕ) (n : ℕ) → Drawn rows n → (ps : List Link) → 6 ≤ length ps → Recorded (Adj (drawnGraph rows n)) (newestFirst ps)
-    → ((z : ℕ) → z < n → In z (branchVertices (newestFirst ps))) → edgeCount (drawnGraph rows n) ≤ maxEdges → FinishedWith rows n ps
+pub finish-law : (rows : List ℕ) (n : ℕ) → Drawn rows n → (ps : List Link) → 6 ≤ length ps → Recorded (Adj (rowsGraph n rows)) (newestFirst ps)
+    → ((z : ℕ) → z < n → In z (branchVertices (newestFirst ps))) → edgeCount (rowsGraph n rows) ≤ maxEdges → FinishedWith rows n ps
 unfolding finish
 finish-law rows n d ps six val branch few =
     let r = rows-law rows n d few ps (below n) ps (record { first = refl; six = six; recorded = val; branch = branch }) (nodup-below n) (λ e h. h) (λ u v h lt k. k) in
     record { qs = r .out; same = r .same; first = r .full .first; six = r .full .six; recorded = r .full .recorded; finished = record { all-branch = r .full .branch; used = λ u v k. used (r .out) (r .all) u v k } }
   where
-    used : (qs : List Link) → ((u v : ℕ) → In u (below n) → u < v → Adj (drawnGraph rows n) u v → In (edge u v) (usedEdges qs)) → (u v : ℕ) → Adj (drawnGraph rows n) u v → (M : Link) × In M (newestFirst qs) × Neighbours M u v
+    used : (qs : List Link) → ((u v : ℕ) → In u (below n) → u < v → Adj (rowsGraph n rows) u v → In (edge u v) (usedEdges qs)) → (u v : ℕ) → Adj (rowsGraph n rows) u v → (M : Link) × In M (newestFirst qs) × Neighbours M u v
     used qs f u v k = on (both (below? u v))
       where
         both : Dec (u < v) → In (edge u v) (usedEdges qs)
         both (yes h) = f u v (below-in n u (d .simple .low u v k)) h k
-        both (no h) = rw (edge-comm u v) (f v u (below-in n v (edge-high (drawnGraph rows n) (d .simple) u v k)) (omega (arith, edge-differ (drawnGraph rows n) (d .simple) u v k)) (d .simple .symmetric u v k))
+        both (no h) = rw (edge-comm u v) (f v u (below-in n v (edge-high (rowsGraph n rows) (d .simple) u v k)) (omega (arith, edge-differ (rowsGraph n rows) (d .simple) u v k)) (d .simple .symmetric u v k))
 
         on : In (edge u v) (usedEdges qs) → (M : Link) × In M (newestFirst qs) × Neighbours M u v
         on h =

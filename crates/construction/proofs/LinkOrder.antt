@@ -17,7 +17,8 @@ use Rattle.connectivity.proofs.FirstLinks.{OneOf, sorted-start}
 use Rattle.construction.specs.Sets.{stop, members, least}
 use Rattle.construction.specs.Ears.{pathSpace, addPath}
 use Rattle.construction.specs.Start.{linkIn, nextAfter, sixLinks, sorted}
-use Rattle.construction.proofs.Basics.{drawnGraph, Drawn, Sized, On, flatten}
+use Rattle.graph.specs.Rows.{rowsGraph}
+use Rattle.construction.proofs.Basics.{Drawn, Sized, On, flatten}
 use Rattle.construction.proofs.SetLaws.{next-on, next-first, members-in, in-members, members-nodup, members-ascending, added-room, flatten-append}
 use Rattle.construction.proofs.LinksIn.{Linked, linked}
 
@@ -111,8 +112,8 @@ pub record InOrder (g : Graph) (table : List ℕ) (set : VertexSet) : Type 0 whe
   pub same-flat : sorted table set ≡ flatten ms
   pub same-four : members set ≡ theFour x
 
-module _ (g : Graph) (p : Simple g) (table : List ℕ) (drawn : Drawn table capacity) (B : List ℕ) (four-long : length B ≡ 4) (six : List Link) (x : StartPaths (Adj g) B six) (y : StartPaths (Adj (drawnGraph table capacity)) B six)
-    (only : (u v : ℕ) → Adj (drawnGraph table capacity) u v → In (edge u v) (usedEdges six))
+module _ (g : Graph) (p : Simple g) (table : List ℕ) (drawn : Drawn table capacity) (B : List ℕ) (four-long : length B ≡ 4) (six : List Link) (x : StartPaths (Adj g) B six) (y : StartPaths (Adj (rowsGraph capacity table)) B six)
+    (only : (u v : ℕ) → Adj (rowsGraph capacity table) u v → In (edge u v) (usedEdges six))
     (set : VertexSet) (sized : Sized set) (into : (w : ℕ) → In w B → On set w) (out : (w : ℕ) → On set w → In w B) where
   four-members : length (members set) ≡ 4
   four-members = size (length (members set)) (length B) (fewer (members set) B (members-nodup set) (λ w h. out w (members-in set w h))) (fewer B (members set) (start-differ (Adj g) B six x) (λ w h. in-members set w sized (into w h))) four-long

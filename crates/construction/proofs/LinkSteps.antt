@@ -10,7 +10,7 @@ use lib.Seq.{take-at, drop-at, getD-at, length-take-le}
 use borrow.Author.Tests.{not-true, not-false}
 use Rattle.vertexset.specs.Set.{has, capacity}
 use Rattle.vertexset.specs.declared.VertexSet.{VertexSet}
-use Rattle.graph.specs.Plan.{maxEdges}
+use Rattle.graph.specs.Limits.{maxEdges}
 use Rattle.connectivity.specs.Lists.{In}
 use Rattle.connectivity.specs.Graph.{Adj, edgeCount}
 use Rattle.connectivity.specs.Path.{Link, link, vertices, usedEdges}
@@ -23,7 +23,8 @@ use Rattle.construction.specs.Sets.{stop, minus, pair, setOf, members, p
 use Rattle.construction.specs.Search.{explore, route, reached}
 use Rattle.construction.specs.Ears.{cut, Found, found, failed, answered}
 use Rattle.construction.specs.Steps.{State, stopped, extended, segment, offLink, linkTaken, runEnd, innerPlace}
-use Rattle.construction.proofs.Basics.{drawnGraph, Drawn, Sized, On, IsCut, flatten, Asked, Met, Shut}
+use Rattle.graph.specs.Rows.{rowsGraph}
+use Rattle.construction.proofs.Basics.{Drawn, Sized, On, IsCut, flatten, Asked, Met, Shut}
 use Rattle.construction.proofs.SetLaws.{sized-empty, sized-all, sized-minus, sized-pair, on-low, minus-on, on-minus, set-on, on-set, pair-on, on-pair, members-in, members-nodup}
 use Rattle.construction.proofs.Searching.{explored, found-as}
 use Rattle.construction.proofs.Detours.{no-cut, answer-found, answer-failed, shut-cut, low-capacity}
@@ -228,7 +229,7 @@ linkSearch rows built run a b = answered (explore rows (setOf run) (minus (minus
 pair-few : (a b : ℕ) → length (members (pair a b)) ≤ 2
 pair-few a b = fewer (members (pair a b)) (a ∷ (b ∷ [])) (members-nodup (pair a b)) (λ w h. ⊎-map (λ e. e) inl (pair-on a b w (members-in (pair a b) w h)))
 
-module _ (rows : List ℕ) (n : ℕ) (dr : Drawn rows n) (few : edgeCount (drawnGraph rows n) ≤ maxEdges) (ms ps : List Link) (st : State) (go : Going rows n ms ps st) (i : ℕ) (k : LinkAt ps st i) where
+module _ (rows : List ℕ) (n : ℕ) (dr : Drawn rows n) (few : edgeCount (rowsGraph n rows) ≤ maxEdges) (ms ps : List Link) (st : State) (go : Going rows n ms ps st) (i : ℕ) (k : LinkAt ps st i) where
   abbrev K : Link
   K = k .K
 
@@ -299,10 +300,10 @@ module _ (rows : List ℕ) (n : ℕ) (dr : Drawn rows n) (few : edgeCount (drawn
   off z h a b = ⊎-elim (λ e. b (in-removed z (⊎-map (λ j. j) inl e))) (λ j. a (in-seed z j)) (end-or-inner K z h)
 
   -- a path that was found extends the record, listed from its end too
-  found-extends : (m : Met rows n seeds goals removed) → Extends (Adj (drawnGraph rows n)) (newestFirst ps) (reversed (m .found .path))
-  found-extends m = extends-reversed (Adj (drawnGraph rows n)) (dr .simple .symmetric) (newestFirst ps) (m .found .path)
-      (link-extends (drawnGraph rows n) (dr .simple) (newestFirst ps) (go .recorded) (k .L) (k .hL) K (k .u) (k .v) (k .is) (k .hs) (k .ht) (k .hm)
-      (found-as (drawnGraph rows n) (On seeds) (On goals) (On removed) (λ z. In z (K .inner)) (λ z. In z (builtVertices (newestFirst ps)) × (¬ In z (vertices K))) (λ z. In z (K .s ∷ (K .t ∷ []))) (m .found) seed-in in-seed
+  found-extends : (m : Met rows n seeds goals removed) → Extends (Adj (rowsGraph n rows)) (newestFirst ps) (reversed (m .found .path))
+  found-extends m = extends-reversed (Adj (rowsGraph n rows)) (dr .simple .symmetric) (newestFirst ps) (m .found .path)
+      (link-extends (rowsGraph n rows) (dr .simple) (newestFirst ps) (go .recorded) (k .L) (k .hL) K (k .u) (k .v) (k .is) (k .hs) (k .ht) (k .hm)
+      (found-as (rowsGraph n rows) (On seeds) (On goals) (On removed) (λ z. In z (K .inner)) (λ z. In z (builtVertices (newestFirst ps)) × (¬ In z (vertices K))) (λ z. In z (K .s ∷ (K .t ∷ []))) (m .found) seed-in in-seed
       (λ z h. (on-vertex rows n dr ms ps st go z (goal-on z h .0), λ j. off z j (goal-on z h .1) (goal-on z h .2)))
       (λ z h. on-goal z (vertex-on rows n dr ms ps st go z (h .0)) (λ j. h .1 (inner-in z K (seed-in z j))) (λ j. h .1 (end-on z (removed-in z j)))) in-removed))
     where
@@ -312,7 +313,7 @@ module _ (rows : List ℕ) (n : ℕ) (dr : Drawn rows n) (few : edgeCount (drawn
 
   shut-separates : Shut rows n seeds goals removed → IsCut rows n (cut removed (reached (explore rows seeds goals removed) removed))
   shut-separates t =
-      let z = branch-beside (Adj (drawnGraph rows n)) (newestFirst ps) (go .recorded) (K .s ∷ (K .t ∷ [])) (omega arith) in
+      let z = branch-beside (Adj (rowsGraph n rows)) (newestFirst ps) (go .recorded) (K .s ∷ (K .t ∷ [])) (omega arith) in
       let y = branch-built (newestFirst ps) (z .0) (z .1) in
       shut-cut rows n seeds goals removed asked t (λ x h. vertex-low rows n dr ms ps st go x (branch-built (newestFirst ps) x (end-branch x h))) (pair-few (K .s) (K .t)) (k .w) (in-seed (k .w) (k .hw)) (z .0)
       (on-goal (z .0) (vertex-on rows n dr ms ps st go (z .0) y) (λ h. k .hm (z .0) (seed-in (z .0) h) (z .1)) (λ h. z .2 (removed-in (z .0) h))) (vertex-low rows n dr ms ps st go (z .0) y)

@@ -20,7 +20,8 @@ use Rattle.connectivity.proofs.Start.{StartPaths, start-path, clear-start, end-
 use Rattle.connectivity.proofs.FirstLinks.{OneOf, reversed, oriented}
 use Rattle.construction.specs.Sets.{minus, single, pair}
 use Rattle.construction.specs.Start.{linkIn}
-use Rattle.construction.proofs.Basics.{drawnGraph, Drawn, Sized, On, Asked, Met, Shut}
+use Rattle.graph.specs.Rows.{rowsGraph}
+use Rattle.construction.proofs.Basics.{Drawn, Sized, On, Asked, Met, Shut}
 use Rattle.construction.proofs.SetLaws.{sized-single, sized-pair, sized-minus, on-low, single-on, on-single, pair-on, on-pair, minus-on, on-minus}
 use Rattle.construction.proofs.Searching.{explored}
 use Rattle.construction.proofs.Flat.{rev-rev, rev-vertices, path-reversed}
@@ -146,8 +147,8 @@ pub record Linked (six : List Link) (table : List ℕ) (set : VertexSet) (u w : 
   pub same : linkIn table set u w ≡ vertices M
   pub short : length (vertices M) ≤ capacity
 
-module _ (table : List ℕ) (d : Drawn table capacity) (B : List ℕ) (six : List Link) (x : StartPaths (Adj (drawnGraph table capacity)) B six)
-    (only : (u v : ℕ) → Adj (drawnGraph table capacity) u v → In (edge u v) (usedEdges six))
+module _ (table : List ℕ) (d : Drawn table capacity) (B : List ℕ) (six : List Link) (x : StartPaths (Adj (rowsGraph capacity table)) B six)
+    (only : (u v : ℕ) → Adj (rowsGraph capacity table) u v → In (edge u v) (usedEdges six))
     (set : VertexSet) (sized : Sized set) (into : (w : ℕ) → In w B → On set w) (out : (w : ℕ) → On set w → In w B) where
   module _ (u w : ℕ) (hu : In u B) (hw : In w B) (ne : u ≢ w) where
     abbrev others : VertexSet
@@ -176,15 +177,15 @@ module _ (table : List ℕ) (d : Drawn table capacity) (B : List ℕ) (six : Lis
     met : Met table capacity (single w) (single u) others → Linked six table set u w
     met m =
         let F = m .found .path in
-        let o = reversed-one six F (path-one (Adj (drawnGraph table capacity)) (d .simple .symmetric) B six x only F (m .found .is-path) (rw (single-on w (F .s) (m .found .seed)) hw) (rw (single-on u (F .t) (m .found .goal)) hu) clear) in
-        let p = one-path (Adj (drawnGraph table capacity)) (d .simple .symmetric) B six x only (reversed F) o in
+        let o = reversed-one six F (path-one (Adj (rowsGraph capacity table)) (d .simple .symmetric) B six x only F (m .found .is-path) (rw (single-on w (F .s) (m .found .seed)) hw) (rw (single-on u (F .t) (m .found .goal)) hu) clear) in
+        let p = one-path (Adj (rowsGraph capacity table)) (d .simple .symmetric) B six x only (reversed F) o in
         record {
           M = reversed F;
           from = single-on u (F .t) (m .found .goal);
           upto = single-on w (F .s) (m .found .seed);
           one = o;
           same = m .same ∙ rev-vertices F;
-          short = at-most capacity (vertices (reversed F)) (p .nodup) (path-low (drawnGraph table capacity) (d .simple) (reversed F) p);
+          short = at-most capacity (vertices (reversed F)) (p .nodup) (path-low (rowsGraph capacity table) (d .simple) (reversed F) p);
         }
       where
         clear : (z : ℕ) → In z (m .found .path .inner) → ¬ In z B
@@ -195,10 +196,10 @@ module _ (table : List ℕ) (d : Drawn table capacity) (B : List ℕ) (six : Lis
     -- a closed set would hold the whole link
     shut : Shut table capacity (single w) (single u) others → ⊥
     shut c =
-        let r = oriented (drawnGraph table capacity) (d .simple) B six x w u hw hu (λ e. ne (sym e)) in
+        let r = oriented (rowsGraph capacity table) (d .simple) B six x w u hw hu (λ e. ne (sym e)) in
         let M = r .0 in
-        let end = walk (drawnGraph table capacity) (On (single w)) (On (single u)) (On others) (c .closed) (M .s) (M .inner) (M .t) (c .closed .seeds (M .s) (rw (r .1) (on-single w low-w)))
-        (one-path (Adj (drawnGraph table capacity)) (d .simple .symmetric) B six x only M (r .3) .along) (λ z h k. one-clear (Adj (drawnGraph table capacity)) (d .simple .symmetric) B six x only M (r .3) z h (out z (minus-on set (pair u w) sized (sized-pair u w) z k .0)))
+        let end = walk (rowsGraph capacity table) (On (single w)) (On (single u)) (On others) (c .closed) (M .s) (M .inner) (M .t) (c .closed .seeds (M .s) (rw (r .1) (on-single w low-w)))
+        (one-path (Adj (rowsGraph capacity table)) (d .simple .symmetric) B six x only M (r .3) .along) (λ z h k. one-clear (Adj (rowsGraph capacity table)) (d .simple .symmetric) B six x only M (r .3) z h (out z (minus-on set (pair u w) sized (sized-pair u w) z k .0)))
         (stays (M .t) (inl (r .2))) in
         clash end (c .closed .goals (M .t) (rw (r .2) (on-single u low-u)))
 

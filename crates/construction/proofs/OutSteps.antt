@@ -11,8 +11,8 @@ use lib.ListN.{length, getD, length-append}
 use lib.Seq.{getD-at}
 use borrow.Author.Tests.{lt-ltb, le-ltb}
 use Rattle.vertexset.specs.Set.{has}
-use Rattle.graph.specs.Plan.{maxEdges}
-use Rattle.graph.specs.Rows.{adjacentIn}
+use Rattle.graph.specs.Limits.{maxEdges}
+use Rattle.graph.specs.Rows.{adjacentIn, rowsGraph}
 use Rattle.connectivity.specs.Lists.{In, NoDup}
 use Rattle.connectivity.specs.Graph.{Adj, edgeCount}
 use Rattle.connectivity.specs.Path.{Link, link, vertices, Along, IsPath, usedEdges}
@@ -25,7 +25,7 @@ use Rattle.construction.specs.Sets.{stop, minus, empty, lastOf}
 use Rattle.construction.specs.Ears.{noCut, Found, detour}
 use Rattle.construction.specs.Steps.{State, stopped, extended, pairPlace, besidePlace, turned, reroute, outTaken, outStep}
 use Rattle.construction.specs.Certificate.{fullSet}
-use Rattle.construction.proofs.Basics.{drawnGraph, Drawn, On, flatten}
+use Rattle.construction.proofs.Basics.{Drawn, On, flatten}
 use Rattle.construction.proofs.SetLaws.{sized-minus, on-low, on-minus, on-full, empty-none, last-snoc}
 use Rattle.construction.proofs.Detours.{full-sized, no-cut, OutAndBack, OneCut, detour-law}
 use Rattle.construction.proofs.Flat.{newestFirst, newest-in, Located, locate, consecutive-split, flat-place, rev-vertices, extends-reversed}
@@ -35,7 +35,7 @@ use Rattle.construction.proofs.Reroutes.{turned-same, turned-other, rer
 
 -- THE NEW VERTICES between a and b, which are x and y in the order of the path
 record Between (rows : List ℕ) (n a b : ℕ) (q new : List ℕ) : Type 0 where
-  pub along : Along (Adj (drawnGraph rows n)) a new b
+  pub along : Along (Adj (rowsGraph n rows)) a new b
   pub nodup : NoDup new
   pub into : (w : ℕ) → In w new → In w q
   pub back : (w : ℕ) → In w q → In w new
@@ -45,7 +45,7 @@ record Between (rows : List ℕ) (n a b : ℕ) (q new : List ℕ) : Type 0 where
 abbrev listed : ℕ → List ℕ → ℕ → List ℕ
 listed x q y = y ∷ (rev q ++ (x ∷ []))
 
-module _ (rows : List ℕ) (n : ℕ) (dr : Drawn rows n) (x : ℕ) (q : List ℕ) (y : ℕ) (path : IsPath (Adj (drawnGraph rows n)) (link x q y)) (some : 0 < length q) where
+module _ (rows : List ℕ) (n : ℕ) (dr : Drawn rows n) (x : ℕ) (q : List ℕ) (y : ℕ) (path : IsPath (Adj (rowsGraph n rows)) (link x q y)) (some : 0 < length q) where
   differ : x ≢ y
   differ = ends-differ (link x q y) (path .nodup)
 
@@ -58,7 +58,7 @@ module _ (rows : List ℕ) (n : ℕ) (dr : Drawn rows n) (x : ℕ) (q : List ℕ
     some = some;
   })
   between a b (inr e) = subst (λ (k : List ℕ). Between rows n a b q k) (sym (turned-same x y q a (e .0))) (record {
-    along = rw (e .0, e .1) (along-rev (Adj (drawnGraph rows n)) (dr .simple .symmetric) x q y (path .along));
+    along = rw (e .0, e .1) (along-rev (Adj (rowsGraph n rows)) (dr .simple .symmetric) x q y (path .along));
     nodup = nodup-rev q (nodup-inner (link x q y) (path .nodup));
     into = λ w h. rev-in w q h;
     back = λ w h. in-rev w q h;
@@ -81,7 +81,7 @@ right-head [] [] b back e n = absurd (omega (arith, ap length e))
 right-head [] (P ∷ behind) b back e n = absurd (n (cc))
 right-head (c ∷ r) behind b back e n = let h : c ≡ b = cc in (r, ap (λ (k : ℕ). k ∷ r) h)
 
-module _ (rows : List ℕ) (n : ℕ) (dr : Drawn rows n) (few : edgeCount (drawnGraph rows n) ≤ maxEdges) (ms ps : List Link) (st : State) (go : Going rows n ms ps st) (all-branch : (w : ℕ) → On (st .built) w → On (st .branch) w) where
+module _ (rows : List ℕ) (n : ℕ) (dr : Drawn rows n) (few : edgeCount (rowsGraph n rows) ≤ maxEdges) (ms ps : List Link) (st : State) (go : Going rows n ms ps st) (all-branch : (w : ℕ) → On (st .built) w → On (st .branch) w) where
   abbrev Step : State → Type 0
   Step s = Stepped rows n ms (length (usedEdges (newestFirst ps))) s
 
@@ -99,7 +99,7 @@ module _ (rows : List ℕ) (n : ℕ) (dr : Drawn rows n) (few : edgeCount (drawn
   placed-end l s = subst (λ (b : Bool). Step (cond b (reroute st l (length (st .flat))) (extended st l (length (st .flat))))) (sym (le-ltb (length (st .flat)) (length (st .flat)) (same-most (length (st .flat))))) s
 
   -- a path out and back
-  module _ (x : ℕ) (q : List ℕ) (y : ℕ) (x-on : On (st .built) x) (y-on : On (st .built) y) (path : IsPath (Adj (drawnGraph rows n)) (link x q y)) (some : 0 < length q) (new : (w : ℕ) → In w q → ¬ On (st .built) w) where
+  module _ (x : ℕ) (q : List ℕ) (y : ℕ) (x-on : On (st .built) x) (y-on : On (st .built) y) (path : IsPath (Adj (rowsGraph n rows)) (link x q y)) (some : 0 < length q) (new : (w : ℕ) → In w q → ¬ On (st .built) w) where
     not-stop : (z : ℕ) → On (st .built) z → z ≢ stop
     not-stop z h = below-stop z (on-low (st .built) z (go .built-sized) h)
 
@@ -166,23 +166,23 @@ module _ (rows : List ℕ) (n : ℕ) (dr : Drawn rows n) (few : edgeCount (drawn
     no-edge-beside : adjacentIn rows x y ≡ false → NotBeside
     no-edge-beside e M h = ⊎-elim (λ c. clash (joins x y c) e) (λ c. clash (dr .simple .symmetric y x (joins y x c)) e)
       where
-        joins : (a b : ℕ) → Consecutive M a b → Adj (drawnGraph rows n) a b
-        joins a b c = consecutive-edge (Adj (drawnGraph rows n)) M a b (recorded-path (Adj (drawnGraph rows n)) (newestFirst ps) (go .recorded) M h) c
+        joins : (a b : ℕ) → Consecutive M a b → Adj (rowsGraph n rows) a b
+        joins a b c = consecutive-edge (Adj (rowsGraph n rows)) M a b (recorded-path (Adj (rowsGraph n rows)) (newestFirst ps) (go .recorded) M h) c
 
     -- APPENDED
     module _ (not-beside : NotBeside) where
-      out-extends : Extends (Adj (drawnGraph rows n)) (newestFirst ps) (link x q y)
+      out-extends : Extends (Adj (rowsGraph n rows)) (newestFirst ps) (link x q y)
       out-extends = record {
         is-path = path;
         from = on-vertex rows n dr ms ps st go x x-on;
         upto = on-vertex rows n dr ms ps st go y y-on;
         new = λ w h k. new w h (vertex-on rows n dr ms ps st go w k);
         apart = ⊎-elim (λ f. f) (λ r. absurd (not-beside (r .0) (r .1) (r .2)))
-            (told (drawnGraph rows n) (dr .simple) (newestFirst ps) (go .recorded) branch-all x y (ends-differ (link x q y) (path .nodup)));
+            (told (rowsGraph n rows) (dr .simple) (newestFirst ps) (go .recorded) branch-all x y (ends-differ (link x q y) (path .nodup)));
       }
 
-      back-extends : Extends (Adj (drawnGraph rows n)) (newestFirst ps) (reversed (link x q y))
-      back-extends = extends-reversed (Adj (drawnGraph rows n)) (dr .simple .symmetric) (newestFirst ps) (link x q y) out-extends
+      back-extends : Extends (Adj (rowsGraph n rows)) (newestFirst ps) (reversed (link x q y))
+      back-extends = extends-reversed (Adj (rowsGraph n rows)) (dr .simple .symmetric) (newestFirst ps) (link x q y) out-extends
 
       append-step : Step (placedAt (listed x q y) (length (st .flat)))
       append-step = placed-end (listed x q y) (extended-step rows n dr few ms ps st go (reversed (link x q y)) back-extends (length (st .flat)) (same-most (length (st .flat))) (λ w h k. all-branch w k) (listed x q y) refl)
@@ -213,8 +213,8 @@ module _ (rows : List ℕ) (n : ℕ) (dr : Drawn rows n) (few : edgeCount (drawn
 
   out-taken : empty (minus (fullSet n) (st .built)) ≡ false → Step (outTaken rows st (detour rows (fullSet n) (st .built)))
   out-taken e =
-      let a = branch-beside (Adj (drawnGraph rows n)) (newestFirst ps) (go .recorded) [] (omega arith) in
-      let b = branch-beside (Adj (drawnGraph rows n)) (newestFirst ps) (go .recorded) (a .0 ∷ []) (omega arith) in
+      let a = branch-beside (Adj (rowsGraph n rows)) (newestFirst ps) (go .recorded) [] (omega arith) in
+      let b = branch-beside (Adj (rowsGraph n rows)) (newestFirst ps) (go .recorded) (a .0 ∷ []) (omega arith) in
       ⊎-elim detoured detour-cuts (detour-law rows n dr (st .built) (go .built-sized) (λ w h. vertex-low rows n dr ms ps st go w (on-vertex rows n dr ms ps st go w h)) (a .0) (b .0)
       (vertex-on rows n dr ms ps st go (a .0) (branch-built (newestFirst ps) (a .0) (a .1))) (vertex-on rows n dr ms ps st go (b .0) (branch-built (newestFirst ps) (b .0) (b .1))) (λ i. b .2 (inl (sym i))) e)
 

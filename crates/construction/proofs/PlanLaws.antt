@@ -9,10 +9,12 @@ use Rattle.record.specs.Read.{folded}
 use Rattle.vertexset.specs.Set.{withBit, capacity}
 use Rattle.vertexset.proofs.Laws.{Words}
 use Rattle.connectivity.specs.Graph.{edgeCount}
-use Rattle.graph.specs.Plan.{Plan, Allowed, maxEdges}
-use Rattle.graph.specs.Rows.{rowWords, joined, bareRows, graphOf}
-use Rattle.graph.proofs.Adjacency.{network-simple, network-count}
-use Rattle.construction.proofs.Basics.{Drawn, drawnGraph}
+use Rattle.reading.specs.Plan.{Plan, Allowed}
+use Rattle.graph.specs.Limits.{maxEdges}
+use Rattle.graph.specs.Rows.{rowWords, joined, bareRows, rowsGraph}
+use Rattle.reading.specs.Code.{graphOf}
+use Rattle.reading.proofs.Adjacency.{graph-simple, graph-count}
+use Rattle.construction.proofs.Basics.{Drawn}
 use Rattle.construction.proofs.SetLaws.{zeros-at}
 use Rattle.construction.proofs.Table.{words-bit}
 
@@ -33,8 +35,8 @@ module _ (p : Plan) (a : Allowed p) where
     words = joined-words (p .edges) bareRows (λ i. rw (zeros-at rowWords i) (lit< tt));
     size = joined-size (p .edges) bareRows (length-replicate {A = ℕ} rowWords 0);
     low = omega (arith, a .most);
-    simple = network-simple p a;
+    simple = graph-simple p a;
   }
 
-  pub plan-edges : edgeCount (drawnGraph (graphOf p .rows) (graphOf p .n)) ≤ maxEdges
-  plan-edges = omega (arith, network-count p a, a .few)
+  pub plan-edges : edgeCount (rowsGraph (graphOf p .n) (graphOf p .rows)) ≤ maxEdges
+  plan-edges = omega (arith, graph-count p a, a .few)

@@ -8,7 +8,7 @@ use native.Mathlib.Omega.{arith}
 use lib.ListN.{length, take, drop, length-append}
 use lib.Seq.{take-at, drop-at}
 use borrow.Author.Tests.{le-leb, eq-eqb, ne-eqb}
-use Rattle.graph.specs.Plan.{maxEdges}
+use Rattle.graph.specs.Limits.{maxEdges}
 use Rattle.connectivity.specs.Lists.{In, NoDup}
 use Rattle.connectivity.specs.Graph.{Adj, edgeCount}
 use Rattle.connectivity.specs.Path.{Link, vertices, Along, usedEdges}
@@ -19,7 +19,8 @@ use Rattle.connectivity.proofs.Recorded.{Recorded, fill, reroute, reroute-branc
 use Rattle.construction.specs.Sets.{stop, withAll, reversed}
 use Rattle.construction.specs.Ears.{pathSpace}
 use Rattle.construction.specs.Steps.{State, state, segment, turned, putIn}
-use Rattle.construction.proofs.Basics.{drawnGraph, Drawn, On, flatten}
+use Rattle.graph.specs.Rows.{rowsGraph}
+use Rattle.construction.proofs.Basics.{Drawn, On, flatten}
 use Rattle.construction.proofs.SetLaws.{sized-all, on-low, all-on, on-all, rev-same}
 use Rattle.construction.proofs.Flat.{newestFirst, Placed, placed, ends-kept, ConsecutiveAt, consecutive-at, flat-place, rev-rev}
 use Rattle.construction.proofs.StepLaws.{Going, Stepped, goes, room}
@@ -59,9 +60,9 @@ rises u w q e h = omega arith
 up-to : (k x a : ℕ) → x ≡ k → k ≤ x + a
 up-to k x a e = omega arith
 
-module _ (rows : List ℕ) (n : ℕ) (dr : Drawn rows n) (few : edgeCount (drawnGraph rows n) ≤ maxEdges) (ms before : List Link) (L : Link) (behind : List Link) (st : State)
+module _ (rows : List ℕ) (n : ℕ) (dr : Drawn rows n) (few : edgeCount (rowsGraph n rows) ≤ maxEdges) (ms before : List Link) (L : Link) (behind : List Link) (st : State)
     (go : Going rows n ms (before ++ (L ∷ behind)) st) (front : List ℕ) (a b : ℕ) (back : List ℕ) (cut : vertices L ≡ front ++ (a ∷ (b ∷ back)))
-    (q : List ℕ) (along : Along (Adj (drawnGraph rows n)) a q b) (nodup : NoDup q) (new : (w : ℕ) → In w q → ¬ In w (builtVertices (newestFirst (before ++ (L ∷ behind))))) where
+    (q : List ℕ) (along : Along (Adj (rowsGraph n rows)) a q b) (nodup : NoDup q) (new : (w : ℕ) → In w q → ¬ In w (builtVertices (newestFirst (before ++ (L ∷ behind))))) where
   neighbours : ConsecutiveAt L front a b back
   neighbours = consecutive-at (L .s) (L .inner) (L .t) front a b back cut
 
@@ -75,21 +76,21 @@ module _ (rows : List ℕ) (n : ℕ) (dr : Drawn rows n) (few : edgeCount (drawn
   abbrev filledPaths : List Link
   filledPaths = before ++ (filledPath ∷ behind)
 
-  old-record : Recorded (Adj (drawnGraph rows n)) (at-place .newer ++ (L ∷ at-place .older))
-  old-record = subst (λ (k : List Link). Recorded (Adj (drawnGraph rows n)) k) (at-place .at L) (go .recorded)
+  old-record : Recorded (Adj (rowsGraph n rows)) (at-place .newer ++ (L ∷ at-place .older))
+  old-record = subst (λ (k : List Link). Recorded (Adj (rowsGraph n rows)) k) (at-place .at L) (go .recorded)
 
   off-record : (w : ℕ) → In w q → ¬ In w (builtVertices (at-place .newer ++ (L ∷ at-place .older)))
   off-record w h k = new w h (subst (λ (l : List Link). In w (builtVertices l)) (sym (at-place .at L)) k)
 
-  filled-record : Recorded (Adj (drawnGraph rows n)) (newestFirst filledPaths)
-  filled-record = subst (λ (k : List Link). Recorded (Adj (drawnGraph rows n)) k) (sym (at-place .at filledPath))
-      (reroute (Adj (drawnGraph rows n)) (at-place .newer) L (at-place .older) old-record a b (neighbours .consecutive) q along nodup off-record)
+  filled-record : Recorded (Adj (rowsGraph n rows)) (newestFirst filledPaths)
+  filled-record = subst (λ (k : List Link). Recorded (Adj (rowsGraph n rows)) k) (sym (at-place .at filledPath))
+      (reroute (Adj (rowsGraph n rows)) (at-place .newer) L (at-place .older) old-record a b (neighbours .consecutive) q along nodup off-record)
 
   filled-branch : branchVertices (newestFirst filledPaths) ≡ branchVertices (newestFirst (before ++ (L ∷ behind)))
-  filled-branch = ap branchVertices (at-place .at filledPath) ∙ reroute-branch (Adj (drawnGraph rows n)) (at-place .newer) L (at-place .older) old-record a b (neighbours .consecutive) q along nodup off-record ∙ ap branchVertices (sym (at-place .at L))
+  filled-branch = ap branchVertices (at-place .at filledPath) ∙ reroute-branch (Adj (rowsGraph n rows)) (at-place .newer) L (at-place .older) old-record a b (neighbours .consecutive) q along nodup off-record ∙ ap branchVertices (sym (at-place .at L))
 
   filled-longer : length (usedEdges (newestFirst filledPaths)) ≡ length (usedEdges (newestFirst (before ++ (L ∷ behind)))) + length q
-  filled-longer = ap (λ (k : List Link). length (usedEdges k)) (at-place .at filledPath) ∙ reroute-longer (Adj (drawnGraph rows n)) (at-place .newer) L (at-place .older) old-record a b (neighbours .consecutive) q along nodup off-record
+  filled-longer = ap (λ (k : List Link). length (usedEdges k)) (at-place .at filledPath) ∙ reroute-longer (Adj (rowsGraph n rows)) (at-place .newer) L (at-place .older) old-record a b (neighbours .consecutive) q along nodup off-record
       ∙ ap (λ (k : List Link). length (usedEdges k) + length q) (sym (at-place .at L))
 
   -- the list, up to a and from b on

@@ -17,7 +17,8 @@ use Rattle.connectivity.proofs.Lists.{rev, in-append, in-single, nodup-snoc, bo
 use Rattle.connectivity.proofs.Paths.{along-join}
 use Rattle.connectivity.proofs.Search.{Found, Closed}
 use Rattle.construction.specs.Search.{Reach, explore, back, route, reached}
-use Rattle.construction.proofs.Basics.{drawnGraph, Drawn, On, Asked, Explored}
+use Rattle.graph.specs.Rows.{rowsGraph}
+use Rattle.construction.proofs.Basics.{Drawn, On, Asked, Explored}
 use Rattle.construction.proofs.Places.{place-in, in-place, same-place, rev-end}
 use Rattle.construction.proofs.Visits.{From, Visited, AtGoal, AtEnd, Ended, visited}
 use Rattle.construction.proofs.SetLaws.{minus-on, on-minus}
@@ -34,7 +35,7 @@ record Trail (g : Graph) (seeds goals removed : VertexSet) (order : List ℕ) (i
   pub place : (w : ℕ) → In w (s ∷ m) → (j : ℕ) × (j ≤ i) × (getD order j 0 ≡ w)
 
 module _ (rows : List ℕ) (n : ℕ) (seeds goals removed : VertexSet) (s : ℕ) (order from : List ℕ) (shut : VertexSet) (h : ℕ) (v : Visited rows n seeds goals removed s order from shut h) where
-  at-seed : (i : ℕ) → i < s → Trail (drawnGraph rows n) seeds goals removed order i (getD order i 0 ∷ [])
+  at-seed : (i : ℕ) → i < s → Trail (rowsGraph n rows) seeds goals removed order i (getD order i 0 ∷ [])
   at-seed i l = record {
     s = getD order i 0;
     m = [];
@@ -47,14 +48,14 @@ module _ (rows : List ℕ) (n : ℕ) (seeds goals removed : VertexSet) (s : ℕ)
   }
 
   -- a vertex more: it stands at a later place than all of the path
-  at-next : (i : ℕ) (l : List ℕ) → s ≤ i → i < length order → Trail (drawnGraph rows n) seeds goals removed order (getD from i 0) l
-      → Trail (drawnGraph rows n) seeds goals removed order i (getD order i 0 ∷ l)
+  at-next : (i : ℕ) (l : List ℕ) → s ≤ i → i < length order → Trail (rowsGraph n rows) seeds goals removed order (getD from i 0) l
+      → Trail (rowsGraph n rows) seeds goals removed order i (getD order i 0 ∷ l)
   at-next i l b c t = record {
     s = t .s;
     m = t .m ++ (getD order i 0 ∷ []);
     same = ap (λ (k : List ℕ). getD order i 0 ∷ k) (t .same) ∙ sym (rev-end (t .s ∷ t .m) (getD order i 0));
     seed = t .seed;
-    extends = λ w e. along-join (Adj (drawnGraph rows n)) (t .s) (t .m) (getD order i 0) [] w (t .extends (getD order i 0) (f .edge)) e;
+    extends = λ w e. along-join (Adj (rowsGraph n rows)) (t .s) (t .m) (getD order i 0) [] w (t .extends (getD order i 0) (f .edge)) e;
     nodup = nodup-snoc (t .s ∷ t .m) (getD order i 0) (t .nodup) new;
     off = λ w k. ⊎-elim (t .off w) (λ j. rw (in-single w (getD order i 0) j) (no-seed, v .no-goal (getD order i 0) (place-in order i c), v .no-removed (getD order i 0) (place-in order i c))) (in-append w (t .m) (getD order i 0 ∷ []) k);
     place = λ w k. ⊎-elim (λ j. let r = t .place w j in (r .0, omega (arith, f .earlier), r .2)) (λ j. (i, omega arith, sym (in-single w (getD order i 0) j))) (in-append w (t .s ∷ t .m) (getD order i 0 ∷ []) k);
@@ -69,13 +70,13 @@ module _ (rows : List ℕ) (n : ℕ) (seeds goals removed : VertexSet) (s : ℕ)
       no-seed : ¬ On seeds (getD order i 0)
       no-seed k = let r = v .seed-place (getD order i 0) k in omega (arith, same-place order (v .nodup) (r .0) i (omega arith) c (r .2))
 
-  trail : (k i : ℕ) → i < k → i < length order → Trail (drawnGraph rows n) seeds goals removed order i (back k order from s i)
+  trail : (k i : ℕ) → i < k → i < length order → Trail (rowsGraph n rows) seeds goals removed order i (back k order from s i)
   unfolding back
   trail zero i l c = absurd (omega arith)
   trail (suc k) i l c = go (ltb i s) refl (λ b. let f = v .reached i b c in trail k (getD from i 0) (omega arith) (omega arith))
     where
-      go : (b : Bool) → ltb i s ≡ b → (s ≤ i → Trail (drawnGraph rows n) seeds goals removed order (getD from i 0) (back k order from s (getD from i 0)))
-          → Trail (drawnGraph rows n) seeds goals removed order i (getD order i 0 ∷ cond b [] (back k order from s (getD from i 0)))
+      go : (b : Bool) → ltb i s ≡ b → (s ≤ i → Trail (rowsGraph n rows) seeds goals removed order (getD from i 0) (back k order from s (getD from i 0)))
+          → Trail (rowsGraph n rows) seeds goals removed order i (getD order i 0 ∷ cond b [] (back k order from s (getD from i 0)))
       go true e t = at-seed i (ltb-true i s e)
       go false e t = at-next i (back k order from s (getD from i 0)) (ltb-false i s e) c (t (ltb-false i s e))
 
@@ -83,13 +84,13 @@ module _ (rows : List ℕ) (n : ℕ) (d : Drawn rows n) (seeds goals removed : V
   -- what is found, and what is closed, where a search ended in r
   module _ (r : Reach) (e : Ended rows n seeds goals removed r) where
     abbrev BackTrail : Type 0
-    BackTrail = Trail (drawnGraph rows n) seeds goals removed (r .order) (r .last) (back capacity (r .order) (r .from) (r .seeds) (r .last))
+    BackTrail = Trail (rowsGraph n rows) seeds goals removed (r .order) (r .last) (back capacity (r .order) (r .from) (r .seeds) (r .last))
 
     last-trail : r .last < length (r .order) → BackTrail
     last-trail h = trail rows n seeds goals removed (r .seeds) (r .order) (r .from) (r .shut) (r .last) (e .visited) capacity (r .last)
         (omega (arith, at-most n (r .order) (e .visited .nodup) (e .visited .low), d .low)) h
 
-    path : (g : AtGoal rows goals r) → BackTrail → Found (drawnGraph rows n) (On seeds) (On goals) (On removed)
+    path : (g : AtGoal rows goals r) → BackTrail → Found (rowsGraph n rows) (On seeds) (On goals) (On removed)
     path g t = record {
       path = link (t .s) (t .m) (r .goal);
       is-path = record { along = t .extends (r .goal) (g .edge); nodup = nodup-snoc (t .s ∷ t .m) (r .goal) (t .nodup) new };
@@ -117,10 +118,10 @@ module _ (rows : List ℕ) (n : ℕ) (d : Drawn rows n) (seeds goals removed : V
     seed-in : (w : ℕ) → On seeds w → In w (r .order)
     seed-in w o = let p = e .visited .seed-place w o in rw (p .2) at (place-in (r .order) (p .0) (omega (arith, e .visited .seeds-fit)))
 
-    next-in : AtEnd r → (u w : ℕ) → In u (r .order) → Adj (drawnGraph rows n) u w → ¬ On removed w → In w (r .order)
+    next-in : AtEnd r → (u w : ℕ) → In u (r .order) → Adj (rowsGraph n rows) u w → ¬ On removed w → In w (r .order)
     next-in g u w m k o = let p = in-place u (r .order) m in e .visited .done (p .0) (omega (arith, g .all)) w (rw (p .2) k) o
 
-    closed : AtEnd r → Closed (drawnGraph rows n) (On seeds) (On goals) (On removed)
+    closed : AtEnd r → Closed (rowsGraph n rows) (On seeds) (On goals) (On removed)
     closed g = record {
       side = has (reached r removed .words);
       seeds = λ w o. in-side w (seed-in w o);

@@ -10,7 +10,7 @@ use lib.Count.{ones}
 use lib.ListN.{length, getD}
 use Rattle.record.specs.Number.{numberBytes, listBytes}
 use Rattle.vertexset.specs.Set.{has, emptySet, count}
-use Rattle.graph.specs.Rows.{adjacentIn}
+use Rattle.graph.specs.Rows.{adjacentIn, rowsGraph}
 use Rattle.certificates.specs.Encoding.{pairBytes}
 use Rattle.connectivity.specs.Lists.{In, NoDup, below}
 use Rattle.connectivity.specs.Graph.{Graph, Adj, Simple}
@@ -21,7 +21,7 @@ use Rattle.construction.specs.Sets.{single, members, minus, empty}
 use Rattle.construction.specs.Search.{Reach, explore}
 use Rattle.construction.specs.Ears.{cut}
 use Rattle.construction.specs.Certificate.{pairsFrom, treeNumbers, fullSet}
-use Rattle.construction.proofs.Basics.{drawnGraph, Drawn, Sized, On, IsCut, Asked}
+use Rattle.construction.proofs.Basics.{Drawn, Sized, On, IsCut, Asked}
 use Rattle.construction.proofs.SetLaws.{sized-empty, sized-single, sized-minus, sized-all, empty-on, single-on, on-single, on-full, full-on, on-minus, minus-on, members-in, members-count, empty-none, empty-some, not-empty}
 use Rattle.construction.proofs.Places.{place-in, in-place, same-place}
 use Rattle.construction.proofs.Visits.{Visited, Ended, visited, one-seed, seed-first}
@@ -123,14 +123,14 @@ module _ (rows : List ℕ) (n : ℕ) (d : Drawn rows n) where
   tree-low = v .low
 
   edge : (i : ℕ) → 1 ≤ i → i < length (treeOf rows .order)
-      → (getD (treeOf rows .from) i 0 < i) × Adj (drawnGraph rows n) (getD (treeOf rows .order) (getD (treeOf rows .from) i 0) 0) (getD (treeOf rows .order) i 0)
+      → (getD (treeOf rows .from) i 0 < i) × Adj (rowsGraph n rows) (getD (treeOf rows .order) (getD (treeOf rows .from) i 0) 0) (getD (treeOf rows .order) i 0)
   edge i l m = let r = v .reached i (omega (arith, one)) m in (r .earlier, r .edge)
 
   some : 1 + (length (treeOf rows .order) - 1) ≡ length (treeOf rows .order)
   some = omega (arith, v .seeds-fit, one)
 
-  pub tree-of : Tree (drawnGraph rows n) (0 ∷ []) (pairsOf (treeOf rows .order) (treeOf rows .from) (length (treeOf rows .order) - 1) 1)
-  tree-of = tree-from (drawnGraph rows n) (d .simple) (treeOf rows .order) (treeOf rows .from) (v .nodup) edge (length (treeOf rows .order) - 1) 1 (0 ∷ []) some (omega arith) before named
+  pub tree-of : Tree (rowsGraph n rows) (0 ∷ []) (pairsOf (treeOf rows .order) (treeOf rows .from) (length (treeOf rows .order) - 1) 1)
+  tree-of = tree-from (rowsGraph n rows) (d .simple) (treeOf rows .order) (treeOf rows .from) (v .nodup) edge (length (treeOf rows .order) - 1) 1 (0 ∷ []) some (omega arith) before named
     where
       before : (w : ℕ) → In w (0 ∷ []) → (j : ℕ) × (j < 1) × (getD (treeOf rows .order) j 0 ≡ w)
       before w (inl e) = (0, omega arith, first ∙ sym e)
@@ -143,7 +143,7 @@ module _ (rows : List ℕ) (n : ℕ) (d : Drawn rows n) where
   -- every number of the tree in the record is below n
   pub tree-numbers-low : (w : ℕ) → In w (treeNumbers (treeOf rows)) → w < n
   tree-numbers-low w (inl e) = omega (arith, d .simple .big)
-  tree-numbers-low w (inr m) = v .low w (numbers-in (drawnGraph rows n) (d .simple) (treeOf rows .order) (treeOf rows .from) (v .nodup) edge (length (treeOf rows .order) - 1) 1 some (omega arith) w
+  tree-numbers-low w (inr m) = v .low w (numbers-in (rowsGraph n rows) (d .simple) (treeOf rows .order) (treeOf rows .from) (v .nodup) edge (length (treeOf rows .order) - 1) 1 some (omega arith) w
       (subst (λ (l : List ℕ). In w l) (tree-numbers (treeOf rows .order) (treeOf rows .from) (length (treeOf rows .order) - 1) 1) m))
 
   shut-order : (w : ℕ) → On (treeOf rows .shut) w → In w (treeOf rows .order)
@@ -196,7 +196,7 @@ module _ (rows : List ℕ) (n : ℕ) (d : Drawn rows n) where
       left : On (fullSet n) (out .0) × (¬ On (treeOf rows .shut) (out .0))
       left = minus-on (fullSet n) (treeOf rows .shut) (sized-full n) (v .sized) (out .0) (out .1)
 
-      apart : Separated (drawnGraph rows n) (members emptySet)
+      apart : Separated (rowsGraph n rows) (members emptySet)
       apart = record {
         side = has (treeOf rows .shut .words);
         out = λ w m. absurd (empty-on w (members-in emptySet w m));

@@ -11,7 +11,7 @@ use lib.ListN.{length}
 use borrow.Author.Tests.{ltb-false}
 use Rattle.vertexset.specs.Set.{count, inserted, capacity}
 use Rattle.vertexset.specs.declared.VertexSet.{VertexSet}
-use Rattle.graph.specs.Rows.{rowOf, bareRows}
+use Rattle.graph.specs.Rows.{rowOf, bareRows, rowsGraph}
 use Rattle.connectivity.specs.Lists.{In}
 use Rattle.connectivity.specs.Graph.{Graph, Adj}
 use Rattle.connectivity.specs.Path.{Link, link, vertices, IsPath}
@@ -25,7 +25,7 @@ use Rattle.construction.specs.Sets.{minus, single, pair, setOf, members,
 use Rattle.construction.specs.Search.{explore, route, reached}
 use Rattle.construction.specs.Ears.{cut, isCut, Found, found, failed, answered, cycle}
 use Rattle.construction.specs.Start.{Begun, broken, marked, sorted, fourOf, startOn, across, thirdPath, crossed, thirded, around, begin}
-use Rattle.construction.proofs.Basics.{drawnGraph, Drawn, Sized, On, IsCut, flatten, Asked, Met, Shut, Explored}
+use Rattle.construction.proofs.Basics.{Drawn, Sized, On, IsCut, flatten, Asked, Met, Shut, Explored}
 use Rattle.construction.proofs.SetLaws.{sized-single, sized-pair, sized-minus, sized-all, sized-empty, sized-inserted, sized-row, single-on, on-single, pair-on, on-pair, minus-on, on-minus, set-on, on-set, inserted-on, on-inserted, inserted-keep, row-on, members-in, members-nodup, members-count, least-on, least-first, last-snoc}
 use Rattle.construction.proofs.Places.{rev-end}
 use Rattle.construction.proofs.Flat.{rev-vertices}
@@ -37,7 +37,7 @@ use Rattle.construction.proofs.ThreePaths.{Crossed, whole-room, crossed
 pub record StartedAs (rows : List ℕ) (n : ℕ) (b : Begun) : Type 0 where
   pub not-cut : isCut (b .cutBy) ≡ false
   pub ms : List Link
-  pub x : Subdivision (Adj (drawnGraph rows n)) ms
+  pub x : Subdivision (Adj (rowsGraph n rows)) ms
   pub same-flat : b .flat ≡ flatten ms
   pub same-four : members (b .four) ≡ theFour x
   pub four-sized : Sized (b .four)
@@ -79,7 +79,7 @@ sized-set l = sized-all _ l sized-empty
 
 module _ (rows : List ℕ) (n : ℕ) (d : Drawn rows n) where
   abbrev g : Graph
-  g = drawnGraph rows n
+  g = rowsGraph n rows
 
   low-of : (w : ℕ) → w < n → w < capacity
   low-of w h = low-capacity n w (d .low) h

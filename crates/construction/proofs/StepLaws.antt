@@ -9,7 +9,7 @@ use lib.ListN.{length, take, drop, length-append, take-append-drop}
 use lib.Seq.{take-append-le}
 use Rattle.vertexset.specs.Set.{inserted, capacity}
 use Rattle.vertexset.specs.declared.VertexSet.{VertexSet}
-use Rattle.graph.specs.Plan.{maxEdges}
+use Rattle.graph.specs.Limits.{maxEdges}
 use Rattle.connectivity.specs.Lists.{In}
 use Rattle.connectivity.specs.Graph.{Adj, edgeCount}
 use Rattle.connectivity.specs.Path.{Link, vertices, pathEdges, usedEdges}
@@ -23,7 +23,8 @@ use Rattle.connectivity.proofs.Completeness.{recorded-most}
 use Rattle.construction.specs.Sets.{stop, withAll, lastOf}
 use Rattle.construction.specs.Ears.{isCut, pathSpace, addPath}
 use Rattle.construction.specs.Steps.{State, extended}
-use Rattle.construction.proofs.Basics.{drawnGraph, Drawn, Sized, On, IsCut, flatten}
+use Rattle.graph.specs.Rows.{rowsGraph}
+use Rattle.construction.proofs.Basics.{Drawn, Sized, On, IsCut, flatten}
 use Rattle.construction.proofs.SetLaws.{sized-inserted, sized-all, on-low, inserted-on, on-inserted, inserted-keep, all-on, on-all, added-room, last-snoc, flatten-append}
 use Rattle.construction.proofs.Detours.{low-capacity}
 use Rattle.construction.proofs.Flat.{newestFirst, newest-snoc, newest-built, built-newest, flat-most, in-flat, flat-in}
@@ -31,7 +32,7 @@ use Rattle.construction.proofs.Flat.{newestFirst, newest-snoc, newest-b
 -- WHAT EVERY STEP KEEPS: the list holds a record of whole paths with the ends of the start, the sets hold its branch vertices and all
 -- its vertices, and no inner vertex stands before the place `at`.
 pub record Going (rows : List ℕ) (n : ℕ) (ms ps : List Link) (st : State) : Type 0 where
-  pub recorded : Recorded (Adj (drawnGraph rows n)) (newestFirst ps)
+  pub recorded : Recorded (Adj (rowsGraph n rows)) (newestFirst ps)
   pub six : 6 ≤ length ps
   pub ends : endPairs (take 6 ps) ≡ endPairs ms
   pub same-flat : st .flat ≡ flatten ps
@@ -51,7 +52,7 @@ pub record Completed (rows : List ℕ) (n : ℕ) (ms : List Link) (st : State) :
   pub ps : List Link
   pub same-flat : st .flat ≡ flatten ps
   pub six : 6 ≤ length ps
-  pub recorded : Recorded (Adj (drawnGraph rows n)) (newestFirst ps)
+  pub recorded : Recorded (Adj (rowsGraph n rows)) (newestFirst ps)
   pub ends : endPairs (take 6 ps) ≡ endPairs ms
   pub all-branch : (w : ℕ) → w < n → In w (branchVertices (newestFirst ps))
 
@@ -79,7 +80,7 @@ take-in w i l h = subst (λ (k : List ℕ). In w k) (take-append-drop i l) (in-l
 
 module _ (rows : List ℕ) (n : ℕ) (dr : Drawn rows n) (ms ps : List Link) (st : State) (go : Going rows n ms ps st) where
   pub vertex-low : (w : ℕ) → In w (builtVertices (newestFirst ps)) → w < n
-  vertex-low w h = built-low (drawnGraph rows n) (dr .simple) (newestFirst ps) (go .recorded) w h
+  vertex-low w h = built-low (rowsGraph n rows) (dr .simple) (newestFirst ps) (go .recorded) w h
 
   -- the set `built` holds the vertices of the record
   pub vertex-on : (w : ℕ) → In w (builtVertices (newestFirst ps)) → On (st .built) w
@@ -88,15 +89,15 @@ module _ (rows : List ℕ) (n : ℕ) (dr : Drawn rows n) (ms ps : List Link) (st
   pub on-vertex : (w : ℕ) → On (st .built) w → In w (builtVertices (newestFirst ps))
   on-vertex w h = built-newest ps w (flat-in ps w (subst (λ (k : List ℕ). In w k) (go .same-flat) (go .built-on w h)) (below-stop w (on-low (st .built) w (go .built-sized) h)))
 
-module _ (rows : List ℕ) (n : ℕ) (dr : Drawn rows n) (few : edgeCount (drawnGraph rows n) ≤ maxEdges) where
+module _ (rows : List ℕ) (n : ℕ) (dr : Drawn rows n) (few : edgeCount (rowsGraph n rows) ≤ maxEdges) where
   -- the paths of a record have room
-  pub room : (ps : List Link) → Recorded (Adj (drawnGraph rows n)) (newestFirst ps) → length (flatten ps) ≤ pathSpace
-  room ps val = room-of (length (flatten ps)) (length (usedEdges (newestFirst ps))) (edgeCount (drawnGraph rows n)) (flat-most ps) (recorded-most (drawnGraph rows n) (dr .simple) (newestFirst ps) val) few
+  pub room : (ps : List Link) → Recorded (Adj (rowsGraph n rows)) (newestFirst ps) → length (flatten ps) ≤ pathSpace
+  room ps val = room-of (length (flatten ps)) (length (usedEdges (newestFirst ps))) (edgeCount (rowsGraph n rows)) (flat-most ps) (recorded-most (rowsGraph n rows) (dr .simple) (newestFirst ps) val) few
 
   -- A PATH IS APPENDED.
-  module _ (ms ps : List Link) (st : State) (go : Going rows n ms ps st) (P : Link) (ext : Extends (Adj (drawnGraph rows n)) (newestFirst ps) P) where
-    longer-record : Recorded (Adj (drawnGraph rows n)) (newestFirst (ps ++ (P ∷ [])))
-    longer-record = subst (λ (k : List Link). Recorded (Adj (drawnGraph rows n)) k) (sym (newest-snoc ps P (go .six))) (inr (ext, go .recorded))
+  module _ (ms ps : List Link) (st : State) (go : Going rows n ms ps st) (P : Link) (ext : Extends (Adj (rowsGraph n rows)) (newestFirst ps) P) where
+    longer-record : Recorded (Adj (rowsGraph n rows)) (newestFirst (ps ++ (P ∷ [])))
+    longer-record = subst (λ (k : List Link). Recorded (Adj (rowsGraph n rows)) k) (sym (newest-snoc ps P (go .six))) (inr (ext, go .recorded))
 
     longer-flat : st .flat ++ (stop ∷ vertices P) ≡ flatten (ps ++ (P ∷ []))
     longer-flat = ap (λ (k : List ℕ). k ++ (stop ∷ vertices P)) (go .same-flat) ∙ ap (λ (k : List ℕ). flatten ps ++ (stop ∷ k)) (sym (append-nil (vertices P))) ∙ sym (flatten-append ps (P ∷ []))
@@ -108,7 +109,7 @@ module _ (rows : List ℕ) (n : ℕ) (dr : Drawn rows n) (few : edgeCount (drawn
     last-vertex = last-snoc (P .s ∷ P .inner) (P .t)
 
     new-low : (w : ℕ) → In w (vertices P) → w < capacity
-    new-low w h = low-capacity n w (dr .low) (path-low (drawnGraph rows n) (dr .simple) P (ext .is-path) w h)
+    new-low w h = low-capacity n w (dr .low) (path-low (rowsGraph n rows) (dr .simple) P (ext .is-path) w h)
 
     abbrev withEnds : VertexSet
     withEnds = inserted (inserted (st .branch) (P .s)) (lastOf (vertices P))

@@ -14,7 +14,7 @@ use borrow.Author.Tests.{eqb-true, eq-eqb, ltb-true, ltb-false, lt-ltb}
 use Rattle.vertexset.specs.Set.{has, withBit, capacity}
 use Rattle.vertexset.proofs.Laws.{Words, has-empty}
 use Rattle.graph.specs.Rows.{adjacentIn, rowWords, bareRows, joined, joinedRows}
-use Rattle.graph.proofs.Adjacency.{has-both, same-bit}
+use Rattle.reading.proofs.Adjacency.{has-both, same-bit}
 use Rattle.connectivity.specs.Lists.{In}
 use Rattle.connectivity.specs.Graph.{isPair}
 use Rattle.connectivity.specs.Path.{Link, edge, edgesAlong, usedEdges}

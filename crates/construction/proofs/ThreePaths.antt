@@ -18,7 +18,8 @@ use Rattle.connectivity.proofs.Start.{StartPaths}
 use Rattle.connectivity.proofs.FirstLinks.{reversed, sixBetween, six-paths, three-nodup, two-arcs}
 use Rattle.vertexset.specs.Set.{capacity}
 use Rattle.construction.specs.Start.{threePaths}
-use Rattle.construction.proofs.Basics.{drawnGraph, Drawn, Sized, On}
+use Rattle.graph.specs.Rows.{rowsGraph}
+use Rattle.construction.proofs.Basics.{Drawn, Sized, On}
 use Rattle.construction.proofs.Flat.{rev-rev}
 use Rattle.construction.proofs.Table.{tableOf, table-used, used-table, table-drawn}
 use Rattle.construction.proofs.LinksIn.{edges-rev}
@@ -69,13 +70,13 @@ module _ (g : Graph) (simple : Simple g) (table : List ℕ) (drawn : Drawn table
     (into : (w : ℕ) → In w (four a (R .s) (R .t) b) → On set w) (out : (w : ℕ) → On set w → In w (four a (R .s) (R .t) b)) where
   pub crossing : (p q r : List ℕ)
       → ((M : Link) → In M (fourPaths a b p q r R) → Along (Adj g) (M .s) (M .inner) (M .t))
-      → ((M : Link) → In M (fourPaths a b p q r R) → Along (Adj (drawnGraph table capacity)) (M .s) (M .inner) (M .t))
-      → ((u v : ℕ) → Adj (drawnGraph table capacity) u v → In (edge u v) (usedEdges (fourPaths a b p q r R)))
+      → ((M : Link) → In M (fourPaths a b p q r R) → Along (Adj (rowsGraph capacity table)) (M .s) (M .inner) (M .t))
+      → ((u v : ℕ) → Adj (rowsGraph capacity table) u v → In (edge u v) (usedEdges (fourPaths a b p q r R)))
       → NoDup (R .inner ++ (p ++ (q ++ (r ++ (a ∷ (b ∷ [])))))) → In (R .s) p → In (R .t) q → InOrder g table set
   crossing p q r along along′ only nd hs ht = go (in-split (R .s) p hs) (in-split (R .t) q ht)
     where
       go : ((p₁ : List ℕ) × (p₂ : List ℕ) × (p ≡ p₁ ++ (R .s ∷ p₂))) → ((q₁ : List ℕ) × (q₂ : List ℕ) × (q ≡ q₁ ++ (R .t ∷ q₂))) → InOrder g table set
-      go (p₁, p₂, ep) (q₁, q₂, eq) = in-order g simple table drawn (four a (R .s) (R .t) b) refl (sixBetween a b p₁ (R .s) p₂ q₁ (R .t) q₂ r (R .inner)) (paths (Adj g) along) (paths (Adj (drawnGraph table capacity)) along′)
+      go (p₁, p₂, ep) (q₁, q₂, eq) = in-order g simple table drawn (four a (R .s) (R .t) b) refl (sixBetween a b p₁ (R .s) p₂ q₁ (R .t) q₂ r (R .inner)) (paths (Adj g) along) (paths (Adj (rowsGraph capacity table)) along′)
           (λ u v k. cut-edges a b p₁ (R .s) p₂ q₁ (R .t) q₂ r (R .inner) (edge u v) (rw (ep, eq) at (only u v k))) set sized into out
         where
           paths : (E : ℕ → ℕ → Type 0) → ((M : Link) → In M (fourPaths a b p q r R) → Along E (M .s) (M .inner) (M .t)) → StartPaths E (four a (R .s) (R .t) b) (sixBetween a b p₁ (R .s) p₂ q₁ (R .t) q₂ r (R .inner))
@@ -181,14 +182,14 @@ module _ (g : Graph) (simple : Simple g) (fits : g .n ≤ capacity) (P Q R : Lin
     drawn : Drawn table capacity
     drawn = table-drawn (wholePaths P Q R) (λ z h. simple .irreflexive z (arc-edge z z (down (edge z z) h)))
 
-    only : (x y : ℕ) → Adj (drawnGraph table capacity) x y → In (edge x y) (usedEdges arcs)
+    only : (x y : ℕ) → Adj (rowsGraph capacity table) x y → In (edge x y) (usedEdges arcs)
     only x y k = down (edge x y) (table-used (wholePaths P Q R) x y k .2)
 
     below : (w : ℕ) → w < g .n → w < capacity
     below w h = omega arith
 
-    table-along : (M : Link) → In M arcs → Along (Adj (drawnGraph table capacity)) (M .s) (M .inner) (M .t)
-    table-along M hM = along-of (Adj (drawnGraph table capacity)) (M .s) (M .inner) (M .t) (λ x y k.
+    table-along : (M : Link) → In M arcs → Along (Adj (rowsGraph capacity table)) (M .s) (M .inner) (M .t)
+    table-along M hM = along-of (Adj (rowsGraph capacity table)) (M .s) (M .inner) (M .t) (λ x y k.
         let h = in-used arcs (edge x y) M hM k in
         let a = arc-edge x y h in
         used-table (wholePaths P Q R) x y (below x (simple .low x y a)) (below y (edge-high g simple x y a)) (up (edge x y) h))
@@ -209,7 +210,7 @@ module _ (g : Graph) (simple : Simple g) (fits : g .n ≤ capacity) (P Q R : Lin
     abbrev arcs′ : List Link
     arcs′ = fourPaths 0 (Q .t) p (rev v) u R
 
-    only′ : (x y : ℕ) → Adj (drawnGraph table capacity) x y → In (edge x y) (usedEdges arcs′)
+    only′ : (x y : ℕ) → Adj (rowsGraph capacity table) x y → In (edge x y) (usedEdges arcs′)
     only′ x y k = let m = used-in arcs (edge x y) (only x y k) in in-used arcs′ (edge x y) (m .0) (swap-in (m .0) (link 0 p (Q .t)) (link 0 u (Q .t)) (link 0 (rev v) (Q .t)) (R ∷ []) (m .1)) (m .2)
 
     unswap : (M : Link) → In M arcs′ → In M arcs

@@ -12,13 +12,13 @@ use lib.ListN.{length, getD, replicate, length-append, length-replicate, getD-re
 use borrow.Author.Tests.{ltb-true, ltb-false}
 use Rattle.vertexset.specs.Set.{has, capacity}
 use Rattle.vertexset.specs.declared.VertexSet.{VertexSet}
-use Rattle.graph.specs.Rows.{adjacentIn, rowOf}
+use Rattle.graph.specs.Rows.{adjacentIn, rowOf, rowsGraph}
 use Rattle.connectivity.specs.Lists.{In, NoDup}
 use Rattle.connectivity.proofs.Lists.{in-append, in-left, in-right, nodup-append, at-most, below?, true?}
 use Rattle.connectivity.proofs.Edges.{edge-high}
 use Rattle.construction.specs.Sets.{plus, minus, common, members, least, added}
 use Rattle.construction.specs.Search.{Reach, reach, visit, explore}
-use Rattle.construction.proofs.Basics.{drawnGraph, Drawn, Sized, On, Asked}
+use Rattle.construction.proofs.Basics.{Drawn, Sized, On, Asked}
 use Rattle.construction.proofs.Places.{place-in, in-place, same-place, place-past}
 use Rattle.construction.proofs.SetLaws.{sized-plus, sized-minus, sized-row, plus-on, on-plus, minus-on, on-minus, common-on, on-common, members-in, in-members, members-nodup, least-on, least-none, row-on, on-row, added-room}
 
@@ -180,7 +180,7 @@ module _ (rows : List ℕ) (n : ℕ) (d : Drawn rows n) (seeds goals removed : V
     more-nodup = nodup-append order fresh (v .nodup) (m .nodup) (λ w j k. fresh-on w k .1 (v .in-shut w j))
 
     more-low : (w : ℕ) → In w (order ++ fresh) → w < n
-    more-low w m = ⊎-elim (v .low w) (λ k. edge-high (drawnGraph rows n) (d .simple) at w (fresh-edge w k)) (in-append w order fresh m)
+    more-low w m = ⊎-elim (v .low w) (λ k. edge-high (rowsGraph n rows) (d .simple) at w (fresh-edge w k)) (in-append w order fresh m)
 
     room : length order + length fresh ≤ capacity
     room = omega (arith, at-most n (order ++ fresh) more-nodup more-low, length-append order fresh, d .low)

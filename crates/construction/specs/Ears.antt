@@ -5,7 +5,7 @@ use mathlib.Core.List.{List, [], _∷_, _++_}
 use lib.Dec.{ltb}
 use Rattle.vertexset.specs.Set.{emptySet, count, capacity}
 use Rattle.vertexset.specs.declared.VertexSet.{VertexSet}
-use Rattle.graph.specs.Plan.{maxEdges}
+use Rattle.graph.specs.Limits.{maxEdges}
 use Rattle.graph.specs.Rows.{rowOf}
 use Rattle.construction.specs.Sets.{stop, minus, common, single, withAll, members, least, empty, added}
 use Rattle.construction.specs.Search.{Reach, explore, isFound, route, reached}

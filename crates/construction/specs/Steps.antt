@@ -6,7 +6,7 @@ use lib.Dec.{ltb, leb, eqb}
 use lib.ListN.{length, getD, take, drop}
 use Rattle.vertexset.specs.Set.{has, inserted}
 use Rattle.vertexset.specs.declared.VertexSet.{VertexSet}
-use Rattle.graph.specs.Plan.{maxEdges}
+use Rattle.graph.specs.Limits.{maxEdges}
 use Rattle.graph.specs.Rows.{adjacentIn, rowOf, bareRows}
 use Rattle.connectivity.specs.Lists.{below}
 use Rattle.construction.specs.Sets.{stop, minus, pair, withAll, setOf, membersFrom, empty, reversed, lastOf, placeOf}

@@ -6,7 +6,7 @@ use mathlib.Core.Path.{_≡_, refl, sym, ap, _∙_}
 use native.Mathlib.Omega.{arith}
 use lib.Dec.{leb}
 use borrow.Author.Tests.{le-leb, lt-leb}
-use Rattle.record.specs.Read.{Read.Got, Read.Refused, Reader, _needs⟨_⟩_, _▸_, many, counted, check, folded}
+use Rattle.record.specs.Read.{Read.Got, Read.Refused, Reader, _needs⟨_⟩_, _▸_, many, counted, check, folded, within}
 use Rattle.record.specs.Number.{number}
 use Rattle.record.proofs.Loops.{needs-got, leads-bad, leads-got}
 use Rattle.vertexset.specs.Set.{has, emptySet, inserted, wordCount, capacity}
@@ -15,7 +15,7 @@ use Rattle.vertexset.proofs.Laws.{empty-has, inserted-has, inserted-length}
 use Rattle.connectivity.specs.Lists.{member}
 use Rattle.connectivity.specs.Graph.{Graph}
 use Rattle.connectivity.specs.Path.{Link}
-use Rattle.certificates.specs.Tests.{within, nobody, with, allBelow, earTaken}
+use Rattle.certificates.specs.Tests.{nobody, with, allBelow, earTaken}
 use Rattle.certificates.specs.Records.{vertex, ear, side, body}
 use Rattle.paths.specs.Items.{endRead, limited}
 use Rattle.paths.specs.declared.Item.{Item}

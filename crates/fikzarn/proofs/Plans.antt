@@ -4,8 +4,9 @@ use mathlib.Core.List.{List}
 use mathlib.Core.Path.{_≡_, sym, ap, _∙_}
 use Rattle.record.specs.declared.Answer.{Answer}
 use Rattle.record.specs.declared.Answer.the-variants.{Accepted}
-use Rattle.graph.specs.Code.{wholePlan, withPlan}
-use Rattle.graph.specs.declared.PlanRead.{PlanRead}
+use Rattle.reading.specs.Code.{wholePlan}
+use Rattle.writing.specs.Write.{withPlan}
+use Rattle.reading.specs.declared.PlanRead.{PlanRead}
 use Rattle.script.specs.Replay.{answerWord}
 use Rattle.fikzarn.specs.Words.{rewritten, planRewritten}
 

@@ -3,7 +3,8 @@ use Prim.Native.Nat.{ℕ}
 use mathlib.Core.List.{List}
 use Rattle.record.specs.declared.Answer.{Answer}
 use Rattle.record.specs.declared.Answer.the-variants.{Accepted, Grade, PlanFault, CertificateFault}
-use Rattle.graph.specs.Code.{wholePlan, withPlan}
+use Rattle.reading.specs.Code.{wholePlan}
+use Rattle.writing.specs.Write.{withPlan}
 use Rattle.certifier.specs.declared.Made.{Made}
 use Rattle.script.specs.Replay.{word, answerWord, Reply}
 

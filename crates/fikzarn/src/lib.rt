@@ -1,7 +1,7 @@
 // The functions for callers in other languages: numbers and byte slices, one word for an answer.
 ghost use mathlib.Core.Path.{_≡_};
-ghost use Rattle.graph.specs.Plan.{minVertices, maxVertices, maxEdges};
-ghost use Rattle.graph.specs.Code.{wholePlan};
+ghost use Rattle.graph.specs.Limits.{minVertices, maxVertices, maxEdges};
+ghost use Rattle.reading.specs.Code.{wholePlan};
 ghost use Rattle.checker.specs.Check.{checkOf};
 ghost use Rattle.certifier.specs.Made.{madeFrom, filledFrom, roomAsked};
 ghost use Rattle.script.specs.Replay.{answerWord, replayOf};
@@ -15,12 +15,12 @@ use record::Answer;
 pub extern "C" fn fikzarn_plan(input: &[u8], out: &mut [u8]) -> u64
     ensures { λ r. ⌜ (r ≡ answerWord (wholePlan (now (input .entry)) .answer)) × (now (out .exit) ≡ planRewritten (now (input .entry)) (now (out .entry))) ⌝ }
 {
-    let read = graph::read_plan(input);
+    let read = reading::read_plan(input);
     let answer = read.answer;
     let found = read.graph;
     match answer {
         Answer::Accepted => {
-            graph::write_plan(found, out);
+            writing::write_plan(found, out);
             script::answer_word(answer)
         }
         Answer::Grade(_) => script::answer_word(answer),

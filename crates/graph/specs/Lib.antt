@@ -1,3 +1,2 @@
-pub mod Plan
+pub mod Limits
 pub mod Rows
-pub mod Code

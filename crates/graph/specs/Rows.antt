@@ -1,14 +1,12 @@
 -- A graph by value: its adjacency as rows of bits, one row for each vertex, in one list of words.
-use Prim.Native.Nat.{ℕ, zero, suc, _+_, _*_, _/_, _%_}
+use Prim.Native.Nat.{ℕ, zero, suc, _+_, _*_}
 use mathlib.Core.List.{List, [], _∷_}
 use mathlib.Core.Bool.{Bool, cond, _&&_}
 use lib.Dec.{ltb}
 use lib.ListN.{length, getD, replicate}
-use Rattle.record.specs.Read.{folded}
 use Rattle.connectivity.specs.Graph as connectivity
 use Rattle.vertexset.specs.Set.{has, withBit, wordCount, emptySet, capacity}
 use Rattle.vertexset.specs.declared.VertexSet.{VertexSet}
-use Rattle.graph.specs.Plan.{Plan, proper}
 use Rattle.graph.specs.declared.Graph.{Graph}
 
 -- a row for each vertex that a set can hold, as long as a set
@@ -40,35 +38,10 @@ joined rows e = withBit (withBit rows (e .0 * capacity + e .1)) (e .1 * capacity
 abbrev pub joinedRows : List ℕ → ℕ → ℕ → List ℕ
 joinedRows rows u v = cond (ltb u capacity && ltb v capacity) (joined rows (u, v)) rows
 
--- the graph of a plan
-unfoldable pub graphOf : Plan → Graph
-graphOf p = record { n = p .n; m = length (p .edges); rows = folded joined bareRows (p .edges) }
-
--- the graph that the rows stand for
-abbrev pub network : Graph → connectivity.Graph
-network g = record { n = g .n; adj = adjacentIn (g .rows) }
+-- the graph of n vertices that the rows stand for
+abbrev pub rowsGraph : ℕ → List ℕ → connectivity.Graph
+rowsGraph n rows = record { n = n; adj = adjacentIn rows }
 
 -- what stands beside a refusal: a graph without vertices
 abbrev pub noGraph : Graph
 noGraph = record { n = 0; m = 0; rows = bareRows }
-
--- the two vertices that a place of the rows stands for
-abbrev pub pairAt : ℕ → ℕ × ℕ
-pairAt k = (k / capacity, k % capacity)
-
--- they are adjacent, the lower first
-abbrev pub edgeAt : List ℕ → ℕ → ℕ → Bool
-edgeAt rows n k = proper n (pairAt k) && has rows k
-
--- the edges at the next j places from k on
-unfoldable pub edgesFrom : List ℕ → ℕ → ℕ → ℕ → List (ℕ × ℕ)
-edgesFrom rows n zero k = []
-edgesFrom rows n (suc j) k = cond (edgeAt rows n k) (pairAt k ∷ edgesFrom rows n j (k + 1)) (edgesFrom rows n j (k + 1))
-
--- the edges in the rows of n vertices, in the order of a record
-abbrev pub edgesOf : List ℕ → ℕ → List (ℕ × ℕ)
-edgesOf rows n = edgesFrom rows n (n * capacity) 0
-
--- the plan of a graph
-unfoldable pub planOf : Graph → Plan
-planOf g = record { n = g .n; edges = edgesOf (g .rows) (g .n) }

@@ -7,15 +7,14 @@ use native.Mathlib.Omega.{arith}
 use lib.ListN.{length}
 use lib.Dec.{ltb}
 use borrow.Author.Tests.{ltb-true}
-use Rattle.record.specs.Read.{Read, Read.Got, Read.Refused, onRead, _needs⟨_⟩_, _▹_, into, many}
+use Rattle.record.specs.Read.{Read, Read.Got, Read.Refused, onRead, _needs⟨_⟩_, _▹_, into, many, within}
 use Rattle.record.specs.Number.{number}
 use Rattle.record.specs.Loop.{runs, finish}
 use Rattle.record.proofs.Laws.{on-got, carry}
 use Rattle.record.proofs.Loops.{needs-true, All, many-length, many-all}
 use Rattle.vertexset.specs.Set.{capacity}
-use Rattle.graph.proofs.Bools.{within-true}
+use Rattle.reading.proofs.Bools.{within-true}
 use Rattle.connectivity.specs.Path.{Link, vertices}
-use Rattle.certificates.specs.Tests.{within}
 use Rattle.certificates.specs.Records.{vertex, vertexList, linkOf, path}
 use Rattle.paths.specs.Paths.{pathRead, noPath}
 use Rattle.paths.specs.Code.{pathLoop, pathBegun}

@@ -5,8 +5,6 @@ use mathlib.Core.Bool.{cond}
 use lib.Dec.{leb}
 use Rattle.record.specs.Read.{Read, Read.Got, Read.Refused, Reader}
 use Rattle.vertexset.specs.Set.{capacity}
-use Rattle.graph.specs.Rows.{adjacentIn}
-use Rattle.connectivity.specs.Graph.{Graph}
 use Rattle.paths.specs.declared.Item.{Item}
 use Rattle.paths.specs.declared.Item.the-variants.{Value, Fault}
 
@@ -19,10 +17,6 @@ itemRead (Refused r p) = Fault r p
 unfoldable pub endRead : {A : Type 0} → Read A → Item
 endRead (Got a next) = Value 0 next
 endRead (Refused r p) = Fault r p
-
--- the graph of n vertices with these rows
-abbrev pub rowsGraph : ℕ → List ℕ → Graph
-rowsGraph n rows = record { n = n; adj = adjacentIn rows }
 
 -- a reader for graphs within the limit; beyond it everything is refused 9 at once
 abbrev pub limited : {A : Type 0} → ℕ → Reader A → Reader A

@@ -2,11 +2,10 @@
 ghost use mathlib.Core.Path.{_≡_};
 ghost use Prim.Native.Nat.{_-_, _≤_};
 ghost use Rattle.record.specs.Number.{number};
-ghost use Rattle.record.specs.Read.{_needs⟨_⟩_};
+ghost use Rattle.record.specs.Read.{_needs⟨_⟩_, within};
 ghost use Rattle.record.specs.Loop.{runs};
 ghost use Rattle.vertexset.specs.Set.{has, capacity};
 ghost use Rattle.graph.specs.Rows.{adjacentIn};
-ghost use Rattle.certificates.specs.Tests.{within};
 ghost use Rattle.certificates.specs.Records.{vertex, path};
 ghost use Rattle.paths.specs.Items.{itemRead, limited};
 ghost use Rattle.paths.specs.Paths.{pathRead, noPath};

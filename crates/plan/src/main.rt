@@ -23,7 +23,7 @@ fn print_refusal(number: u8, place: usize) {
 }
 
 fn print_plan(s: &[u8]) {
-    let read = graph::read_plan(s);
+    let read = reading::read_plan(s);
     let answer = read.answer;
     match answer {
         Answer::Accepted => {

@@ -1,9 +1,9 @@
 -- Reading a record: from a place on, a value and the place after it, or a refusal with document 01's number and its place.
 use Prim.Native.Nat.{ℕ, zero, suc, _<_}
 use mathlib.Core.List.{List, [], _∷_}
-use mathlib.Core.Bool.{Bool, cond}
+use mathlib.Core.Bool.{Bool, cond, _&&_}
 use lib.ListN.{length, getD}
-use lib.Dec.{ltb}
+use lib.Dec.{ltb, leb}
 
 pub data Read (A : Type 0) : Type 0 where
   Got : A → ℕ → Read A
@@ -50,6 +50,10 @@ into f R s at = onRead (R s at) (λ a next. Got (f a) next)
 -- a test that reads nothing; its place is the one after what was read
 unfoldable pub check : ℕ → Bool → Reader (Unit {0})
 check r ok s at = cond ok (Got tt at) (Refused r at)
+
+-- a number within its bounds
+abbrev pub within : ℕ → ℕ → ℕ → Bool
+within least most k = leb least k && leb k most
 
 -- 7: nothing may be left
 unfoldable pub ended : {A : Type 0} → Reader A → Reader A

@@ -12,12 +12,11 @@ use borrow.Author.Tests.{ltb-true, ltb-false, not-true}
 use Rattle.vertexset.specs.Set.{has, wordCount, wordwise, less, within, next, capacity}
 use Rattle.vertexset.specs.declared.VertexSet.{VertexSet}
 use Rattle.vertexset.proofs.Laws.{Words, Found, within-has, has-within, next-is, has-minus, has-past, wordwise-length}
-use Rattle.graph.specs.Rows.{adjacentIn, rowOf}
+use Rattle.graph.specs.Rows.{adjacentIn, rowOf, rowsGraph}
 use Rattle.graph.proofs.Rows.{row-adjacent}
 use Rattle.connectivity.proofs.Lists.{and-true, true-or, bool?, clash}
 use Rattle.certificates.specs.Tests.{allBelow, rest, noEdgeBetween}
 use Rattle.certificates.proofs.Decide.{Decides, decide-same, decide-test, decide-and, decide-or, decide-not, decide-all}
-use Rattle.paths.specs.Items.{rowsGraph}
 use Rattle.sides.specs.Code.{missesRow, noneBetween, RestOf, Low}
 use Rattle.sides.proofs.Sets.{same-test, rest-low, left-rest}
 

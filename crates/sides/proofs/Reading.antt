@@ -6,7 +6,7 @@ use mathlib.Core.Path.{_≡_, refl, sym, ap, fun-ext, _∙_}
 use native.Mathlib.Omega.{arith}
 use lib.Dec.{leb}
 use borrow.Author.Tests.{lt-leb}
-use Rattle.record.specs.Read.{Read, Read.Got, Read.Refused, Reader, onRead, _needs⟨_⟩_, _▸_, _▹_, many}
+use Rattle.record.specs.Read.{Read, Read.Got, Read.Refused, Reader, onRead, _needs⟨_⟩_, _▸_, _▹_, many, within}
 use Rattle.record.specs.Number.{number}
 use Rattle.record.specs.Loop.{runs, finish}
 use Rattle.record.proofs.Laws.{on-got, carry}
@@ -15,9 +15,10 @@ use Rattle.vertexset.specs.Set.{has, emptySet, inserted, wordCount, capacity}
 use Rattle.connectivity.specs.Lists.{member}
 use Rattle.connectivity.specs.Graph.{Graph}
 use Rattle.connectivity.specs.Certificate.{Certificate.tree}
-use Rattle.certificates.specs.Tests.{nobody, with, within, someBelow, rest, bothHold, noEdgeBetween}
+use Rattle.certificates.specs.Tests.{nobody, with, someBelow, rest, bothHold, noEdgeBetween}
 use Rattle.certificates.specs.Records.{vertex, sideVertex, side, pair, body}
-use Rattle.paths.specs.Items.{endRead, rowsGraph, limited}
+use Rattle.paths.specs.Items.{endRead, limited}
+use Rattle.graph.specs.Rows.{rowsGraph}
 use Rattle.paths.specs.declared.Item.{Item}
 use Rattle.paths.specs.declared.Item.the-variants.{Value, Fault}
 use Rattle.paths.proofs.Told.{end-told, end-fault, limited-in}

@@ -2,7 +2,7 @@
 use mathlib.Core.Path.{sym, ap, _∙_}
 use borrow.Author.Needs.{needs}
 use lib.ListN.{length}
-use Rattle.paths.specs.Items.{rowsGraph}
+use Rattle.graph.specs.Rows.{rowsGraph}
 use Rattle.record.proofs.Faults.{unread}
 use Rattle.checker.specs.Code.{onEnd}
 use Rattle.checker.proofs.Answers.{kind-unread, kind-high, kind-few, kind-read}

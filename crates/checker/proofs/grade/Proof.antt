@@ -8,7 +8,7 @@ use lib.ListN.{length, take, drop, length-drop}
 use lib.Seq.{take-all}
 use Rattle.record.specs.Read.{Bytes}
 use Rattle.record.specs.declared.Answer.{Answer}
-use Rattle.paths.specs.Items.{rowsGraph}
+use Rattle.graph.specs.Rows.{rowsGraph}
 use Rattle.checker.specs.Code.{rowsAnswer}
 use Rattle.checker.proofs.Answers.{grade-accepted, grade-refused}
 use Rattle.checker.proofs.grade.Statement.{statement}

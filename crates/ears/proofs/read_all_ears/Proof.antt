@@ -3,7 +3,8 @@ use mathlib.Core.Path.{_≡_, _∙_, sym}
 use borrow.Author.Needs.{needs}
 use Rattle.record.specs.Loop.{runs}
 use Rattle.record.proofs.Loops.{turn-start, turn-go, turn-stop, turn-done}
-use Rattle.paths.specs.Items.{endRead, rowsGraph}
+use Rattle.paths.specs.Items.{endRead}
+use Rattle.graph.specs.Rows.{rowsGraph}
 use Rattle.ears.specs.Code.{allEars, earLoop}
 use Rattle.ears.proofs.Ear.{ear-told, ear-fault, pick-true, pick-false}
 use Rattle.ears.proofs.In.{ears-begin}

@@ -9,7 +9,8 @@ use Rattle.vertexset.proofs.Laws.{empty-has}
 use Rattle.connectivity.specs.Certificate.{Certificate.separation}
 use Rattle.certificates.specs.Tests.{nobody}
 use Rattle.certificates.specs.Records.{side, body}
-use Rattle.paths.specs.Items.{endRead, rowsGraph, limited}
+use Rattle.paths.specs.Items.{endRead, limited}
+use Rattle.graph.specs.Rows.{rowsGraph}
 use Rattle.paths.proofs.Ends.{end-into}
 use Rattle.sides.proofs.Reading.{limited-same}
 use Rattle.sides.proofs.read_separation.Statement.{statement}

@@ -3,7 +3,7 @@ use mathlib.Core.Path.{_∙_}
 use borrow.Author.Needs.{needs}
 use Rattle.vertexset.specs.Set.{has}
 use Rattle.certificates.specs.Records.{side}
-use Rattle.paths.specs.Items.{rowsGraph}
+use Rattle.graph.specs.Rows.{rowsGraph}
 use Rattle.paths.proofs.Told.{value-told, fault-told}
 use Rattle.sides.proofs.Reading.{over-limit, in-limit, count-refused, side-refused, side-read}
 use Rattle.sides.proofs.read_side.Statement.{statement}

@@ -7,7 +7,8 @@ use borrow.Author.Needs.{needs}
 use Rattle.vertexset.specs.Set.{has}
 use Rattle.certificates.specs.Tests.{with, nobody}
 use Rattle.certificates.specs.Records.{side, body}
-use Rattle.paths.specs.Items.{endRead, rowsGraph, limited}
+use Rattle.paths.specs.Items.{endRead, limited}
+use Rattle.graph.specs.Rows.{rowsGraph}
 use Rattle.paths.proofs.Told.{value-told, fault-told}
 use Rattle.paths.proofs.Reading.{vertex-low}
 use Rattle.sides.proofs.Sets.{one-has}

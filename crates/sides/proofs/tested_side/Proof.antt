@@ -2,7 +2,7 @@
 use mathlib.Core.Path.{refl, _∙_, sym}
 use borrow.Author.Needs.{needs}
 use Rattle.vertexset.specs.Set.{has}
-use Rattle.paths.specs.Items.{rowsGraph}
+use Rattle.graph.specs.Rows.{rowsGraph}
 use Rattle.sides.proofs.Sets.{rest-low}
 use Rattle.sides.proofs.Reading.{side-empty, side-tests}
 use Rattle.sides.proofs.tested_side.Statement.{statement}

@@ -1,0 +1,149 @@
+// The plan record, read into a graph by value.
+ghost use mathlib.Core.Path.{_≡_};
+ghost use Prim.Native.Nat.{_≤_};
+ghost use Rattle.record.specs.Loop.{runs};
+ghost use Rattle.vertexset.specs.Set.{capacity};
+ghost use Rattle.graph.specs.Rows.{bareRows};
+ghost use Rattle.reading.specs.Plan.{edge};
+ghost use Rattle.reading.specs.Code.{wholePlan, leadingPlan, edgeRead, testedEdge, edgeFault, refusedPlan, edgeLoop};
+use graph::Graph;
+use record::Answer;
+use record::Number;
+
+// An accepted plan with the place after its last edge; or the plan's fault, beside a graph without vertices.
+pub struct PlanRead {
+    pub answer: Answer,
+    pub graph: Graph,
+    pub next: usize,
+}
+
+enum Edge {
+    Joins(u16, u16, usize),
+    Fault(u8, usize),
+}
+
+// The edge from u to v that was read at a place, tested.
+fn tested_edge(n: u16, lower: u16, higher: u16, at: usize, u: u16, v: u16, next: usize) -> Edge
+    ensures { λ r. ⌜ r ≡ edgeRead (testedEdge n (lower, higher) at (u, v) next) ⌝ }
+{
+    if v <= u {
+        return Edge::Fault(5, at);
+    }
+    if n <= v {
+        return Edge::Fault(5, at);
+    }
+    if lower < u {
+        return Edge::Joins(u, v, next);
+    }
+    if lower == u {
+        if higher < v {
+            return Edge::Joins(u, v, next);
+        }
+    }
+    Edge::Fault(6, at)
+}
+
+// An edge at a place, after the edge from lower to higher.
+fn read_edge(s: &[u8], n: u16, lower: u16, higher: u16, at: usize) -> Edge
+    ensures { λ r. ⌜ r ≡ edgeRead (edge n (lower, higher) (now (s .entry)) at) ⌝ }
+{
+    let x = record::read_number(s, at);
+    let Number::Value(u, mid) = x else {
+        return Edge::Fault(record::fault_number(x), record::fault_place(x));
+    };
+    let y = record::read_number(s, mid);
+    let Number::Value(v, next) = y else {
+        return Edge::Fault(record::fault_number(y), record::fault_place(y));
+    };
+    tested_edge(n, lower, higher, at, u, v, next)
+}
+
+fn refused(r: u8, p: usize) -> PlanRead
+    ensures { λ x. ⌜ x ≡ refusedPlan r p ⌝ }
+{
+    PlanRead {
+        answer: Answer::PlanFault(r, p),
+        graph: Graph::none(),
+        next: 0,
+    }
+}
+
+fn edge_fault(x: Edge) -> PlanRead
+    ensures { λ r. ⌜ r ≡ edgeFault x ⌝ }
+{
+    match x {
+        Edge::Joins(_, _, _) => refused(0, 0),
+        Edge::Fault(r, p) => refused(r, p),
+    }
+}
+
+fn read_edges(s: &[u8], n: u16, m: u16, from: usize) -> PlanRead
+    requires { ⌜ n ≤ capacity ⌝ }
+    ensures { λ r. ⌜ r ≡ runs (edgeLoop n m) m (0, 0) bareRows (now (s .entry)) from ⌝ }
+{
+    let mut rows = [0u64; Graph::ROW_WORDS];
+    let mut at = from;
+    let mut lower: u16 = 0;
+    let mut higher: u16 = 0;
+    let mut left = m;
+    while 0 < left {
+        let x = read_edge(s, n, lower, higher, at);
+        let Edge::Joins(u, v, next) = x else {
+            return edge_fault(x);
+        };
+        graph::join(&mut rows, u, v);
+        lower = u;
+        higher = v;
+        at = next;
+        left -= 1;
+    }
+    PlanRead {
+        answer: Answer::Accepted,
+        graph: Graph { n, m, rows },
+        next: at,
+    }
+}
+
+// A plan at the start of s, up to its last edge, whatever follows.
+pub fn read_leading_plan(s: &[u8]) -> PlanRead
+    ensures { λ r. ⌜ r ≡ leadingPlan (now (s .entry)) ⌝ }
+{
+    let x = record::read_number(s, 0);
+    let Number::Value(n, m_at) = x else {
+        return refused(record::fault_number(x), record::fault_place(x));
+    };
+    if n < Graph::MIN_VERTICES {
+        return refused(3, 0);
+    }
+    if Graph::MAX_VERTICES < n {
+        return refused(3, 0);
+    }
+    let y = record::read_number(s, m_at);
+    let Number::Value(m, at) = y else {
+        return refused(record::fault_number(y), record::fault_place(y));
+    };
+    if Graph::MAX_EDGES < m {
+        return refused(4, m_at);
+    }
+    read_edges(s, n, m, at)
+}
+
+// A whole plan record: a byte after its last edge is refused.
+pub fn read_plan(s: &[u8]) -> PlanRead
+    ensures { λ r. ⌜ r ≡ wholePlan (now (s .entry)) ⌝ }
+{
+    let r = read_leading_plan(s);
+    let a = r.answer;
+    let next = r.next;
+    match a {
+        Answer::Accepted => {
+            if next < s.len() {
+                return refused(7, next);
+            }
+            r
+        }
+        Answer::Grade(_) => r,
+        Answer::PlanFault(_, _) => r,
+        Answer::CertificateFault(_, _) => r,
+    }
+}
