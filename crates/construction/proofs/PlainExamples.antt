@@ -1,5 +1,4 @@
 -- Worked examples of the certificate without words, by computing it: the numbers of Examples.
-use Prim.Native.Nat.{ℕ}
 use mathlib.Core.List.{[], _∷_}
 use mathlib.Core.Path.{_≡_}
 use Rattle.record.specs.Read.{folded}

@@ -13,7 +13,7 @@ use Rattle.construction.specs.Start.{Begun, broken, addLink, sorted, fou
 use Rattle.construction.specs.Steps.{State}
 use Rattle.construction.specs.Construction as plain
 use Rattle.construction.specs.Construction.{codeBounds}
-use Rattle.construction.proofs.Standing.{Stands, Draws, choice, row-stands, empty-stands, plus-stands, minus-stands, common-stands, inserted-stands, single-stands, pair-stands, all-stands, set-stands, members-same, count-same, least-same, after-same, empty-same, table-drawn}
+use Rattle.construction.proofs.Standing.{Stands, Draws, choice, row-stands, empty-stands, plus-stands, minus-stands, common-stands, inserted-stands, single-stands, pair-stands, all-stands, set-stands, members-same, count-same, least-same, after-same, empty-same, marked-drawn}
 
 -- ---- answers that are the same but for the words
 
@@ -163,7 +163,7 @@ four-same t a = inserted-stands (inserted-stands (pair-stands {u = 0} refl (λ i
 start-same : {r s t u a c : List ℕ} → r ≡ s → t ≡ u → a ≡ c → SameBegun (startOn r t a) (plain.startOn codeBounds s u c)
 start-same r t a = record {
   four = four-same t a;
-  flat = sorted-same (table-drawn (add-same (add-same (add-same {f = []} refl (λ i. 0 ∷ r i)) t) a)) (four-same t a);
+  flat = sorted-same (marked-drawn (add-same (add-same (add-same {f = []} refl (λ i. 0 ∷ r i)) t) a)) (four-same t a);
   cutBy = no-cut;
 }
 

@@ -1,5 +1,5 @@
 -- Sets of words stand for their members, and rows for the adjacency test that they give: each operation answers the same on both sides.
-use Prim.Native.Nat.{ℕ, _+_, _*_, _-_, _/_, _≤_, _<_}
+use Prim.Native.Nat.{ℕ, _+_, _*_, _-_, _/_, _<_}
 use mathlib.Core.Path.{_≡_, refl, sym, ap, subst, fun-ext, _∙_}
 use mathlib.Core.Bool.{Bool, true, false, cond, not, _&&_, _||_, or-false}
 use mathlib.Core.Logic.{⊎-elim}
@@ -27,10 +27,12 @@ use Rattle.construction.proofs.Basics.{Sized, On}
 use Rattle.construction.proofs.SetLaws.{sized-empty, sized-inserted, sized-plus, sized-minus, sized-row, has-plus, has-minus, on-low, members-count, empty-none, empty-some, zeros-at}
 use Rattle.construction.proofs.Table.{marked-size, marked-words}
 
+-- the members of the set are the numbers of which p holds
 pub record Stands (s : VertexSet) (p : ℕ → Bool) : Type 0 where
   pub sized : Sized s
   pub same : has (s .words) ≡ p
 
+-- the rows hold the edges that adj says
 pub record Draws (rows : List ℕ) (adj : ℕ → ℕ → Bool) : Type 0 where
   pub words : Words rows
   pub same : adjacentIn rows ≡ adj
@@ -181,8 +183,8 @@ path-drawn {rows} {adj} l d (u ∷ (v ∷ flat)) = path-drawn (marked-size rows 
     }
 
 -- THE TABLE OF A LIST OF PATHS
-pub table-drawn : {l m : List ℕ} → l ≡ m → Draws (marked bareRows l) (plain.marked codeBounds plain.bare m)
-table-drawn {l} e = subst (λ (m : List ℕ). Draws (marked bareRows l) (plain.marked codeBounds plain.bare m)) e (path-drawn (length-replicate {A = ℕ} rowWords 0) no-edges l)
+pub marked-drawn : {l m : List ℕ} → l ≡ m → Draws (marked bareRows l) (plain.marked codeBounds plain.bare m)
+marked-drawn {l} e = subst (λ (m : List ℕ). Draws (marked bareRows l) (plain.marked codeBounds plain.bare m)) e (path-drawn (length-replicate {A = ℕ} rowWords 0) no-edges l)
   where
     no-edge : (a c t : Bool) → t ≡ false → a && (c && t) ≡ false
     no-edge true true t h = h

@@ -14,7 +14,7 @@ use Rattle.connectivity.specs.Lists.{below}
 use Rattle.connectivity.specs.Graph.{listed}
 use Rattle.construction.specs.Sets.{lastOf, placeOf}
 use Rattle.construction.specs.Search.{Reach}
-use Rattle.construction.specs.Ears.{Cut, noCut, Found, Eared, eared, ears}
+use Rattle.construction.specs.Ears.{Cut, noCut, Found, Eared, eared}
 use Rattle.construction.specs.Start.{Begun}
 use Rattle.construction.specs.Steps.{State, stopped, extended, segment, offLink, linkTaken, linkStep, pairPlace, turned, besidePlace, reroute, outTaken, outStep, innerPlace, step, steps, build, addEdges, addRows, finish}
 use Rattle.construction.specs.Certificate as by-rows
@@ -22,7 +22,7 @@ use Rattle.construction.specs.Certificate.{pairsFrom}
 use Rattle.construction.specs.Construction as plain
 use Rattle.construction.specs.Construction.{codeBounds, certificateNumbers}
 use Rattle.construction.proofs.PlanLaws.{plan-drawn}
-use Rattle.construction.proofs.Standing.{Stands, Draws, choice, row-stands, empty-stands, minus-stands, inserted-stands, single-stands, pair-stands, all-stands, set-stands, members-from, members-same, count-same, empty-same, table-drawn}
+use Rattle.construction.proofs.Standing.{Stands, Draws, choice, row-stands, empty-stands, minus-stands, inserted-stands, single-stands, pair-stands, all-stands, set-stands, members-from, members-same, count-same, empty-same, marked-drawn}
 use Rattle.construction.proofs.SameAnswers.{SameReach, SameCut, SameFound, SameEared, SameBegun, SameState, no-cut, cut-same, add-same, answered-same, explore-same, detour-same, ears-same, begin-same}
 
 -- ---- further paths
@@ -113,7 +113,7 @@ module _ {rows : List ℕ} {adj : ℕ → ℕ → Bool} (d : Draws rows adj) whe
 
   finish-same : (n : ℕ) {f g : List ℕ} → f ≡ g → finish rows n f ≡ plain.finish codeBounds adj n g
   unfolding finish plain.finish
-  finish-same n {f} {g} e = rows-same (table-drawn e) (below n) f ∙ ap (plain.addRows codeBounds adj (plain.marked codeBounds plain.bare g) (below n)) e
+  finish-same n {f} {g} e = rows-same (marked-drawn e) (below n) f ∙ ap (plain.addRows codeBounds adj (plain.marked codeBounds plain.bare g) (below n)) e
 
 -- ---- the numbers
 

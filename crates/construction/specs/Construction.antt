@@ -15,7 +15,7 @@ use Rattle.construction.specs.Ears.{pathSpace as codeNumbers}
 use Rattle.construction.specs.Steps.{segment, pairPlace, turned}
 use Rattle.construction.specs.Certificate.{pairsFrom}
 
--- Sizes of the tables and arrays; none is ever met.
+-- Sizes of the tables and arrays: nothing is put in past them, and a search or a build ends there.
 pub record Bounds : Type 0 where
   -- no vertex is as large: it stands for "none" and before each path
   pub vertices : ℕ
