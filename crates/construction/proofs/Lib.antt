@@ -25,3 +25,7 @@ pub mod BuildRecords
 pub mod CertificateLaws
 pub mod PlanLaws
 pub mod Examples
+pub mod Standing
+pub mod SameAnswers
+pub mod WithoutWords
+pub mod PlainExamples

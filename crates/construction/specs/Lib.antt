@@ -4,3 +4,4 @@ pub mod Ears
 pub mod Start
 pub mod Steps
 pub mod Certificate
+pub mod Construction
