@@ -6,7 +6,7 @@ use mathlib.Core.List.{List, [], _∷_, _++_}
 use lib.Dec.{ltb}
 use lib.ListN.{length, getD, replicate}
 use Rattle.vertexset.specs.declared.VertexSet.{VertexSet}
-use Rattle.construction.specs.Sets.{capacity, stop, added, lastOf}
+use Rattle.construction.specs.Sets.{stop, added, lastOf}
 use Rattle.construction.specs.Search.{Reach, visit, explore, route, back}
 use Rattle.construction.specs.Ears.{Cut, noCut, isCut, Found, answered, wayOut, backFrom, detour, cycle, pathSpace, addPath, Eared, earsOn, ears}
 use Rattle.construction.specs.Start.{Begun, broken, addLink, sorted, fourOf, startOn, across, thirdPath, crossed, thirded, around, begin}
@@ -14,6 +14,7 @@ use Rattle.construction.specs.Steps.{State}
 use Rattle.construction.specs.Construction as plain
 use Rattle.construction.specs.Construction.{codeBounds}
 use Rattle.construction.proofs.Standing.{Stands, Draws, choice, row-stands, empty-stands, plus-stands, minus-stands, common-stands, inserted-stands, single-stands, pair-stands, all-stands, set-stands, members-same, count-same, least-same, after-same, empty-same, marked-drawn}
+use Rattle.vertexset.specs.Set.{capacity}
 
 -- ---- answers that are the same but for the words
 

@@ -10,16 +10,16 @@ use lib.ListN.{length, length-replicate}
 use lib.Seq.{set-out}
 use borrow.Author.Tests.{ltb-true, ltb-false, eqb-true}
 use Rattle.record.specs.Read.{folded}
-use Rattle.vertexset.specs.Set.{has, emptySet, inserted, firstFrom, next, count}
+use Rattle.vertexset.specs.Set.{has, emptySet, inserted, firstFrom, next, count, capacity}
 use Rattle.vertexset.specs.declared.VertexSet.{VertexSet}
 use Rattle.vertexset.proofs.Laws.{Words, empty-has, inserted-has, has-empty}
-use Rattle.graph.specs.Rows.{adjacentIn, rowOf, rowBits, rowWords, bareRows, joined, joinedRows}
+use Rattle.graph.specs.Rows.{adjacentIn, rowOf, rowWords, bareRows, joined, joinedRows}
 use Rattle.graph.proofs.Rows.{row-adjacent}
-use Rattle.graph.proofs.Adjacency.{has-both, same-bit}
+use Rattle.reading.proofs.Adjacency.{has-both, same-bit}
 use Rattle.connectivity.specs.Lists.{any, below}
 use Rattle.connectivity.specs.Graph.{isPair}
 use Rattle.connectivity.proofs.Lists.{bool?, or-true, any-true, true-any, below-in, and-true}
-use Rattle.construction.specs.Sets.{capacity, plus, minus, common, single, pair, withAll, setOf, membersFrom, members, least, empty}
+use Rattle.construction.specs.Sets.{plus, minus, common, single, pair, withAll, setOf, membersFrom, members, least, empty}
 use Rattle.construction.specs.Start.{marked, nextAfter}
 use Rattle.construction.specs.Construction as plain
 use Rattle.construction.specs.Construction.{codeBounds}
@@ -147,10 +147,10 @@ module _ {s : VertexSet} {p : ℕ → Bool} (h : Stands s p) where
 module _ (rows : List ℕ) (u v x y : ℕ) (l : length rows ≡ rowWords) where
   -- the bit of x and y after an edge more
   bit-joined : u < capacity → v < capacity → y < capacity
-      → has (joined rows (u, v)) (x * rowBits + y) ≡ has rows (x * rowBits + y) || (isPair (u, v) x y || isPair (v, u) x y)
+      → has (joined rows (u, v)) (x * capacity + y) ≡ has rows (x * capacity + y) || (isPair (u, v) x y || isPair (v, u) x y)
   bit-joined hu hv hy =
-      has-both rows (u, v) l hu hv (x * rowBits + y)
-      ∙ (λ i. has rows (x * rowBits + y) || (same-bit x y (u, v) hy hv i || same-bit x y (v, u) hy hu i))
+      has-both rows (u, v) l hu hv (x * capacity + y)
+      ∙ (λ i. has rows (x * capacity + y) || (same-bit x y (u, v) hy hv i || same-bit x y (v, u) hy hu i))
 
   -- no edge of vertices has an end that is none
   past : u < capacity → v < capacity → (x < capacity → y < capacity → ⊥) → isPair (u, v) x y || isPair (v, u) x y ≡ false
@@ -163,7 +163,7 @@ module _ (rows : List ℕ) (u v x y : ℕ) (l : length rows ≡ rowWords) where
   edge-joined = go (ltb u capacity) refl (ltb v capacity) refl (ltb x capacity) refl (ltb y capacity) refl
     where
       go : (a : Bool) → ltb u capacity ≡ a → (c : Bool) → ltb v capacity ≡ c → (d : Bool) → ltb x capacity ≡ d → (e : Bool) → ltb y capacity ≡ e
-          → d && (e && has (cond (a && c) (joined rows (u, v)) rows) (x * rowBits + y)) ≡ (d && (e && has rows (x * rowBits + y))) || ((a && c) && (isPair (u, v) x y || isPair (v, u) x y))
+          → d && (e && has (cond (a && c) (joined rows (u, v)) rows) (x * capacity + y)) ≡ (d && (e && has rows (x * capacity + y))) || ((a && c) && (isPair (u, v) x y || isPair (v, u) x y))
       go true hu true hv true hx true hy = bit-joined (ltb-true u capacity hu) (ltb-true v capacity hv) (ltb-true y capacity hy)
       go true hu true hv true hx false hy = sym (past (ltb-true u capacity hu) (ltb-true v capacity hv) (λ i j. omega (arith, ltb-false y capacity hy)))
       go true hu true hv false hx e hy = sym (past (ltb-true u capacity hu) (ltb-true v capacity hv) (λ i j. omega (arith, ltb-false x capacity hx)))
@@ -194,5 +194,5 @@ marked-drawn {l} e = subst (λ (m : List ℕ). Draws (marked bareRows l) (plain.
     no-edges : Draws bareRows plain.bare
     no-edges = record {
       words = λ i. rw (zeros-at rowWords i) (lit< tt);
-      same = fun-ext (λ x. fun-ext (λ y. no-edge (ltb x capacity) (ltb y capacity) (has bareRows (x * rowBits + y)) (has-empty rowWords (x * rowBits + y))));
+      same = fun-ext (λ x. fun-ext (λ y. no-edge (ltb x capacity) (ltb y capacity) (has bareRows (x * capacity + y)) (has-empty rowWords (x * capacity + y))));
     }

@@ -7,9 +7,11 @@ use lib.Dec.{ltb, eqb}
 use lib.ListN.{length, getD, drop}
 use Rattle.vertexset.specs.declared.VertexSet.{VertexSet}
 use Rattle.vertexset.proofs.Laws.{Words}
-use Rattle.graph.specs.Plan.{Plan, Allowed, maxEdges}
-use Rattle.graph.specs.Rows.{adjacentIn, graphOf}
-use Rattle.graph.proofs.Adjacency.{adjacent-listed}
+use Rattle.reading.specs.Plan.{Plan, Allowed}
+use Rattle.graph.specs.Limits.{maxEdges}
+use Rattle.graph.specs.Rows.{adjacentIn}
+use Rattle.reading.specs.Code.{graphOf}
+use Rattle.reading.proofs.Adjacency.{adjacent-listed}
 use Rattle.connectivity.specs.Lists.{below}
 use Rattle.connectivity.specs.Graph.{listed}
 use Rattle.construction.specs.Sets.{lastOf, placeOf}

@@ -5,11 +5,11 @@ use mathlib.Core.List.{List, [], _∷_, _++_}
 use lib.Dec.{ltb, leb, eqb}
 use lib.ListN.{length, getD, replicate, drop, take}
 use Rattle.record.specs.Read.{folded}
-use Rattle.vertexset.specs.Set.{firstFrom}
-use Rattle.graph.specs.Plan.{maxEdges}
+use Rattle.vertexset.specs.Set.{firstFrom, capacity as codeVertices}
+use Rattle.graph.specs.Limits.{maxEdges}
 use Rattle.connectivity.specs.Lists.{select, upFrom, below, any}
 use Rattle.connectivity.specs.Graph.{isPair}
-use Rattle.construction.specs.Sets.{capacity as codeVertices, added, lastOf, placeOf}
+use Rattle.construction.specs.Sets.{added, lastOf, placeOf}
 use Rattle.construction.specs.Search.{back}
 use Rattle.construction.specs.Ears.{pathSpace as codeNumbers}
 use Rattle.construction.specs.Steps.{segment, pairPlace, turned}

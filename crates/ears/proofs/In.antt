@@ -14,7 +14,7 @@ use Rattle.record.proofs.Loops.{needs-true, many-same, many-kept}
 use Rattle.vertexset.specs.Set.{has, emptySet, inserted, wordCount, capacity}
 use Rattle.vertexset.specs.declared.VertexSet.{VertexSet}
 use Rattle.vertexset.proofs.Laws.{empty-has, has-union, wordwise-length}
-use Rattle.reading.proofs.Bools.{and-true}
+use Rattle.connectivity.proofs.Lists.{and-true}
 use Rattle.connectivity.specs.Lists.{member}
 use Rattle.connectivity.specs.Graph.{Graph}
 use Rattle.connectivity.specs.Path.{Link, vertices}

@@ -13,7 +13,7 @@ use Rattle.record.specs.Loop.{runs, finish}
 use Rattle.record.proofs.Laws.{on-got, carry}
 use Rattle.record.proofs.Loops.{needs-true, All, many-length, many-all}
 use Rattle.vertexset.specs.Set.{capacity}
-use Rattle.reading.proofs.Bools.{within-true}
+use Rattle.record.proofs.Bounds.{within-true}
 use Rattle.connectivity.specs.Path.{Link, vertices}
 use Rattle.certificates.specs.Records.{vertex, vertexList, linkOf, path}
 use Rattle.paths.specs.Paths.{pathRead, noPath}

@@ -17,7 +17,7 @@ use Rattle.connectivity.proofs.Edges.{listed-in, ascending-nodup, fromEdges-sim
 use Rattle.reading.specs.Plan.{Plan, Allowed, EdgeAllowed}
 use Rattle.graph.specs.Rows.{rowWords, adjacentIn, joined, bareRows, rowsGraph}
 use Rattle.reading.specs.Code.{graphOf}
-use Rattle.reading.proofs.Bools.{proper-true, follows-true}
+use Rattle.reading.proofs.EdgeTests.{proper-true, follows-true}
 
 -- every edge has its lower vertex first, and its higher below n
 abbrev pub Proper : ℕ → List (ℕ × ℕ) → Type 0

@@ -1,4 +1,4 @@
-pub mod Bools
+pub mod EdgeTests
 pub mod Reading
 pub mod Plans
 pub mod Adjacency

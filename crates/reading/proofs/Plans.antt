@@ -13,7 +13,8 @@ use Rattle.reading.specs.Plan.{Plan, Allowed, proper, follows, edge, pla
 use Rattle.graph.specs.Limits.{minVertices, maxVertices, maxEdges}
 use Rattle.reading.specs.Code.{graphOf, planRead, wholePlan, leadingPlan}
 use Rattle.reading.specs.declared.PlanRead.{PlanRead}
-use Rattle.reading.proofs.Bools.{within-true, true-within, proper-true}
+use Rattle.record.proofs.Bounds.{within-true, true-within}
+use Rattle.reading.proofs.EdgeTests.{proper-true}
 use Rattle.record.specs.Number.{numberLimit}
 
 pub plan-law : Reads plan planBytes Allowed

@@ -20,7 +20,7 @@ use Rattle.reading.specs.Code.{graphOf, testedEdge, edgeRead, edgeLoop, 
 use Rattle.reading.specs.declared.PlanRead.{PlanRead}
 use Rattle.reading.specs.declared.Edge.{Edge}
 use Rattle.reading.specs.declared.Edge.the-variants.{Joins, Fault}
-use Rattle.reading.proofs.Bools.{proper-true}
+use Rattle.reading.proofs.EdgeTests.{proper-true}
 
 module _ (n : ℕ) (before : ℕ × ℕ) (s : List ℕ) (at : ℕ) where
   pub edge-first : {r p : ℕ} → asRead (numberAt s at) ≡ Refused r p → edge n before s at ≡ Refused r p

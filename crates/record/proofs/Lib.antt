@@ -1,4 +1,5 @@
 pub mod Tests
+pub mod Bounds
 pub mod Laws
 pub mod Groups
 pub mod Write

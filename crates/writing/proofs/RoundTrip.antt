@@ -17,7 +17,9 @@ use Rattle.graph.specs.Limits.{minVertices, maxVertices, maxEdges}
 use Rattle.reading.specs.Code.{graphOf, wholePlan, leadingPlan}
 use Rattle.writing.specs.Write.{pairAt, edgeAt, edgesFrom, edgesOf, planOf, canWritePlan, writtenPlan, withPlan}
 use Rattle.graph.specs.declared.Graph.{Graph}
-use Rattle.reading.proofs.Bools.{and-true, within-true, true-within, proper-true, follows-true}
+use Rattle.connectivity.proofs.Lists.{and-true}
+use Rattle.record.proofs.Bounds.{within-true, true-within}
+use Rattle.reading.proofs.EdgeTests.{proper-true, follows-true}
 use Rattle.reading.proofs.Plans.{accepted, leads}
 use Rattle.reading.proofs.Adjacency.{Proper, each-proper, bits, has-edges}
 use Rattle.vertexset.specs.Set.{capacity}

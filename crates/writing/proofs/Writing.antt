@@ -16,7 +16,7 @@ use Rattle.record.specs.Read.{within}
 use Rattle.reading.specs.Plan.{edgeBytes, planBytes}
 use Rattle.writing.specs.Write.{edgesOf, planOf, edgesBytes, canWritePlan, writtenPlan, withPlan}
 use Rattle.graph.specs.declared.Graph.{Graph}
-use Rattle.reading.proofs.Bools.{true-within, below-within, above-within}
+use Rattle.record.proofs.Bounds.{true-within, below-within, above-within}
 use Rattle.writing.proofs.Edges.{edge-short}
 
 pub edges-short : (es : List (ℕ × ℕ)) → length (listBytes edgeBytes es) ≤ 4 * length es

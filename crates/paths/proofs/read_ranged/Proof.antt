@@ -2,7 +2,7 @@
 use mathlib.Core.Path.{_∙_, sym, ap}
 use borrow.Author.Needs.{needs}
 use Rattle.record.proofs.Faults.{unread, tested-unread, tested-value}
-use Rattle.reading.proofs.Bools.{true-within, below-within, above-within}
+use Rattle.record.proofs.Bounds.{true-within, below-within, above-within}
 use Rattle.paths.specs.Items.{itemRead}
 use Rattle.paths.proofs.read_ranged.Statement.{statement}
 use Rattle.paths.proofs.read_ranged.Tie as tie

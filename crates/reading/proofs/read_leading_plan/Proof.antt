@@ -5,7 +5,7 @@ use native.Mathlib.Omega.{arith}
 use Rattle.record.proofs.Faults.{unread}
 use Rattle.graph.specs.Limits.{minVertices, maxVertices, maxEdges}
 use Rattle.reading.specs.Code.{planRead}
-use Rattle.reading.proofs.Bools.{true-within, below-within, above-within}
+use Rattle.record.proofs.Bounds.{true-within, below-within, above-within}
 use Rattle.reading.proofs.Reading.{plan-first, plan-range, plan-second, plan-many, plan-edges}
 use Rattle.reading.proofs.read_leading_plan.Statement.{statement}
 use Rattle.reading.proofs.read_leading_plan.Tie as tie
