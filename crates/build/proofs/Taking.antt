@@ -13,7 +13,7 @@ use Rattle.record.proofs.Laws.{test-got}
 use Rattle.record.proofs.Loops.{needs-bad}
 use Rattle.vertexset.specs.Set.{has, inserted, capacity}
 use Rattle.graph.specs.Rows.{adjacentIn, rowsGraph}
-use Rattle.connectivity.specs.Path.{vertices, Link as Path}
+use Rattle.connectivity.specs.Path.{vertices, Path}
 use Rattle.certificates.specs.Tests.{pathAlong, pathNew, startEnds}
 use Rattle.certificates.specs.Records.{path}
 use Rattle.paths.specs.Items.{limited, endRead}

@@ -13,7 +13,7 @@ use Rattle.record.proofs.Loops.{turn-go, turn-stop, turn-done, needs-got}
 use Rattle.vertexset.specs.Set.{has, emptySet, inserted, capacity}
 use Rattle.vertexset.specs.declared.VertexSet.{VertexSet}
 use Rattle.connectivity.specs.Graph.{Graph}
-use Rattle.connectivity.specs.Path.{Link as Path}
+use Rattle.connectivity.specs.Path.{Path}
 use Rattle.certificates.specs.Tests.{allBelow, laterEnds}
 use Rattle.certificates.specs.Records.{vertex, branchFour}
 use Rattle.graph.specs.Rows.{rowsGraph}

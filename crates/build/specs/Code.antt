@@ -10,7 +10,7 @@ use Rattle.record.specs.Loop.{Loop}
 use Rattle.vertexset.specs.Set.{has, emptySet, wordwise}
 use Rattle.vertexset.specs.declared.VertexSet.{VertexSet}
 use Rattle.graph.specs.Rows.{joinedRows, rowsGraph}
-use Rattle.connectivity.specs.Path.{Link as Path}
+use Rattle.connectivity.specs.Path.{Path}
 use Rattle.certificates.specs.Tests.{allBelow}
 use Rattle.paths.specs.Items.{endRead, limited}
 use Rattle.paths.specs.declared.PathRead.{PathRead}

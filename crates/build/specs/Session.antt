@@ -11,8 +11,8 @@ use Rattle.vertexset.specs.Set.{has, emptySet}
 use Rattle.reading.specs.Plan.{Plan, plan}
 use Rattle.reading.specs.Code.{graphOf}
 use Rattle.graph.specs.Rows.{noGraph, rowsGraph}
-use Rattle.graph.specs.declared.Graph.{Graph}
-use Rattle.connectivity.specs.Path.{Link as Path}
+use Rattle.graph.specs.declared.GraphTable.{GraphTable}
+use Rattle.connectivity.specs.Path.{Path}
 use Rattle.certificates.specs.Tests.{allBelow}
 use Rattle.paths.specs.Items.{limited}
 use Rattle.paths.specs.declared.Item.{Item}
@@ -26,7 +26,7 @@ use Rattle.build.specs.State.{bareBuild, buildStart, startedBuild, build
 abbrev pub noSession : Session
 noSession = record { graph = noGraph; ready = false; started = false; taken = 0; build = bareBuild emptySet }
 
-abbrev pub openedOn : Graph → Session
+abbrev pub openedOn : GraphTable → Session
 openedOn g = record { graph = g; ready = true; started = false; taken = 0; build = bareBuild emptySet }
 
 -- opening takes a whole plan record; 29 after all plan faults

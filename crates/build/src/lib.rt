@@ -14,7 +14,7 @@ ghost use Rattle.build.specs.Ends.{reach, sameLink, linkEnd, additionOf,
 ghost use Rattle.build.specs.State.{endIn, linkedWithout, withoutBit, splitAt, splitBy, pointBack, pointOn, entered, pathTaken, buildPath, bareBuild, fourSet, startOn, startOf, buildStart, buildBody};
 ghost use Rattle.build.specs.Code.{innerIn, pathFault, buildIn, enteredFrom, Leaves, towards, noFour, fourRead, fourOf, noStart, startRead, startLoop, furtherLoop};
 ghost use Rattle.build.specs.Session.{noSession, opening, refusedStep, unreadStep, startStep, pathCount, dueStep, pathStep, closing, closeStep, startRest, pathRest};
-use graph::Graph;
+use graph::GraphTable;
 use paths::Item;
 use paths::PathRead;
 use record::Answer;
@@ -50,11 +50,11 @@ pub struct Build {
     pub built: VertexSet,
     pub before: [u16; VertexSet::CAPACITY as usize],
     pub after: [u16; VertexSet::CAPACITY as usize],
-    pub linked: [u64; Graph::ROW_WORDS],
+    pub linked: [u64; GraphTable::ROW_WORDS],
 }
 
 pub struct Session {
-    pub graph: Graph,
+    pub graph: GraphTable,
     // opened, and no start accepted yet
     pub ready: bool,
     pub started: bool,
@@ -110,7 +110,7 @@ impl Link {
 
 impl Ends {
     // The table of links has the layout of a graph's rows.
-    fn addition(self, linked: &[u64; Graph::ROW_WORDS]) -> Addition
+    fn addition(self, linked: &[u64; GraphTable::ROW_WORDS]) -> Addition
         ensures { λ r. ⌜ r ≡ additionOf (now (linked .entry)) (self .first) (self .last) ⌝ }
     {
         let a = self.first;
@@ -209,7 +209,7 @@ fn end_of<'a>(
     )
 }
 
-fn clear_bit(linked: &mut [u64; Graph::ROW_WORDS], u: u16, v: u16)
+fn clear_bit(linked: &mut [u64; GraphTable::ROW_WORDS], u: u16, v: u16)
     requires { ⌜ (u < capacity) × (v < capacity) ⌝ }
     ensures { λ r. ⌜ now (linked .exit) ≡ withoutBit (now (linked .entry)) (u * capacity + v) ⌝ }
 {
@@ -218,7 +218,7 @@ fn clear_bit(linked: &mut [u64; Graph::ROW_WORDS], u: u16, v: u16)
     linked[i] = w ^ (w & (1u64 << (v % 64)));
 }
 
-fn remove_link(linked: &mut [u64; Graph::ROW_WORDS], u: u16, v: u16)
+fn remove_link(linked: &mut [u64; GraphTable::ROW_WORDS], u: u16, v: u16)
     ensures { λ r. ⌜ now (linked .exit) ≡ linkedWithout (now (linked .entry)) u v ⌝ }
 {
     if VertexSet::CAPACITY <= u {
@@ -232,7 +232,7 @@ fn remove_link(linked: &mut [u64; Graph::ROW_WORDS], u: u16, v: u16)
 }
 
 // The link is split at its inner vertex x.
-fn split_link(linked: &mut [u64; Graph::ROW_WORDS], x: u16, l: Link)
+fn split_link(linked: &mut [u64; GraphTable::ROW_WORDS], x: u16, l: Link)
     ensures { λ r. ⌜ now (linked .exit) ≡ splitAt (now (linked .entry)) x l ⌝ }
 {
     remove_link(linked, l.a, l.b);
@@ -240,7 +240,7 @@ fn split_link(linked: &mut [u64; Graph::ROW_WORDS], x: u16, l: Link)
     graph::join(linked, x, l.b);
 }
 
-fn split_by(linked: &mut [u64; Graph::ROW_WORDS], a: Addition)
+fn split_by(linked: &mut [u64; GraphTable::ROW_WORDS], a: Addition)
     ensures { λ r. ⌜ now (linked .exit) ≡ splitBy (now (linked .entry)) a ⌝ }
 {
     match a {
@@ -334,7 +334,7 @@ fn enter<'a>(
     built: VertexSet,
     before: &'a mut [u16; VertexSet::CAPACITY as usize],
     after: &'a mut [u16; VertexSet::CAPACITY as usize],
-    linked: &'a mut [u64; Graph::ROW_WORDS],
+    linked: &'a mut [u64; GraphTable::ROW_WORDS],
 ) -> Taken
     requires { ⌜ (length (now before) ≡ capacity) × ((length (now after) ≡ capacity) × (x .len ≤ length (x .list))) ⌝ }
     ensures { λ r. ⌜ (r .end ≡ x .end) × (buildIn (r .branch) (r .built) (now (before .exit)) (now (after .exit)) (now (linked .exit))
@@ -355,7 +355,7 @@ fn enter<'a>(
 // A path of the start from first to last, read, tested and taken in; nothing changes where it is refused.
 fn take_start_path<'a>(
     s: &'a [u8],
-    rows: &'a [u64; Graph::ROW_WORDS],
+    rows: &'a [u64; GraphTable::ROW_WORDS],
     n: u16,
     at: usize,
     first: u16,
@@ -364,7 +364,7 @@ fn take_start_path<'a>(
     built: VertexSet,
     before: &'a mut [u16; VertexSet::CAPACITY as usize],
     after: &'a mut [u16; VertexSet::CAPACITY as usize],
-    linked: &'a mut [u64; Graph::ROW_WORDS],
+    linked: &'a mut [u64; GraphTable::ROW_WORDS],
 ) -> Taken
     requires { ⌜ (length (now before) ≡ capacity) × (length (now after) ≡ capacity) ⌝ }
     ensures { λ r. ⌜ Leaves n (λ b. startOn (rowsGraph n (now (rows .entry))) (towards first last b)) entered (buildIn branch built (now (before .entry)) (now (after .entry)) (now (linked .entry))) (now (s .entry)) at
@@ -389,14 +389,14 @@ fn take_start_path<'a>(
 // A further path, read, tested and taken in; nothing changes where it is refused.
 fn take_path<'a>(
     s: &'a [u8],
-    rows: &'a [u64; Graph::ROW_WORDS],
+    rows: &'a [u64; GraphTable::ROW_WORDS],
     n: u16,
     at: usize,
     branch: VertexSet,
     built: VertexSet,
     before: &'a mut [u16; VertexSet::CAPACITY as usize],
     after: &'a mut [u16; VertexSet::CAPACITY as usize],
-    linked: &'a mut [u64; Graph::ROW_WORDS],
+    linked: &'a mut [u64; GraphTable::ROW_WORDS],
 ) -> Taken
     requires { ⌜ (length (now before) ≡ capacity) × (length (now after) ≡ capacity) ⌝ }
     ensures { λ r. ⌜ Leaves n (buildPath (rowsGraph n (now (rows .entry)))) pathTaken (buildIn branch built (now (before .entry)) (now (after .entry)) (now (linked .entry))) (now (s .entry)) at
@@ -507,7 +507,7 @@ impl Build {
         built: VertexSet,
         before: [u16; VertexSet::CAPACITY as usize],
         after: [u16; VertexSet::CAPACITY as usize],
-        linked: [u64; Graph::ROW_WORDS],
+        linked: [u64; GraphTable::ROW_WORDS],
     ) -> Self
         ensures { λ r. ⌜ r ≡ buildIn branch built before after linked ⌝ }
     {
@@ -529,7 +529,7 @@ impl Build {
             built: set,
             before: [0u16; VertexSet::CAPACITY as usize],
             after: [0u16; VertexSet::CAPACITY as usize],
-            linked: [0u64; Graph::ROW_WORDS],
+            linked: [0u64; GraphTable::ROW_WORDS],
         }
     }
 }
@@ -544,7 +544,7 @@ fn no_start(x: Item) -> Started
 // The six paths between the four, in the order pq, pr, ps, qr, qs, rs.
 fn read_six<'a>(
     s: &'a [u8],
-    rows: &'a [u64; Graph::ROW_WORDS],
+    rows: &'a [u64; GraphTable::ROW_WORDS],
     n: u16,
     four: Four,
     from: usize,
@@ -558,7 +558,7 @@ fn read_six<'a>(
     let mut built = branch;
     let mut before = [0u16; VertexSet::CAPACITY as usize];
     let mut after = [0u16; VertexSet::CAPACITY as usize];
-    let mut linked = [0u64; Graph::ROW_WORDS];
+    let mut linked = [0u64; GraphTable::ROW_WORDS];
     let mut at = from;
     let mut left: usize = 6;
     while 0 < left {
@@ -592,7 +592,7 @@ fn read_six<'a>(
 }
 
 // Four ascending branch vertices and the six paths between them.
-fn read_start<'a>(s: &'a [u8], rows: &'a [u64; Graph::ROW_WORDS], n: u16, at: usize) -> Started
+fn read_start<'a>(s: &'a [u8], rows: &'a [u64; GraphTable::ROW_WORDS], n: u16, at: usize) -> Started
     ensures { λ r. ⌜ r ≡ startRead (limited n (buildStart (rowsGraph n (now (rows .entry)))) (now (s .entry)) at) ⌝ }
 {
     if VertexSet::CAPACITY < n {
@@ -609,7 +609,7 @@ fn read_start<'a>(s: &'a [u8], rows: &'a [u64; Graph::ROW_WORDS], n: u16, at: us
 // The further paths, and 28 where a vertex is then no branch vertex.
 fn read_further<'a>(
     s: &'a [u8],
-    rows: &'a [u64; Graph::ROW_WORDS],
+    rows: &'a [u64; GraphTable::ROW_WORDS],
     n: u16,
     count: u16,
     from: usize,
@@ -655,7 +655,7 @@ fn read_further<'a>(
 // A certificate of kind 3 after its kind: the place after it, or its fault.
 pub fn read_build<'a>(
     s: &'a [u8],
-    rows: &'a [u64; Graph::ROW_WORDS],
+    rows: &'a [u64; GraphTable::ROW_WORDS],
     n: u16,
     count: u16,
     at: usize,
@@ -689,7 +689,7 @@ impl Session {
     fn none() -> Self
         ensures { λ r. ⌜ r ≡ noSession ⌝ }
     {
-        let graph = Graph::none();
+        let graph = GraphTable::none();
         let build = Build::bare(VertexSet::empty());
         Session {
             graph,

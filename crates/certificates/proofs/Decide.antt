@@ -9,7 +9,7 @@ use native.Mathlib.Decide.{ℕ-discrete}
 use lib.Dec.{eqb, leb, ltb}
 use borrow.Author.Tests.{eqb-true, eq-eqb, leb-true, le-leb, ltb-true, lt-ltb}
 use Rattle.connectivity.specs.Lists.{In, NoDup, member}
-use Rattle.connectivity.specs.Path.{Link, Along, vertices}
+use Rattle.connectivity.specs.Path.{Path, Along, vertices}
 use Rattle.connectivity.proofs.Lists.{clash, or-true, true-or, and-true, member-in, in-member}
 use Rattle.certificates.specs.Tests.{someBelow, allBelow, anyLink, each, along, distinct}
 use Rattle.record.specs.Read.{within}
@@ -101,16 +101,16 @@ module _ {t : ℕ → Bool} {P : ℕ → Type 0} (d : (v : ℕ) → Decides (t v
       to p v (inr h) = p .1 v h
 
 -- the links of a build
-pub decide-any : {t : Link → Bool} {P : Link → Type 0} → ((L : Link) → Decides (t L) (P L)) → (ls : List Link) → Decides (anyLink t ls) ((L : Link) × In L ls × P L)
+pub decide-any : {t : Path → Bool} {P : Path → Type 0} → ((L : Path) → Decides (t L) (P L)) → (ls : List Path) → Decides (anyLink t ls) ((L : Path) × In L ls × P L)
 unfolding anyLink
 decide-any d [] = decide-same decide-false (λ p. absurd p) (λ p. p .1)
 decide-any {P = P} d (M ∷ ls) = decide-same (decide-or (d M) (decide-any d ls)) to from
   where
-    to : P M ⊎ ((L : Link) × In L ls × P L) → (L : Link) × In L (M ∷ ls) × P L
+    to : P M ⊎ ((L : Path) × In L ls × P L) → (L : Path) × In L (M ∷ ls) × P L
     to (inl p) = (M, inl refl, p)
     to (inr p) = (p .0, inr (p .1), p .2)
 
-    from : (L : Link) × In L (M ∷ ls) × P L → P M ⊎ ((L : Link) × In L ls × P L)
+    from : (L : Path) × In L (M ∷ ls) × P L → P M ⊎ ((L : Path) × In L ls × P L)
     from (L, inl e, p) = inl (rw e at p)
     from (L, inr h, p) = inr (L, h, p)
 

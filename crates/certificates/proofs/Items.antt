@@ -13,7 +13,7 @@ use Rattle.record.specs.Number.{numberBytes, listBytes, numberLimit}
 use Rattle.record.proofs.Laws.{Reads, pair-law, many-law, same-law, bytes-law, check-law}
 use Rattle.connectivity.specs.Lists.{In}
 use Rattle.connectivity.specs.Graph.{Graph, Adj, Simple}
-use Rattle.connectivity.specs.Path.{Link, vertices}
+use Rattle.connectivity.specs.Path.{Path, vertices}
 use Rattle.connectivity.specs.Build.{IsBranch, four, endPairs, Starts, StartRules, BGPath, taken, Steps}
 use Rattle.connectivity.specs.Certificate.{Tree, Ears, inside}
 use Rattle.connectivity.proofs.Lists.{clash, in-single}
@@ -31,7 +31,7 @@ checked-law r {ok} d = same-law (check-law r ok) (λ u o. d .holds o) (λ u o. d
 pub decide-pair : (c d v : ℕ) → Decides (with (with nobody c) d v) (In v (c ∷ (d ∷ [])))
 decide-pair c d v = decide-same (decide-or (decide-equal v c) (decide-equal v d)) (⊎-map (λ e. e) inl) (⊎-map (λ e. e) (in-single v d))
 
-pub decide-branch : (links : List Link) (v : ℕ) → Decides (isBranch links v) (IsBranch v links)
+pub decide-branch : (links : List Path) (v : ℕ) → Decides (isBranch links v) (IsBranch v links)
 decide-branch links v = decide-any (λ L. decide-or (decide-equal v (L .s)) (decide-equal v (L .t))) links
 
 -- a start with these ends still to be joined and these vertices in
@@ -66,26 +66,26 @@ module _ (g : Graph) where
   begun-append [] B h = h
   begun-append (a ∷ l) B h = refl
 
-  pub each-ears : (es : List Link) (B : List ℕ) → begun B ≡ true → Each (EarOk g) earTaken B es → Ears g B es
+  pub each-ears : (es : List Path) (B : List ℕ) → begun B ≡ true → Each (EarOk g) earTaken B es → Ears g B es
   unfolding Each
   each-ears [] B h e = tt
   each-ears (P ∷ es) [] h e = absurd (clash h refl)
   each-ears (P ∷ es) (b ∷ B) h e = (e .0, each-ears es (P .inner ++ (b ∷ B)) (begun-append (P .inner) (b ∷ B) refl) (e .1))
 
-  pub ears-each : (es : List Link) (B : List ℕ) → begun B ≡ true → Ears g B es → Each (EarOk g) earTaken B es
+  pub ears-each : (es : List Path) (B : List ℕ) → begun B ≡ true → Ears g B es → Each (EarOk g) earTaken B es
   unfolding Each
   ears-each [] B h e = tt
   ears-each (P ∷ es) [] h e = absurd (clash h refl)
   ears-each (P ∷ es) (b ∷ B) h e = (e .0, ears-each es (P .inner ++ (b ∷ B)) (begun-append (P .inner) (b ∷ B) refl) (e .1))
 
-  pub ears-inside : (es : List Link) (B : List ℕ) → begun B ≡ true → folded earTaken B es ≡ inside B es
+  pub ears-inside : (es : List Path) (B : List ℕ) → begun B ≡ true → folded earTaken B es ≡ inside B es
   unfolding folded
   ears-inside [] B h = refl
   ears-inside (P ∷ es) [] h = absurd (clash h refl)
   ears-inside (P ∷ es) (b ∷ B) h = ears-inside es (P .inner ++ (b ∷ B)) (begun-append (P .inner) (b ∷ B) refl)
 
   -- the start of kind 3
-  pub each-starts : (es : List (ℕ × ℕ)) (B : List ℕ) (ps : List Link) → length ps ≡ length es → Each (StartOk g) startTaken (startAt es B) ps → (endPairs ps ≡ es) × Starts (Adj g) B ps
+  pub each-starts : (es : List (ℕ × ℕ)) (B : List ℕ) (ps : List Path) → length ps ≡ length es → Each (StartOk g) startTaken (startAt es B) ps → (endPairs ps ≡ es) × Starts (Adj g) B ps
   unfolding Each
   each-starts [] B [] h o = (refl, tt)
   each-starts [] B (P ∷ ps) h o = absurd (omega arith)
@@ -95,23 +95,23 @@ module _ (g : Graph) where
       let r = each-starts es (P .inner ++ B) ps (omega arith) (o .1) in
       (λ i. (k .0 i, k .1 i) ∷ r .0 i, (o .0 .is-path, o .0 .new, r .1))
 
-  pub starts-each : (B : List ℕ) (ps : List Link) → Starts (Adj g) B ps → Each (StartOk g) startTaken (startAt (endPairs ps) B) ps
+  pub starts-each : (B : List ℕ) (ps : List Path) → Starts (Adj g) B ps → Each (StartOk g) startTaken (startAt (endPairs ps) B) ps
   unfolding Each
   starts-each B [] o = tt
   starts-each B (P ∷ ps) o =
       (record { is-path = o .0; ends = rw (eq-eqb (P .s) (P .s) refl, eq-eqb (P .t) (P .t) refl); new = o .1 }, starts-each (P .inner ++ B) ps (o .2))
 
-  pub length-pairs : (ps : List Link) → length (endPairs ps) ≡ length ps
+  pub length-pairs : (ps : List Path) → length (endPairs ps) ≡ length ps
   length-pairs [] = refl
   length-pairs (P ∷ ps) = ap suc (length-pairs ps)
 
   -- the further paths of kind 3
-  pub each-steps : (links ps : List Link) → Each (BGPath (Adj g)) taken links ps → Steps (Adj g) links ps
+  pub each-steps : (links ps : List Path) → Each (BGPath (Adj g)) taken links ps → Steps (Adj g) links ps
   unfolding Each
   each-steps links [] e = tt
   each-steps links (P ∷ ps) e = (e .0, each-steps (taken links P) ps (e .1))
 
-  pub steps-each : (links ps : List Link) → Steps (Adj g) links ps → Each (BGPath (Adj g)) taken links ps
+  pub steps-each : (links ps : List Path) → Steps (Adj g) links ps → Each (BGPath (Adj g)) taken links ps
   unfolding Each
   steps-each links [] e = tt
   steps-each links (P ∷ ps) e = (e .0, steps-each (taken links P) ps (e .1))

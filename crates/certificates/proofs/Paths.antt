@@ -10,7 +10,7 @@ use Rattle.record.specs.Read.{Each}
 use Rattle.record.proofs.Laws.{Reads, counted-law, into-law, same-law}
 use Rattle.connectivity.specs.Lists.{In, NoDup}
 use Rattle.connectivity.specs.Graph.{Graph, Adj, Simple}
-use Rattle.connectivity.specs.Path.{Link, link, vertices, Along, IsPath}
+use Rattle.connectivity.specs.Path.{Path, link, vertices, Along, IsPath}
 use Rattle.connectivity.specs.Build.{InBuild, BGPath}
 use Rattle.connectivity.specs.Certificate.{Cycle, Ear}
 use Rattle.connectivity.proofs.Lists.{at-most}
@@ -32,13 +32,13 @@ list-vertices [] h = absurd (omega arith)
 list-vertices (s ∷ []) h = absurd (omega arith)
 list-vertices (s ∷ v ∷ l) h = tail-vertices s v l
 
-vertices-link : (P : Link) → linkOf (vertices P) ≡ P
+vertices-link : (P : Path) → linkOf (vertices P) ≡ P
 vertices-link P = go (P .s) (P .inner) (P .t)
   where
     go : (s : ℕ) (l : List ℕ) (t : ℕ) → linkOf (s ∷ (l ++ (t ∷ []))) ≡ link s l t
     go s [] t = refl
     go s (v ∷ []) t = refl
-    go s (v ∷ w ∷ l) t = ap (λ (T : Link). link s (v ∷ T .inner) (T .t)) (go v (w ∷ l) t)
+    go s (v ∷ w ∷ l) t = ap (λ (T : Path). link s (v ∷ T .inner) (T .t)) (go v (w ∷ l) t)
 
 -- each item beside no state
 each-in : (Q : ℕ → Type 0) (l : List ℕ) → Each (λ (u : Unit {0}) v. Q v) (λ u v. u) tt l → (w : ℕ) → In w l → Q w
@@ -67,29 +67,29 @@ path-law n least few two = into-law
     (λ P o. (vertices P, vertices-link P, o))
 
 -- 24 and 26
-decide-path : (g : Graph) (P : Link) → Decides (pathAlong g P) (Along (Adj g) (P .s) (P .inner) (P .t))
+decide-path : (g : Graph) (P : Path) → Decides (pathAlong g P) (Along (Adj g) (P .s) (P .inner) (P .t))
 decide-path g P = decide-along (g .adj) (P .s) (P .inner) (P .t)
 
-decide-new : {old : ℕ → Bool} {Old : ℕ → Type 0} → ((v : ℕ) → Decides (old v) (Old v)) → (P : Link)
+decide-new : {old : ℕ → Bool} {Old : ℕ → Type 0} → ((v : ℕ) → Decides (old v) (Old v)) → (P : Path)
     → Decides (pathNew old P) (NoDup (vertices P) × ((w : ℕ) → In w (P .inner) → ¬ Old w))
 decide-new d P = decide-and (decide-distinct (vertices P)) (decide-each (λ v. decide-not (d v)) (P .inner))
 
-pub decide-built : (links : List Link) (v : ℕ) → Decides (inBuild links v) (InBuild v links)
+pub decide-built : (links : List Path) (v : ℕ) → Decides (inBuild links v) (InBuild v links)
 decide-built links v = decide-any (λ L. decide-member v (vertices L)) links
 
 -- what an ear is to be beside the vertices that are in
-abbrev pub EarOk : Graph → List ℕ → Link → Type 0
+abbrev pub EarOk : Graph → List ℕ → Path → Type 0
 EarOk g [] P = Cycle g P
 EarOk g (b ∷ B) P = Ear g (b ∷ B) P
 
-pub record StartOk (g : Graph) (st : Start) (P : Link) : Type 0 where
+pub record StartOk (g : Graph) (st : Start) (P : Path) : Type 0 where
   pub is-path : IsPath (Adj g) P
   pub ends : startEnds (st .ends) P ≡ true
   pub new : (w : ℕ) → In w (P .inner) → ¬ In w (st .built)
 
 module _ (g : Graph) (simple : Simple g) (few : g .n < numberLimit) where
   -- vertices of a path are on edges, so below n; they differ, so there are at most n
-  path-fits : (least : ℕ) (P : Link) → IsPath (Adj g) P → least ≤ length (vertices P) → Fits (g .n) least (vertices P)
+  path-fits : (least : ℕ) (P : Path) → IsPath (Adj g) P → least ≤ length (vertices P) → Fits (g .n) least (vertices P)
   path-fits least P p h = ((h, at-most (g .n) (vertices P) (p .nodup) low), low)
     where
       low : (w : ℕ) → In w (vertices P) → w < g .n
@@ -116,7 +116,7 @@ module _ (g : Graph) (simple : Simple g) (few : g .n < numberLimit) where
       (λ P o. record { is-path = record { along = o .0 .0 .1; nodup = o .1 .0 }; ends = o .0 .1; new = o .1 .1 })
       (λ P r. (((path-fits 2 P (r .is-path) (two-vertices P), r .is-path .along), r .ends), (r .is-path .nodup, r .new)))
 
-  pub further-path-law : (links : List Link) → Reads (furtherPath g links) pathBytes (BGPath (Adj g) links)
+  pub further-path-law : (links : List Path) → Reads (furtherPath g links) pathBytes (BGPath (Adj g) links)
   unfolding furtherPath
   further-path-law links = same-law
       (decided-law (decided-law (decided-law (decided-law (path-law (g .n) 2 few (omega arith))

@@ -3,7 +3,7 @@ use mathlib.Core.List.{List, _∷_, _++_}
 use Prim.Native.Nat.{ℕ}
 use lib.ListN.{length}
 use Rattle.record.specs.Number.{numberBytes, listBytes}
-use Rattle.connectivity.specs.Path.{Link, vertices}
+use Rattle.connectivity.specs.Path.{Path, vertices}
 use Rattle.connectivity.specs.Build.{four}
 use Rattle.connectivity.specs.Certificate.{Certificate, Certificate.separation, Certificate.tree, Certificate.ears, Certificate.build, kind}
 
@@ -11,13 +11,13 @@ use Rattle.connectivity.specs.Certificate.{Certificate, Certificate.separation,
 abbrev pub sideBytes : List ℕ → List ℕ
 sideBytes l = numberBytes (length l) ++ listBytes numberBytes l
 
-abbrev pub pathBytes : Link → List ℕ
+abbrev pub pathBytes : Path → List ℕ
 pathBytes P = sideBytes (vertices P)
 
 abbrev pub pairBytes : ℕ × ℕ → List ℕ
 pairBytes p = numberBytes (p .0) ++ numberBytes (p .1)
 
-abbrev pub startBytes : ℕ → ℕ → ℕ → ℕ → List Link → List ℕ
+abbrev pub startBytes : ℕ → ℕ → ℕ → ℕ → List Path → List ℕ
 startBytes p q r s start = listBytes numberBytes (four p q r s) ++ listBytes pathBytes start
 
 abbrev pub bodyBytes : Certificate → List ℕ

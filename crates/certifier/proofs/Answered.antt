@@ -11,7 +11,7 @@ use Rattle.vertexset.specs.Set.{emptySet, count, capacity}
 use Rattle.vertexset.specs.declared.VertexSet.{VertexSet}
 use Rattle.graph.specs.Rows.{rowOf}
 use Rattle.search.specs.Code.{pathOf, reachOf, searchSpace, leftIn, answerIn}
-use Rattle.search.specs.declared.Path.{Path}
+use Rattle.search.specs.declared.VertexList.{VertexList}
 use Rattle.search.specs.declared.Reach.{Reach}
 use Rattle.search.proofs.Lent.{answer-is, order-is, from-is}
 use Rattle.search.proofs.Sizes.{explore-sized}
@@ -28,7 +28,7 @@ use Rattle.certifier.specs.declared.Found.{Found}
 use Rattle.certifier.proofs.Lists.{pushed-path}
 use Rattle.certifier.proofs.Routes.{route-short}
 
-abbrev pub foundIn : Path → Cut → Found
+abbrev pub foundIn : VertexList → Cut → Found
 foundIn path cut = record { path = path; cut = cut }
 
 abbrev pub cutAt : VertexSet → VertexSet → Cut
@@ -36,7 +36,7 @@ cutAt removed side = record { removed = removed; side = side }
 
 -- ---- a search, answered
 
-found-with : (m : searching.Reach) (removed : VertexSet) → isFound m ≡ true → (more : List ℕ) (p : Path) (c : Cut) → p ≡ pathOf (route m ++ more) → c ≡ cutOf noCut
+found-with : (m : searching.Reach) (removed : VertexSet) → isFound m ≡ true → (more : List ℕ) (p : VertexList) (c : Cut) → p ≡ pathOf (route m ++ more) → c ≡ cutOf noCut
     → foundIn p c ≡ foundOf (answered m removed more)
 found-with m removed t more p c q n = rw (t, q, n)
 
@@ -47,10 +47,10 @@ module _ (m : searching.Reach) (removed : VertexSet) (r : Reach) (e : r ≡ reac
   unmet : capacity ≤ r .goal → ltb (m .goal) capacity ≡ false
   unmet h = le-ltb (m .goal) capacity (subst (λ (x : Reach). capacity ≤ x .goal) e h)
 
-  pub found-here : (p : Path) (c : Cut) → r .goal < capacity → p ≡ pathOf (route m) → c ≡ cutOf noCut → foundIn p c ≡ foundOf (answered m removed [])
+  pub found-here : (p : VertexList) (c : Cut) → r .goal < capacity → p ≡ pathOf (route m) → c ≡ cutOf noCut → foundIn p c ≡ foundOf (answered m removed [])
   found-here p c h q n = found-with m removed (met h) [] p c (q ∙ ap pathOf (sym (append-nil (route m)))) n
 
-  pub found-none : (p : Path) (side : VertexSet) → capacity ≤ r .goal → p ≡ pathOf [] → side ≡ minus (r .shut) removed
+  pub found-none : (p : VertexList) (side : VertexSet) → capacity ≤ r .goal → p ≡ pathOf [] → side ≡ minus (r .shut) removed
       → foundIn p (cutAt removed side) ≡ foundOf (answered m removed [])
   found-none p side h q s =
       let t : side ≡ minus (m .shut) removed = s ∙ ap (λ (x : Reach). minus (x .shut) removed) e in
@@ -72,13 +72,13 @@ module _ (m : searching.Reach) (removed : VertexSet) (x : ℕ) {f : Found} (e : 
       go true t = let z = ap (λ (y : Found). y .path .count) (told t) in absurd (omega arith)
       go false t = told t ∙ sym (ap (λ (b : Bool). foundOf (by b (x ∷ []))) t)
 
-  pub on-more : (f .path .count ≡ 0 → ⊥) → {p : Path} {c : Cut} → p ≡ pushed (f .path) x → c ≡ cutOf noCut → foundIn p c ≡ foundOf (answered m removed (x ∷ []))
+  pub on-more : (f .path .count ≡ 0 → ⊥) → {p : VertexList} {c : Cut} → p ≡ pushed (f .path) x → c ≡ cutOf noCut → foundIn p c ≡ foundOf (answered m removed (x ∷ []))
   on-more h {p} {c} q n = go (isFound m) refl
     where
       go : (b : Bool) → isFound m ≡ b → foundIn p c ≡ foundOf (answered m removed (x ∷ []))
       go true t =
           let r : f .path ≡ pathOf (route m) = ap (λ (y : Found). y .path) (told t) ∙ ap pathOf (append-nil (route m)) in
-          found-with m removed t (x ∷ []) p c (q ∙ ap (λ (y : Path). pushed y x) r ∙ pushed-path (route m) x (omega (arith, route-short m))) n
+          found-with m removed t (x ∷ []) p c (q ∙ ap (λ (y : VertexList). pushed y x) r ∙ pushed-path (route m) x (omega (arith, route-short m))) n
       go false t = absurd (h (ap (λ (y : Found). y .path .count) (told t)))
 
 -- ---- out and back

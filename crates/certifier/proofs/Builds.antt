@@ -17,7 +17,7 @@ use Rattle.construction.specs.Ears.{noCut, pathSpace}
 use Rattle.construction.specs.Start.{linkIn, addLink, sixLinks, sorted, nextAfter, begun, marked, threePaths, fourOf, startOn}
 use Rattle.search.specs.Arrays.{placed, placedEnd}
 use Rattle.search.specs.Code.{pathOf, pathRoom}
-use Rattle.search.specs.declared.Path.{Path}
+use Rattle.search.specs.declared.VertexList.{VertexList}
 use Rattle.certifier.specs.Code.{cutOf, startOf}
 use Rattle.certifier.specs.declared.Cut.{Cut}
 use Rattle.certifier.specs.declared.Start.{Start}
@@ -26,7 +26,7 @@ use Rattle.certifier.proofs.Stepping.{front, front-take}
 
 -- ---- the front of a path's array, as the code hands it on
 
-module _ (p : Path) (l : List ℕ) (e : p ≡ pathOf l) where
+module _ (p : VertexList) (l : List ℕ) (e : p ≡ pathOf l) where
   pub path-is : front (p .vertices) (p .count) ≡ l
   path-is = front-take (p .vertices) (p .count) ∙ rw e (take-append-seam l (replicate (pathRoom - length l) 0))
 
@@ -36,7 +36,7 @@ module _ (p : Path) (l : List ℕ) (e : p ≡ pathOf l) where
 -- ---- links of the start
 
 module _ (table : List ℕ) (four : VertexSet) (u w : ℕ) where
-  pub link-path : {seeds goals ends removed : VertexSet} {p : Path} → seeds ≡ single w → goals ≡ single u → ends ≡ pair u w → removed ≡ minus four ends
+  pub link-path : {seeds goals ends removed : VertexSet} {p : VertexList} → seeds ≡ single w → goals ≡ single u → ends ≡ pair u w → removed ≡ minus four ends
       → p ≡ pathOf (route (explore table seeds goals removed)) → p ≡ pathOf (linkIn table four u w)
   link-path a b c d q = q ∙ rw (d, c, a, b)
 

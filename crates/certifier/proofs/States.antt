@@ -12,7 +12,7 @@ use Rattle.vertexset.specs.Set.{inserted}
 use Rattle.vertexset.specs.declared.VertexSet.{VertexSet}
 use Rattle.search.specs.Arrays.{padded, placed, placedEnd}
 use Rattle.search.specs.Code.{pathOf, pathRoom}
-use Rattle.search.specs.declared.Path.{Path}
+use Rattle.search.specs.declared.VertexList.{VertexList}
 use Rattle.search.proofs.Placed.{padded-length, padded-take, placed-padded, placed-end-padded, added-length, drop-zeros}
 use Rattle.construction.specs.Sets.{stop, withAll, lastOf}
 use Rattle.construction.specs.Ears.{pathSpace, addPath, noCut}
@@ -175,10 +175,10 @@ abbrev pub goingOn : VertexSet → VertexSet → ℕ → ℕ → Cut → Progres
 goingOn branch built len at cut = record { branch = branch; built = built; len = len; at = at; going = true; cut = cut }
 
 -- the path that the code hands on: the front of its array
-pub path-front : (p : Path) (l : List ℕ) → p ≡ pathOf l → length l ≤ pathRoom → take (p .count - 0) (drop 0 (p .vertices)) ≡ l
+pub path-front : (p : VertexList) (l : List ℕ) → p ≡ pathOf l → length l ≤ pathRoom → take (p .count - 0) (drop 0 (p .vertices)) ≡ l
 path-front p l e h = let z : length l - 0 ≡ length l = omega arith in rw e (rw z (padded-take pathRoom l h))
 
-pub path-fits : (p : Path) (l : List ℕ) → p ≡ pathOf l → length l ≤ pathRoom → p .count ≤ length (p .vertices)
+pub path-fits : (p : VertexList) (l : List ℕ) → p ≡ pathOf l → length l ≤ pathRoom → p .count ≤ length (p .vertices)
 path-fits p l e h = rw e (omega (arith, padded-length pathRoom l h))
 
 module _ (items : List ℕ) (b : Progress) (path : List ℕ) (kept : Kept items (b .len)) {out : List ℕ} {len : ℕ} {built : VertexSet} {none : Cut} where

@@ -9,7 +9,7 @@ use Rattle.vertexset.specs.Set.{emptySet, has, count, capacity}
 use Rattle.vertexset.specs.declared.VertexSet.{VertexSet}
 use Rattle.search.specs.Arrays.{padded}
 use Rattle.search.specs.Code.{pathOf, pathRoom}
-use Rattle.search.specs.declared.Path.{Path}
+use Rattle.search.specs.declared.VertexList.{VertexList}
 use Rattle.construction.specs.Sets.{single, members}
 use Rattle.construction.specs.Ears as construction
 use Rattle.construction.specs.Ears.{pathSpace}
@@ -48,7 +48,7 @@ abbrev pub numbersOf : List ℕ → Numbers
 numbersOf l = record { items = padded numberRoom l; count = length l }
 
 -- a vertex at the end of a path that has room
-abbrev pub pushed : Path → ℕ → Path
+abbrev pub pushed : VertexList → ℕ → VertexList
 pushed p v = cond (ltb (p .count) pathRoom) (record { vertices = set (p .vertices) (p .count) v; count = p .count + 1 }) p
 
 -- a member, or no member

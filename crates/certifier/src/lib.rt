@@ -19,12 +19,12 @@ ghost use Rattle.construction.specs.Steps.{state, extended, offLink, linkStep, 
 ghost use Rattle.construction.specs.Certificate.{lengthened, certificateNumbers, fullSet};
 ghost use Rattle.certifier.specs.Code.{cutOf, foundOf, earsOf, startOf, numbersOf, pushed, sideOf, putBetween, putBetweenEnd, Kept, FlatShows, stateIn, Shows, treeIn, evidenceIn, cutNumbersIn, cutCertificateIn, StartKept, startCertificateIn, Small};
 ghost use Rattle.certifier.specs.Made.{madeFrom, filledFrom, draftOf, draftFrom};
-use graph::Graph;
+use graph::GraphTable;
 use record::Answer;
 use record::Number;
 use record::Written;
-use search::Path;
 use search::Reach;
+use search::VertexList;
 use vertexset::VertexSet;
 
 // Removed vertices, and a side that no edge leaves but to them. Without a side nothing is cut.
@@ -35,7 +35,7 @@ struct Cut {
 
 // A path of vertices, or a cut.
 struct Found {
-    path: Path,
+    path: VertexList,
     cut: Cut,
 }
 
@@ -73,7 +73,7 @@ struct Progress {
 }
 
 struct Table {
-    rows: [u64; Graph::ROW_WORDS],
+    rows: [u64; GraphTable::ROW_WORDS],
 }
 
 // The numbers of a certificate.
@@ -99,7 +99,7 @@ impl Numbers {
     // a vertex takes one byte where all are below 128, else two
     const VERTEX_BYTES: usize = 1 + (Number::GROUP < VertexSet::CAPACITY) as usize;
 
-    const PATHS: usize = 3 * Graph::MAX_EDGES as usize;
+    const PATHS: usize = 3 * GraphTable::MAX_EDGES as usize;
 
     const ROOM: usize = Numbers::PATHS + 2 * VertexSet::CAPACITY as usize + 8;
 }
@@ -183,23 +183,23 @@ fn last_of(list: &[u16]) -> u16
     list[list.len() - 1]
 }
 
-fn no_path() -> Path
+fn no_path() -> VertexList
     ensures { λ r. ⌜ r ≡ pathOf [] ⌝ }
 {
-    Path {
-        vertices: [0u16; Path::ROOM],
+    VertexList {
+        vertices: [0u16; VertexList::ROOM],
         count: 0,
     }
 }
 
-fn push(p: Path, v: u16) -> Path
+fn push(p: VertexList, v: u16) -> VertexList
     ensures { λ r. ⌜ r ≡ pushed p v ⌝ }
 {
     let k = p.count;
-    if k < Path::ROOM {
+    if k < VertexList::ROOM {
         let mut vertices = p.vertices;
         vertices[k] = v;
-        return Path {
+        return VertexList {
             vertices,
             count: k + 1,
         };
@@ -209,7 +209,7 @@ fn push(p: Path, v: u16) -> Path
 
 // A search, answered by a path or a cut.
 fn find<'a>(
-    rows: &'a [u64; Graph::ROW_WORDS],
+    rows: &'a [u64; GraphTable::ROW_WORDS],
     space: &'a mut [u16],
     seeds: VertexSet,
     goals: VertexSet,
@@ -237,7 +237,7 @@ fn find<'a>(
 
 // The same without one vertex, to which the path goes on.
 fn find_on<'a>(
-    rows: &'a [u64; Graph::ROW_WORDS],
+    rows: &'a [u64; GraphTable::ROW_WORDS],
     space: &'a mut [u16],
     seeds: VertexSet,
     goals: VertexSet,
@@ -258,7 +258,7 @@ fn find_on<'a>(
 }
 
 // The first vertex of one set with a neighbour in another, and the least such neighbour.
-fn way_out(rows: &[u64; Graph::ROW_WORDS], set: VertexSet, outside: VertexSet) -> Exit
+fn way_out(rows: &[u64; GraphTable::ROW_WORDS], set: VertexSet, outside: VertexSet) -> Exit
     ensures { λ r. ⌜ (r .inside ≡ wayOut (now (rows .entry)) set (members outside) .0) × (r .outside ≡ wayOut (now (rows .entry)) set (members outside) .1) ⌝ }
 {
     let mut c = outside.next_from(0);
@@ -281,7 +281,7 @@ fn way_out(rows: &[u64; Graph::ROW_WORDS], set: VertexSet, outside: VertexSet) -
 
 // Out of a set along an edge, and back to another of its vertices.
 fn detour<'a>(
-    rows: &'a [u64; Graph::ROW_WORDS],
+    rows: &'a [u64; GraphTable::ROW_WORDS],
     space: &'a mut [u16],
     full: VertexSet,
     set: VertexSet,
@@ -309,7 +309,7 @@ fn detour<'a>(
 }
 
 // A cycle through vertex 0.
-fn cycle<'a>(rows: &'a [u64; Graph::ROW_WORDS], space: &'a mut [u16]) -> Found
+fn cycle<'a>(rows: &'a [u64; GraphTable::ROW_WORDS], space: &'a mut [u16]) -> Found
     requires { ⌜ length (now space) ≡ searchSpace ⌝ }
     ensures { λ r. ⌜ r ≡ foundOf (cycle (now (rows .entry))) ⌝ }
 {
@@ -355,7 +355,7 @@ fn ears_of(flat: [u16; Numbers::PATHS], len: usize, count: u16, cut: Cut) -> Ear
 
 // Ears behind the first until every vertex is in; or a cut.
 fn more_ears<'a>(
-    rows: &'a [u64; Graph::ROW_WORDS],
+    rows: &'a [u64; GraphTable::ROW_WORDS],
     space: &'a mut [u16],
     full: VertexSet,
     first: &'a [u16],
@@ -389,7 +389,11 @@ fn more_ears<'a>(
 }
 
 // Ears until every vertex is in; or a cut.
-fn find_ears<'a>(rows: &'a [u64; Graph::ROW_WORDS], space: &'a mut [u16], full: VertexSet) -> Ears
+fn find_ears<'a>(
+    rows: &'a [u64; GraphTable::ROW_WORDS],
+    space: &'a mut [u16],
+    full: VertexSet,
+) -> Ears
     requires { ⌜ length (now space) ≡ searchSpace ⌝ }
     ensures { λ r. ⌜ r ≡ earsOf (ears (now (rows .entry)) full) ⌝ }
 {
@@ -405,7 +409,7 @@ fn find_ears<'a>(rows: &'a [u64; Graph::ROW_WORDS], space: &'a mut [u16], full: 
 }
 
 // Neighbours in a list of paths are joined; a stop is no vertex.
-fn mark<'a>(table: &'a mut [u64; Graph::ROW_WORDS], list: &'a [u16])
+fn mark<'a>(table: &'a mut [u64; GraphTable::ROW_WORDS], list: &'a [u16])
     ensures { λ r. ⌜ now (table .exit) ≡ marked (now (table .entry)) (now (list .entry)) ⌝ }
 {
     let mut i = 1;
@@ -417,7 +421,7 @@ fn mark<'a>(table: &'a mut [u64; Graph::ROW_WORDS], list: &'a [u16])
 
 // A third path from vertex 0 to the cycle through it.
 fn third_path<'a>(
-    rows: &'a [u64; Graph::ROW_WORDS],
+    rows: &'a [u64; GraphTable::ROW_WORDS],
     space: &'a mut [u16],
     around: &'a [u16],
 ) -> Found
@@ -431,7 +435,7 @@ fn third_path<'a>(
 
 // A path from inside the third path across to the cycle.
 fn path_across<'a>(
-    rows: &'a [u64; Graph::ROW_WORDS],
+    rows: &'a [u64; GraphTable::ROW_WORDS],
     space: &'a mut [u16],
     around: &'a [u16],
     third: &'a [u16],
@@ -450,20 +454,20 @@ fn table_of<'a>(around: &'a [u16], third: &'a [u16], across: &'a [u16]) -> Table
     requires { ⌜ length (now around) ≤ pathRoom ⌝ }
     ensures { λ r. ⌜ r .rows ≡ marked bareRows (threePaths (now (around .entry)) (now (third .entry)) (now (across .entry))) ⌝ }
 {
-    let mut closed = [0u16; Path::ROOM + 1];
+    let mut closed = [0u16; VertexList::ROOM + 1];
     let k = search::put_all(&mut closed, 1, around);
     let mut flat = [0u16; Numbers::PATHS];
     let first = add_path(&mut flat, 0, &closed[0..k]);
     let second = add_path(&mut flat, first, third);
     let len = add_path(&mut flat, second, across);
-    let mut rows = [0u64; Graph::ROW_WORDS];
+    let mut rows = [0u64; GraphTable::ROW_WORDS];
     mark(&mut rows, &flat[0..len]);
     Table { rows }
 }
 
 // The link between two branch vertices, behind the other links.
 fn add_link<'a>(
-    table: &'a [u64; Graph::ROW_WORDS],
+    table: &'a [u64; GraphTable::ROW_WORDS],
     space: &'a mut [u16],
     four: VertexSet,
     flat: &'a mut [u16],
@@ -483,7 +487,11 @@ fn add_link<'a>(
 }
 
 // The six links in the order of the record.
-fn six_links<'a>(table: &'a [u64; Graph::ROW_WORDS], space: &'a mut [u16], four: VertexSet) -> Start
+fn six_links<'a>(
+    table: &'a [u64; GraphTable::ROW_WORDS],
+    space: &'a mut [u16],
+    four: VertexSet,
+) -> Start
     requires { ⌜ length (now space) ≡ searchSpace ⌝ }
     ensures { λ r. ⌜ r ≡ startOf (begun four (sorted (now (table .entry)) four)) ⌝ }
 {
@@ -536,7 +544,7 @@ fn start_on<'a>(
 
 // The start on a cycle and a third path, from a path across; or a cut.
 fn begin_across<'a>(
-    rows: &'a [u64; Graph::ROW_WORDS],
+    rows: &'a [u64; GraphTable::ROW_WORDS],
     space: &'a mut [u16],
     around: &'a [u16],
     third: &'a [u16],
@@ -557,7 +565,7 @@ fn begin_across<'a>(
 
 // The start on a cycle through vertex 0; or a cut.
 fn begin_around<'a>(
-    rows: &'a [u64; Graph::ROW_WORDS],
+    rows: &'a [u64; GraphTable::ROW_WORDS],
     space: &'a mut [u16],
     around: &'a [u16],
 ) -> Start
@@ -576,7 +584,7 @@ fn begin_around<'a>(
 }
 
 // Four branch vertices and six links; or a cut.
-fn begin<'a>(rows: &'a [u64; Graph::ROW_WORDS], space: &'a mut [u16]) -> Start
+fn begin<'a>(rows: &'a [u64; GraphTable::ROW_WORDS], space: &'a mut [u16]) -> Start
     requires { ⌜ length (now space) ≡ searchSpace ⌝ }
     ensures { λ r. ⌜ r ≡ startOf (begin (now (rows .entry))) ⌝ }
 {
@@ -624,7 +632,7 @@ fn before(i: usize) -> usize
 
 // (a) From inside the link at the places i - 1 to j to the rest of the build, without the link's ends.
 fn off_link<'a>(
-    rows: &'a [u64; Graph::ROW_WORDS],
+    rows: &'a [u64; GraphTable::ROW_WORDS],
     space: &'a mut [u16],
     list: &'a [u16],
     built: VertexSet,
@@ -673,7 +681,7 @@ fn extend<'a>(flat: &'a mut [u16], b: Progress, path: &'a [u16], at: usize) -> P
 }
 
 fn link_step<'a>(
-    rows: &'a [u64; Graph::ROW_WORDS],
+    rows: &'a [u64; GraphTable::ROW_WORDS],
     space: &'a mut [u16],
     flat: &'a mut [u16],
     b: Progress,
@@ -714,7 +722,7 @@ fn pair_place(list: &[u16], x: u16, y: u16) -> usize
 }
 
 // Where two vertices stand side by side on a path, or the length; only where an edge joins them can they.
-fn beside<'a>(rows: &'a [u64; Graph::ROW_WORDS], list: &'a [u16], x: u16, y: u16) -> usize
+fn beside<'a>(rows: &'a [u64; GraphTable::ROW_WORDS], list: &'a [u16], x: u16, y: u16) -> usize
     ensures { λ r. ⌜ r ≡ besidePlace (now (rows .entry)) x y (now (list .entry)) ⌝ }
 {
     if graph::adjacent(rows, x, y) {
@@ -723,20 +731,20 @@ fn beside<'a>(rows: &'a [u64; Graph::ROW_WORDS], list: &'a [u16], x: u16, y: u16
     list.len()
 }
 
-fn copied(list: &[u16]) -> Path
+fn copied(list: &[u16]) -> VertexList
     requires { ⌜ length (now list) ≤ pathRoom ⌝ }
     ensures { λ r. ⌜ r ≡ pathOf (now (list .entry)) ⌝ }
 {
-    let mut vertices = [0u16; Path::ROOM];
+    let mut vertices = [0u16; VertexList::ROOM];
     let count = search::put_all(&mut vertices, 0, list);
-    Path { vertices, count }
+    VertexList { vertices, count }
 }
 
-fn reversed(list: &[u16]) -> Path
+fn reversed(list: &[u16]) -> VertexList
     requires { ⌜ length (now list) ≤ pathRoom ⌝ }
     ensures { λ r. ⌜ r ≡ pathOf (reversed (now (list .entry))) ⌝ }
 {
-    let mut vertices = [0u16; Path::ROOM];
+    let mut vertices = [0u16; VertexList::ROOM];
     let mut count = 0;
     let mut i = list.len();
     while 0 < i {
@@ -744,11 +752,11 @@ fn reversed(list: &[u16]) -> Path
         vertices[count] = list[i];
         count += 1;
     }
-    Path { vertices, count }
+    VertexList { vertices, count }
 }
 
 // The inner vertices of a path in the direction in which it leaves z, one of its ends.
-fn turned(path: &[u16], z: u16) -> Path
+fn turned(path: &[u16], z: u16) -> VertexList
     requires { ⌜ length (now path) ≤ pathRoom ⌝ }
     ensures { λ r. ⌜ r ≡ pathOf (turned (now (path .entry)) z) ⌝ }
 {
@@ -811,7 +819,7 @@ fn reroute<'a>(flat: &'a mut [u16], b: Progress, path: &'a [u16], k: usize) -> P
 
 // (b) Out of the build and back; or every vertex is in.
 fn out_step<'a>(
-    rows: &'a [u64; Graph::ROW_WORDS],
+    rows: &'a [u64; GraphTable::ROW_WORDS],
     space: &'a mut [u16],
     full: VertexSet,
     flat: &'a mut [u16],
@@ -847,7 +855,7 @@ fn out_step<'a>(
 
 // One step: (a) where an inner vertex is left, else (b).
 fn step<'a>(
-    rows: &'a [u64; Graph::ROW_WORDS],
+    rows: &'a [u64; GraphTable::ROW_WORDS],
     space: &'a mut [u16],
     full: VertexSet,
     flat: &'a mut [u16],
@@ -868,7 +876,7 @@ fn step<'a>(
 
 // Steps until none is left.
 fn build<'a>(
-    rows: &'a [u64; Graph::ROW_WORDS],
+    rows: &'a [u64; GraphTable::ROW_WORDS],
     space: &'a mut [u16],
     full: VertexSet,
     flat: &'a mut [u16],
@@ -878,7 +886,7 @@ fn build<'a>(
     ensures { λ r. ⌜ Shows (now (flat .exit)) r (steps (now (rows .entry)) full (maxEdges + 1) (stateIn (now (flat .entry)) first)) ⌝ }
 {
     let mut b = first;
-    let mut left = Graph::MAX_EDGES + 1;
+    let mut left = GraphTable::MAX_EDGES + 1;
     while 0 < left {
         if !b.going {
             return b;
@@ -906,11 +914,16 @@ fn add_edges(flat: &mut [u16], from: usize, u: u16, set: VertexSet) -> usize
 }
 
 // The edges that no path has.
-fn finish<'a>(rows: &'a [u64; Graph::ROW_WORDS], n: u16, flat: &'a mut [u16], from: usize) -> usize
+fn finish<'a>(
+    rows: &'a [u64; GraphTable::ROW_WORDS],
+    n: u16,
+    flat: &'a mut [u16],
+    from: usize,
+) -> usize
     requires { ⌜ Kept (now flat) from × (n ≤ capacity) ⌝ }
     ensures { λ r. ⌜ FlatShows (now (flat .exit)) r (finish (now (rows .entry)) n (take from (now (flat .entry)))) ⌝ }
 {
-    let mut table = [0u64; Graph::ROW_WORDS];
+    let mut table = [0u64; GraphTable::ROW_WORDS];
     mark(&mut table, &flat[0..from]);
     let mut len = from;
     let mut u: u16 = 0;
@@ -961,7 +974,7 @@ fn put_tree<'a>(items: &'a mut [u16], at: usize, space: &'a [u16], count: usize)
 
 // What stands between the removed vertices and the side: nothing, the tree, or the ears.
 fn put_evidence<'a>(
-    rows: &'a [u64; Graph::ROW_WORDS],
+    rows: &'a [u64; GraphTable::ROW_WORDS],
     space: &'a mut [u16],
     items: &'a mut [u16],
     at: usize,
@@ -994,7 +1007,7 @@ fn put_evidence<'a>(
 
 // Kinds 0 to 2.
 fn cut_numbers<'a>(
-    rows: &'a [u64; Graph::ROW_WORDS],
+    rows: &'a [u64; GraphTable::ROW_WORDS],
     space: &'a mut [u16],
     e: Ears,
     c: Cut,
@@ -1027,7 +1040,7 @@ fn no_ears() -> Ears
 
 // The certificate of a cut; where two vertices are removed, ears are asked for.
 fn cut_certificate<'a>(
-    rows: &'a [u64; Graph::ROW_WORDS],
+    rows: &'a [u64; GraphTable::ROW_WORDS],
     space: &'a mut [u16],
     full: VertexSet,
     c: Cut,
@@ -1061,7 +1074,7 @@ fn build_numbers(four: VertexSet, list: &[u16]) -> Numbers
 
 // The certificate of a build, or of the cut that it met.
 fn build_certificate<'a>(
-    rows: &'a [u64; Graph::ROW_WORDS],
+    rows: &'a [u64; GraphTable::ROW_WORDS],
     space: &'a mut [u16],
     n: u16,
     full: VertexSet,
@@ -1092,7 +1105,7 @@ fn build_certificate<'a>(
 }
 
 // THE CERTIFICATE, as its numbers. All searches share one space.
-fn certificate(rows: &[u64; Graph::ROW_WORDS], n: u16) -> Numbers
+fn certificate(rows: &[u64; GraphTable::ROW_WORDS], n: u16) -> Numbers
     requires { ⌜ n ≤ capacity ⌝ }
     ensures { λ r. ⌜ r ≡ numbersOf (certificateNumbers (now (rows .entry)) n) ⌝ }
 {

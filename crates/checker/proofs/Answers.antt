@@ -18,7 +18,7 @@ use Rattle.connectivity.specs.Certificate.{Certificate, kind}
 use Rattle.reading.specs.Plan.{Plan, Allowed, plan}
 use Rattle.reading.specs.Code.{graphOf, planRead, wholePlan, leadingPlan}
 use Rattle.reading.specs.declared.PlanRead.{PlanRead}
-use Rattle.graph.specs.declared.Graph.{Graph as Built}
+use Rattle.graph.specs.declared.GraphTable.{GraphTable}
 use Rattle.reading.proofs.Plans.{plan-law}
 use Rattle.connectivity.proofs.Edges.{fromEdges-count}
 use Rattle.reading.proofs.Adjacency.{graph-listed, edge-list}
@@ -159,7 +159,7 @@ module _ (s c : List ℕ) (r : PlanRead) (e : r ≡ wholePlan s) where
       go (Got p next) k d =
           let a = ended-there plan-law {v = p} bytes k .1 in
           let g : r .graph ≡ graphOf p = ap (λ (q : PlanRead). q .graph) d in
-          (rw g (fits-table p a), ap (λ (h : Built). rowsAnswer (rowsGraph (h .n) (h .rows)) (h .m) c) g ∙ plan-answer p a c)
+          (rw g (fits-table p a), ap (λ (h : GraphTable). rowsAnswer (rowsGraph (h .n) (h .rows)) (h .m) c) g ∙ plan-answer p a c)
       go (Refused q p) k d = let z : r .answer ≡ PlanFault q p = ap (λ (q : PlanRead). q .answer) d in let y : _≡_ {A = ℕ} 0 1 = cc in absurd (omega arith)
 
   pub check-refused : (r .answer ≡ Accepted → ⊥) → r .answer ≡ checkOf s c

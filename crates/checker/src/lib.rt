@@ -7,7 +7,7 @@ ghost use Rattle.vertexset.specs.Set.{capacity};
 ghost use Rattle.graph.specs.Rows.{rowsGraph};
 ghost use Rattle.checker.specs.Check.{checkOf, gradeOf};
 ghost use Rattle.checker.specs.Code.{bodyEnd, onEnd, rowsAnswer};
-use graph::Graph;
+use graph::GraphTable;
 use paths::Item;
 use record::Answer;
 use record::Number;
@@ -44,7 +44,7 @@ fn enough(n: u16, m: u16, k: u16) -> bool
 // The body of a certificate of kind k, after the kind.
 fn read_body<'a>(
     s: &'a [u8],
-    rows: &'a [u64; Graph::ROW_WORDS],
+    rows: &'a [u64; GraphTable::ROW_WORDS],
     n: u16,
     m: u16,
     k: u16,
@@ -82,7 +82,12 @@ fn ended(len: usize, k: u16, end: Item) -> Answer
 }
 
 // A whole certificate beside a graph of n vertices and m edges.
-fn check_certificate<'a>(s: &'a [u8], rows: &'a [u64; Graph::ROW_WORDS], n: u16, m: u16) -> Answer
+fn check_certificate<'a>(
+    s: &'a [u8],
+    rows: &'a [u64; GraphTable::ROW_WORDS],
+    n: u16,
+    m: u16,
+) -> Answer
     requires { ⌜ n ≤ capacity ⌝ }
     ensures { λ r. ⌜ r ≡ rowsAnswer (rowsGraph n (now (rows .entry))) m (now (s .entry)) ⌝ }
 {

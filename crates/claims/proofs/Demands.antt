@@ -39,7 +39,7 @@ plan-accepted P bp = (λ e. let r = accepted P bp e in (r .0, record { allowed =
 
 -- THE MAKER'S CERTIFICATE of an allowed plan keeps every rule, so the checker accepts it.
 module _ (p : Plan) (a : Allowed p) where
-  its : construction.Certified (graphOf p .rows) (graphOf p .n)
+  its : construction.Constructed (graphOf p .rows) (graphOf p .n)
   its = certified (graphOf p .rows) (graphOf p .n) (plan-drawn p a) (plan-edges p a)
 
   its-rules : Rules (planGraph p) (its .certificate)

@@ -13,7 +13,7 @@ use Rattle.record.specs.Number.{number}
 use Rattle.record.specs.declared.Answer.the-variants.{Accepted, Grade, CertificateFault}
 use Rattle.record.proofs.Laws.{ended-back, carry}
 use Rattle.record.proofs.Parts.{Calls, Calls.no-call, Calls.call}
-use Rattle.connectivity.specs.Path.{Link as Path}
+use Rattle.connectivity.specs.Path.{Path}
 use Rattle.connectivity.specs.Build.{taken, final}
 use Rattle.connectivity.specs.Certificate.{Certificate, Certificate.separation, Certificate.tree, Certificate.ears, Certificate.build, kind}
 use Rattle.reading.specs.Plan.{Plan, Allowed, planBytes}

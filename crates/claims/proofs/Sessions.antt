@@ -13,7 +13,7 @@ use Rattle.record.specs.declared.Answer.the-variants.{Accepted, Grade, PlanFaul
 use Rattle.record.proofs.Laws.{ended-there}
 use Rattle.connectivity.specs.Graph.{Graph, Adj, edgeCount}
 use Rattle.connectivity.specs.Connectivity.{connectivity}
-use Rattle.connectivity.specs.Path.{Link as Path}
+use Rattle.connectivity.specs.Path.{Path}
 use Rattle.connectivity.specs.Build.{StartRules, Steps, taken, final}
 use Rattle.connectivity.specs.Certificate.{Certificate.build}
 use Rattle.connectivity.proofs.Edges.{fromEdges-count}
@@ -21,7 +21,7 @@ use Rattle.connectivity.proofs.Steps.{final-append, steps-append}
 use Rattle.connectivity.proofs.Soundness.{kind-connectivity}
 use Rattle.reading.specs.Plan.{Plan, Allowed, plan}
 use Rattle.reading.specs.Code.{graphOf}
-use Rattle.graph.specs.declared.Graph.{Graph as RowGraph}
+use Rattle.graph.specs.declared.GraphTable.{GraphTable}
 use Rattle.reading.proofs.Plans.{plan-law}
 use Rattle.reading.proofs.Adjacency.{edge-list, graph-listed}
 use Rattle.certificates.specs.Tests.{allBelow, isBranch}
@@ -164,10 +164,10 @@ module _ (p : Plan) (al : Allowed p) where
     unfolding pathStep graphOf
     path-step part =
         ap (λ (b : Bool). cond (b && ltb (s .taken) (pathCount s)) (onPath s (readIn (s .graph))) (refusedStep s 31 0)) (h .started)
-        ∙ ap (λ (g : RowGraph). cond (ltb (s .taken) (g .m - g .n - 2)) (onPath s (readIn g)) (refusedStep s 31 0)) (h .graph)
+        ∙ ap (λ (g : GraphTable). cond (ltb (s .taken) (g .m - g .n - 2)) (onPath s (readIn g)) (refusedStep s 31 0)) (h .graph)
         ∙ ap (λ (x : Read Path). cond (ltb (s .taken) (due p)) (onPath s x) (refusedStep s 31 0)) (rows-read (λ g. buildPath g (s .build)) part ∙ shows-path (planGraph p) (h .shows) part 0)
       where
-        readIn : RowGraph → Read Path
+        readIn : GraphTable → Read Path
         readIn g = limited (g .n) (buildPath (rowsGraph (g .n) (g .rows)) (s .build)) part 0
 
     pub path-building : (part : List ℕ) (P : Path) (next : ℕ) → furtherPath (planGraph p) links part 0 ≡ Got P next → Building p (onPath s (Got P next) .session) (taken links P)

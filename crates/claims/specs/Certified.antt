@@ -4,7 +4,7 @@ use mathlib.Core.List.{List, _++_}
 use mathlib.Core.Path.{_≡_}
 use Rattle.connectivity.specs.Graph.{HasConnectivity}
 use Rattle.connectivity.specs.Connectivity.{connectivity}
-use Rattle.connectivity.specs.Path.{Link}
+use Rattle.connectivity.specs.Path.{Path}
 use Rattle.connectivity.specs.Build.{EachEdgeOnce}
 use Rattle.connectivity.specs.TopologicalGraph.{BGSequence, complete, listedGraph}
 use Rattle.connectivity.specs.Certificate.{Certificate, kind, Rules}
@@ -38,7 +38,7 @@ pub record IsSequence (p : Plan) : Type 0 where
   pub b : ℕ
   pub c : ℕ
   pub d : ℕ
-  pub start : List Link
-  pub further : List Link
+  pub start : List Path
+  pub further : List Path
   pub once : EachEdgeOnce (planGraph p) (start ++ further)
   pub sequence : BGSequence (complete a b c d) (listedGraph (planGraph p))

@@ -8,7 +8,7 @@ use native.Mathlib.Omega.{arith}
 use lib.ListN.{length}
 use Rattle.connectivity.specs.Lists.{In, member, below}
 use Rattle.connectivity.specs.Graph.{Graph, Adj, Simple, edges}
-use Rattle.connectivity.specs.Path.{Link, link, vertices, End, IsPath, edge, edgesAlong, pathEdges}
+use Rattle.connectivity.specs.Path.{Path, link, vertices, End, IsPath, edge, edgesAlong, pathEdges}
 use Rattle.connectivity.specs.Build.{InBuild, IsBranch, four, endPairs, linkEnds, BGPath, frontPart, backPart, splitAt, taken, Steps, final}
 use Rattle.connectivity.specs.Certificate.{BuildRules}
 use Rattle.connectivity.specs.TopologicalGraph.{TGraph, Adjacent, IsSimple, SameGraph, subdivide, VertexVertex, EdgeVertex, EdgeEdge, Addition, vertex-vertex, edge-vertex, edge-edge, BGSequence, none, then, complete, listedGraph, endsOf, topological, Place, branch, inner, Added}
@@ -22,11 +22,11 @@ use Rattle.connectivity.proofs.EdgeUse.{InnerOnce, split-inner, Tally, 
 use Rattle.connectivity.proofs.TopologicalGraph.{same-refl, same-trans, same-turn, without-in, in-without, same-subdivide, branch-vertex, vertex-branch, link-edge, edge-link, ordered, edge-ends, link-added, start-complete, sequence-same}
 
 -- two links that share two different vertices are one
-abbrev ShareOne : List Link → Type 0
-ShareOne ls = (L M : Link) → In L ls → In M ls → (c d : ℕ) → c ≢ d → In c (vertices L) → In d (vertices L) → In c (vertices M) → In d (vertices M) → L ≡ M
+abbrev ShareOne : List Path → Type 0
+ShareOne ls = (L M : Path) → In L ls → In M ls → (c d : ℕ) → c ≢ d → In c (vertices L) → In d (vertices L) → In c (vertices M) → In d (vertices M) → L ≡ M
 
 -- and so are two with the same ends
-ends-one : (ls : List Link) → ShareOne ls → (L M : Link) → In L ls → In M ls → L .s ≢ L .t → edge (L .s) (L .t) ≡ edge (M .s) (M .t) → L ≡ M
+ends-one : (ls : List Path) → ShareOne ls → (L M : Path) → In L ls → In M ls → L .s ≢ L .t → edge (L .s) (L .t) ≡ edge (M .s) (M .t) → L ≡ M
 ends-one ls so L M hL hM ne e = go (edge-same (L .s) (L .t) (M .s) (M .t) e)
   where
     at : End (L .s) M → End (L .t) M → L ≡ M
@@ -37,7 +37,7 @@ ends-one ls so L M hL hM ne e = go (edge-same (L .s) (L .t) (M .s) (M .t) e)
     go (inr k) = at (inr (k .0)) (inl (k .1))
 
 -- THE TOPOLOGICAL GRAPH OF A BUILD IS SIMPLE.
-pub topological-simple : (E : ℕ → ℕ → Type 0) (links : List Link) (k : ℕ) → Tally E links k → IsSimple (topological links)
+pub topological-simple : (E : ℕ → ℕ → Type 0) (links : List Path) (k : ℕ) → Tally E links k → IsSimple (topological links)
 topological-simple E links k t = record { ends = ends; once = tally-simple E links k t .ends-once }
   where
     ends : (e : ℕ × ℕ) → In e (linkEnds links) → In (e .0) (endsOf (endPairs links)) × In (e .1) (endsOf (endPairs links)) × (e .0 < e .1)
@@ -48,14 +48,14 @@ topological-simple E links k t = record { ends = ends; once = tally-simple E lin
         rw (r .2) (q .0, q .1, ordered (L .s) (L .t) (ends-differ L (t .invariant .is-path L (r .1) .nodup)))
 
 -- What becomes of a link that is split at x: it stays, or it stands there in two parts.
-abbrev Kept : ℕ → Link → List Link → Type 0
+abbrev Kept : ℕ → Path → List Path → Type 0
 Kept x L ks = ((¬ In x (L .inner)) × In L ks) ⊎ (In x (L .inner) × In (frontPart x L) ks × In (backPart x L) ks)
 
-kept-wider : (x : ℕ) (L M : Link) (ks : List Link) → Kept x L ks → Kept x L (M ∷ ks)
+kept-wider : (x : ℕ) (L M : Path) (ks : List Path) → Kept x L ks → Kept x L (M ∷ ks)
 kept-wider x L M ks (inl r) = inl (r .0, inr (r .1))
 kept-wider x L M ks (inr r) = inr (r .0, inr (r .1), inr (r .2))
 
-kept : (x : ℕ) (ls : List Link) (L : Link) → In L ls → Kept x L (splitAt x ls)
+kept : (x : ℕ) (ls : List Path) (L : Path) → In L ls → Kept x L (splitAt x ls)
 kept x [] L h = absurd h
 kept x (M ∷ ls) L h = go (member x (M .inner)) refl h (kept x ls L)
   where
@@ -65,21 +65,21 @@ kept x (M ∷ ls) L h = go (member x (M .inner)) refl h (kept x ls L)
     go false e (inl k) ih = inl (rw k (member-out x (M .inner) e), inl k)
     go false e (inr k) ih = kept-wider x L M (splitAt x ls) (ih k)
 
-unsplit : (x : ℕ) (ls : List Link) → ((L : Link) → In L ls → ¬ In x (L .inner)) → splitAt x ls ≡ ls
+unsplit : (x : ℕ) (ls : List Path) → ((L : Path) → In L ls → ¬ In x (L .inner)) → splitAt x ls ≡ ls
 unsplit x [] f = refl
-unsplit x (L ∷ ls) f = split-skip x L ls (f L (inl refl)) ∙ ap (λ (k : List Link). L ∷ k) (unsplit x ls (λ M h. f M (inr h)))
+unsplit x (L ∷ ls) f = split-skip x L ls (f L (inl refl)) ∙ ap (λ (k : List Path). L ∷ k) (unsplit x ls (λ M h. f M (inr h)))
 
 -- what a split needs to know of the links
-record Proper (E : ℕ → ℕ → Type 0) (links : List Link) : Type 0 where
-  is-path : (L : Link) → In L links → IsPath E L
+record Proper (E : ℕ → ℕ → Type 0) (links : List Path) : Type 0 where
+  is-path : (L : Path) → In L links → IsPath E L
   share-one : ShareOne links
   inner-once : InnerOnce links
 
 module _ (E : ℕ → ℕ → Type 0) where
   -- SPLITTING AT AN INNER VERTEX SUBDIVIDES the edge of its link.
-  module _ (links : List Link) (pr : Proper E links) (L : Link) (hL : In L links) (x : ℕ) (hx : In x (L .inner)) where
+  module _ (links : List Path) (pr : Proper E links) (L : Path) (hL : In L links) (x : ℕ) (hx : In x (L .inner)) where
     -- x is inside L alone
-    only : (M : Link) → In M links → In x (M .inner) → M ≡ L
+    only : (M : Path) → In M links → In x (M .inner) → M ≡ L
     only M h k = pr .inner-once M L h hL x k (inner-in x L hx)
 
     parts : In (frontPart x L) (splitAt x links) × In (backPart x L) (splitAt x links)
@@ -100,7 +100,7 @@ module _ (E : ℕ → ℕ → Type 0) where
     split-edge : (e : ℕ × ℕ) → In e (linkEnds (splitAt x links)) → In e (subdivide (topological links) (L .s) (L .t) x .edges)
     split-edge e h = let r = edge-link (splitAt x links) e h in let q = piece-of x links (r .0) (r .1) in go (r .0) (q .0) (q .1) (r .2) (q .2)
       where
-        go : (p M : Link) → In M links → e ≡ edge (p .s) (p .t) → Piece x M p → In e (subdivide (topological links) (L .s) (L .t) x .edges)
+        go : (p M : Path) → In M links → e ≡ edge (p .s) (p .t) → Piece x M p → In e (subdivide (topological links) (L .s) (L .t) x .edges)
         go p M h k (whole n i) =
             let j : e ≡ edge (M .s) (M .t) = rw i at k in
             inr (inr (in-without (edge (L .s) (L .t)) (linkEnds links) e (rw j (link-edge links M h))
@@ -113,7 +113,7 @@ module _ (E : ℕ → ℕ → Type 0) where
     edge-split e (inr (inl k)) = rw k (link-edge (splitAt x links) (backPart x L) (parts .1))
     edge-split e (inr (inr h)) = let q = without-in (edge (L .s) (L .t)) (linkEnds links) e h in let r = edge-link links e (q .0) in go (r .0) (r .1) (r .2) (q .1) (kept x links (r .0) (r .1))
       where
-        go : (M : Link) → In M links → e ≡ edge (M .s) (M .t) → e ≢ edge (L .s) (L .t) → Kept x M (splitAt x links) → In e (linkEnds (splitAt x links))
+        go : (M : Path) → In M links → e ≡ edge (M .s) (M .t) → e ≢ edge (L .s) (L .t) → Kept x M (splitAt x links) → In e (linkEnds (splitAt x links))
         go M h k n (inl r) = rw k (link-edge (splitAt x links) M (r .1))
         go M h k n (inr r) = absurd (n (rw (only M h (r .0)) at k))
 
@@ -128,13 +128,13 @@ module _ (E : ℕ → ℕ → Type 0) where
         known z (inr h) = inr (vertex-branch links z h)
 
 -- A vertex of the build has a place, and no two: an inner vertex is no branch vertex.
-pub place : (links : List Link) (x : ℕ) → InBuild x links → Place x links
+pub place : (links : List Path) (x : ℕ) → InBuild x links → Place x links
 place links x (L, h, k) = ⊎-elim (λ e. branch (L, h, e)) (λ i. inner L h i) (end-or-inner L x k)
 
-pub inner-no-branch : (E : ℕ → ℕ → Type 0) (links : List Link) (k : ℕ) → Tally E links k → (L : Link) → In L links → (x : ℕ) → In x (L .inner) → ¬ IsBranch x links
+pub inner-no-branch : (E : ℕ → ℕ → Type 0) (links : List Path) (k : ℕ) → Tally E links k → (L : Path) → In L links → (x : ℕ) → In x (L .inner) → ¬ IsBranch x links
 inner-no-branch E links k t L h x m = tally-simple E links k t .inner-only x (in-inner L links x h m)
 
-module _ (E : ℕ → ℕ → Type 0) (esym : (u v : ℕ) → E u v → E v u) (links : List Link) (k : ℕ) (t : Tally E links k) (P : Link) (f : BGPath E links P) where
+module _ (E : ℕ → ℕ → Type 0) (esym : (u v : ℕ) → E u v → E v u) (links : List Path) (k : ℕ) (t : Tally E links k) (P : Path) (f : BGPath E links P) where
   pr : Proper E links
   pr = record { is-path = t .invariant .is-path; share-one = t .invariant .share-one; inner-once = t .inner-once }
 
@@ -146,7 +146,7 @@ module _ (E : ℕ → ℕ → Type 0) (esym : (u v : ℕ) → E u v → E v u) (
       let b : Invariant E B (P ∷ splitAt (P .t) links) = rw (split-skip (P .t) P links (λ h. inner-not-end P (f .is-path .nodup) (P .t) h (inr refl))) at a in
       record { is-path = split-path E (P .t) links (t .invariant .is-path); share-one = λ L M hL hM. b .share-one L M (inr hL) (inr hM); inner-once = split-inner E (P .t) links (t .invariant .is-path) (t .inner-once) }
 
-  no-branch : (L : Link) → In L links → (x : ℕ) → In x (L .inner) → ¬ IsBranch x links
+  no-branch : (L : Path) → In L links → (x : ℕ) → In x (L .inner) → ¬ IsBranch x links
   no-branch = inner-no-branch E links k t
 
   abbrev G : TGraph
@@ -155,7 +155,7 @@ module _ (E : ℕ → ℕ → Type 0) (esym : (u v : ℕ) → E u v → E v u) (
   abbrev H : TGraph
   H = topological (taken links P)
 
-  abbrev rest : List Link
+  abbrev rest : List Path
   rest = splitAt (P .s) (splitAt (P .t) links)
 
   ends : P .s ≢ P .t
@@ -168,7 +168,7 @@ module _ (E : ℕ → ℕ → Type 0) (esym : (u v : ℕ) → E u v → E v u) (
   unsplit-later : (x y : ℕ) → IsBranch x links → splitAt x (splitAt y links) ≡ splitAt y links
   unsplit-later x y h = unsplit x (splitAt y links) (λ p i m. let r = piece-of y links p i in no-branch (r .0) (r .1) x (piece-inner y x (r .0) p (r .2) m) h)
 
-  new-vertex : (L : Link) → In L links → (x : ℕ) → In x (L .inner) → ¬ In x (endsOf (endPairs links))
+  new-vertex : (L : Path) → In L links → (x : ℕ) → In x (L .inner) → ¬ In x (endsOf (endPairs links))
   new-vertex L hL x h i = no-branch L hL x h (vertex-branch links x i)
 
   both-branch : IsBranch (P .s) links → IsBranch (P .t) links → VertexVertex G H (P .s) (P .t)
@@ -180,17 +180,17 @@ module _ (E : ℕ → ℕ → Type 0) (esym : (u v : ℕ) → E u v → E v u) (
         second = vt;
         distinct = ends;
         non-adjacent = apart;
-        result = link-added rest G P (subst (λ (k : List Link). SameGraph (topological k) G) (sym (unsplit-later (P .s) (P .t) hs ∙ unsplit-branch (P .t) ht)) (same-refl G)) vs vt;
+        result = link-added rest G P (subst (λ (k : List Path). SameGraph (topological k) G) (sym (unsplit-later (P .s) (P .t) hs ∙ unsplit-branch (P .t) ht)) (same-refl G)) vs vt;
       }
     where
       apart : ¬ Adjacent G (P .s) (P .t)
       apart h = let r = edge-link links (edge (P .s) (P .t)) h in go (r .0) (r .1) (edge-same (P .s) (P .t) (r .0 .s) (r .0 .t) (r .2))
         where
-          go : (L : Link) → In L links → SamePair (P .s) (P .t) (L .s) (L .t) → ⊥
+          go : (L : Path) → In L links → SamePair (P .s) (P .t) (L .s) (L .t) → ⊥
           go L h (inl e) = f .apart L h (end-vertex (P .s) L (inl (e .0))) (end-vertex (P .t) L (inr (e .1)))
           go L h (inr e) = f .apart L h (end-vertex (P .s) L (inr (e .0))) (end-vertex (P .t) L (inl (e .1)))
 
-  first-inner : (L : Link) → In L links → In (P .s) (L .inner) → IsBranch (P .t) links → EdgeVertex G H (L .s) (L .t) (P .s) (P .t)
+  first-inner : (L : Path) → In L links → In (P .s) (L .inner) → IsBranch (P .t) links → EdgeVertex G H (L .s) (L .t) (P .s) (P .t)
   first-inner L hL hs ht =
       let vt = branch-vertex links (P .t) ht in
       record {
@@ -201,13 +201,13 @@ module _ (E : ℕ → ℕ → Type 0) (esym : (u v : ℕ) → E u v → E v u) (
         not-a = λ e. off (inl e);
         not-b = λ e. off (inr e);
         result = link-added rest (subdivide G (L .s) (L .t) (P .s)) P
-            (subst (λ (k : List Link). SameGraph (topological (splitAt (P .s) k)) (subdivide G (L .s) (L .t) (P .s))) (sym (unsplit-branch (P .t) ht)) (split-subdivides E links pr L hL (P .s) hs)) (inl refl) (inr vt);
+            (subst (λ (k : List Path). SameGraph (topological (splitAt (P .s) k)) (subdivide G (L .s) (L .t) (P .s))) (sym (unsplit-branch (P .t) ht)) (split-subdivides E links pr L hL (P .s) hs)) (inl refl) (inr vt);
       }
     where
       off : ¬ End (P .t) L
       off e = f .apart L hL (inner-in (P .s) L hs) (end-vertex (P .t) L e)
 
-  second-inner : IsBranch (P .s) links → (M : Link) → In M links → In (P .t) (M .inner) → EdgeVertex G H (M .s) (M .t) (P .t) (P .s)
+  second-inner : IsBranch (P .s) links → (M : Path) → In M links → In (P .t) (M .inner) → EdgeVertex G H (M .s) (M .t) (P .t) (P .s)
   second-inner hs M hM ht =
       let vs = branch-vertex links (P .s) hs in
       let S = subdivide G (M .s) (M .t) (P .t) in
@@ -219,13 +219,13 @@ module _ (E : ℕ → ℕ → Type 0) (esym : (u v : ℕ) → E u v → E v u) (
         not-a = λ e. off (inl e);
         not-b = λ e. off (inr e);
         result = same-turn S (P .s) (P .t) (link-added rest S P
-            (subst (λ (k : List Link). SameGraph (topological k) S) (sym (unsplit-later (P .s) (P .t) hs)) (split-subdivides E links pr M hM (P .t) ht)) (inr vs) (inl refl));
+            (subst (λ (k : List Path). SameGraph (topological k) S) (sym (unsplit-later (P .s) (P .t) hs)) (split-subdivides E links pr M hM (P .t) ht)) (inr vs) (inl refl));
       }
     where
       off : ¬ End (P .s) M
       off e = f .apart M hM (end-vertex (P .s) M e) (inner-in (P .t) M ht)
 
-  both-inner : (L M : Link) → In L links → In (P .s) (L .inner) → In M links → In (P .t) (M .inner) → EdgeEdge G H (M .s) (M .t) (L .s) (L .t) (P .t) (P .s)
+  both-inner : (L M : Path) → In L links → In (P .s) (L .inner) → In M links → In (P .t) (M .inner) → EdgeEdge G H (M .s) (M .t) (L .s) (L .t) (P .t) (P .s)
   both-inner L M hL hs hM ht =
       let S = subdivide G (M .s) (M .t) (P .t) in
       let T = subdivide S (L .s) (L .t) (P .s) in
@@ -269,7 +269,7 @@ module _ (E : ℕ → ℕ → Type 0) (esym : (u v : ℕ) → E u v → E v u) (
   simple-again = topological-simple E (taken links P) (suc k) (tally-step E esym links k t P f)
 
 -- Each further path is an addition.
-pub steps-sequence : (E : ℕ → ℕ → Type 0) → ((u v : ℕ) → E u v → E v u) → (F : TGraph) (links ps : List Link) (k : ℕ) → Tally E links k → Steps E links ps → BGSequence F (topological links) → BGSequence F (topological (final links ps))
+pub steps-sequence : (E : ℕ → ℕ → Type 0) → ((u v : ℕ) → E u v → E v u) → (F : TGraph) (links ps : List Path) (k : ℕ) → Tally E links k → Steps E links ps → BGSequence F (topological links) → BGSequence F (topological (final links ps))
 steps-sequence E esym F links [] k t s b = b
 steps-sequence E esym F links (P ∷ ps) k t s b =
     steps-sequence E esym F (taken links P) ps (suc k) (tally-step E esym links k t P (s .0)) (s .1) (then b (addition E esym links k t P (s .0)) (simple-again E esym links k t P (s .0)))
@@ -282,7 +282,7 @@ module _ (g : Graph) (p : Simple g) where
     once = edges-nodup g;
   }
 
-  module _ {a b c d : ℕ} {start further : List Link} (t : BuildRules g a b c d start further) where
+  module _ {a b c d : ℕ} {start further : List Path} (t : BuildRules g a b c d start further) where
     sub : Subdivision (Adj g) start
     sub = start-subdivision g a b c d start (t .first)
 
@@ -293,14 +293,14 @@ module _ (g : Graph) (p : Simple g) where
     low w r = let m = along-edge (Adj g) (p .symmetric) (r .0 .s) (r .0 .inner) (r .0 .t) (done .invariant .is-path (r .0) (r .1) .along) w (r .2) in p .low w (m .0) (m .1)
 
     -- every link is a single edge
-    bare : (L : Link) → In L (final start further) → L .inner ≡ []
+    bare : (L : Path) → In L (final start further) → L .inner ≡ []
     bare L h = empty (L .inner) (λ w k. build-simple g p start further sub (t .steps) .inner-only w (in-inner L (final start further) w h k) (t .all-branch w (low w (L, h, inner-in w L k))))
       where
         empty : (l : List ℕ) → ((w : ℕ) → ¬ In w l) → l ≡ []
         empty [] f = refl
         empty (x ∷ l) f = absurd (f x (inl refl))
 
-    path-edges : (L : Link) → In L (final start further) → pathEdges L ≡ edge (L .s) (L .t) ∷ []
+    path-edges : (L : Path) → In L (final start further) → pathEdges L ≡ edge (L .s) (L .t) ∷ []
     path-edges L h = ap (λ (l : List ℕ). edgesAlong (L .s) l (L .t)) (bare L h)
 
     to-edge : (e : ℕ × ℕ) → In e (linkEnds (final start further)) → In e (edges g)

@@ -9,7 +9,7 @@ use lib.ListN.{length}
 use borrow.Author.Tests.{eqb-true, ltb-true, leb-true, not-true}
 use Rattle.connectivity.specs.Lists.{In, NoDup, Ascending, below, member}
 use Rattle.connectivity.specs.Graph.{Graph, Adj, EdgeList, AscendingEdges}
-use Rattle.connectivity.specs.Path.{Link, vertices, End, Along, IsPath}
+use Rattle.connectivity.specs.Path.{Path, vertices, End, Along, IsPath}
 use Rattle.connectivity.specs.Build.{InBuild, IsBranch, four, sixPairs, endPairs, Starts, StartRules}
 use Rattle.connectivity.specs.Certificate.{Separation, Tree, TreeRules, Cycle, Ears}
 use Rattle.connectivity.proofs.Lists.{clash, and-true, or-true, member-in, member-out, in-below, below-in}
@@ -141,20 +141,20 @@ abbrev pub along : (g : Graph) (s : ℕ) (l : List ℕ) (t : ℕ) → Check (Alo
 along g s [] t = isEdge g s t
 along g s (a ∷ l) t = both (isEdge g s a) (along g a l t)
 
-abbrev pub isPath : (g : Graph) (L : Link) → Check (IsPath (Adj g) L)
+abbrev pub isPath : (g : Graph) (L : Path) → Check (IsPath (Adj g) L)
 isPath g L = giving (both (along g (L .s) (L .inner) (L .t)) (distinct (vertices L))) (λ r. record { along = r .0; nodup = r .1 })
 
-abbrev pub inBuild : (z : ℕ) (links : List Link) → Check (InBuild z links)
-inBuild z links = some (λ (L : Link). In z (vertices L)) links (λ L. isIn z (vertices L))
+abbrev pub inBuild : (z : ℕ) (links : List Path) → Check (InBuild z links)
+inBuild z links = some (λ (L : Path). In z (vertices L)) links (λ L. isIn z (vertices L))
 
-abbrev pub isBranch : (z : ℕ) (links : List Link) → Check (IsBranch z links)
-isBranch z links = some (λ (L : Link). End z L) links (λ L. either (equal z (L .s)) (equal z (L .t)))
+abbrev pub isBranch : (z : ℕ) (links : List Path) → Check (IsBranch z links)
+isBranch z links = some (λ (L : Path). End z L) links (λ L. either (equal z (L .s)) (equal z (L .t)))
 
-abbrev pub starts : (g : Graph) (B : List ℕ) (ps : List Link) → Check (Starts (Adj g) B ps)
+abbrev pub starts : (g : Graph) (B : List ℕ) (ps : List Path) → Check (Starts (Adj g) B ps)
 starts g B [] = holds tt
 starts g B (P ∷ ps) = giving (both (isPath g P) (both (noneIn (P .inner) B) (starts g (P .inner ++ B) ps))) (λ r. (r .0, r .1 .0, r .1 .1))
 
-abbrev pub startRules : (g : Graph) (p q r s : ℕ) (start : List Link) → Check (StartRules g p q r s start)
+abbrev pub startRules : (g : Graph) (p q r s : ℕ) (start : List Path) → Check (StartRules g p q r s start)
 startRules g p q r s start =
     giving (both (both (both (less p q) (less q r)) (both (less r s) (less s (g .n)))) (both (samePairs (endPairs start) (sixPairs p q r s)) (starts g (four p q r s) start)))
     (λ r. record { pq = r .0 .0 .0; qr = r .0 .0 .1; rs = r .0 .1 .0; low = r .0 .1 .1; shape = r .1 .0; starts = r .1 .1 })
@@ -190,16 +190,16 @@ treeRules g c f ps S =
     giving (both (both (less c (g .n)) (less f (g .n))) (both (equal (length ps) (g .n - 1)) (both (tree g (f ∷ []) ps) (separation g (c ∷ []) S))))
     (λ r. record { c-low = r .0 .0; first-low = r .0 .1; count = r .1 .0; tree = r .1 .1 .0; separation = r .1 .1 .1 })
 
-abbrev pub cycle : (g : Graph) (P : Link) → Check (Cycle g P)
+abbrev pub cycle : (g : Graph) (P : Path) → Check (Cycle g P)
 cycle g P =
     giving (both (isPath g P) (both (isEdge g (P .t) (P .s)) (atMost 3 (length (vertices P)))))
     (λ r. record { is-path = r .0; closes = r .1 .0; long = r .1 .1 })
 
 -- what an ear is asked for besides being a path
-abbrev pub onEars : (B : List ℕ) (P : Link) → Check ((In (P .s) B × In (P .t) B) × (((w : ℕ) → In w (P .inner) → ¬ In w B) × (3 ≤ length (vertices P))))
+abbrev pub onEars : (B : List ℕ) (P : Path) → Check ((In (P .s) B × In (P .t) B) × (((w : ℕ) → In w (P .inner) → ¬ In w B) × (3 ≤ length (vertices P))))
 onEars B P = both (both (isIn (P .s) B) (isIn (P .t) B)) (both (noneIn (P .inner) B) (atMost 3 (length (vertices P))))
 
-abbrev pub ears : (g : Graph) (B : List ℕ) (es : List Link) → Check (Ears g B es)
+abbrev pub ears : (g : Graph) (B : List ℕ) (es : List Path) → Check (Ears g B es)
 ears g B [] = holds tt
 ears g B (P ∷ es) = both
     (giving (both (isPath g P) (onEars B P)) (λ r. record { is-path = r .0; from = r .1 .0 .0; upto = r .1 .0 .1; new = r .1 .1 .0; long = r .1 .1 .1 }))

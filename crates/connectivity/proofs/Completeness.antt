@@ -12,7 +12,7 @@ use lib.ListN.{length, length-append}
 use Rattle.connectivity.specs.Lists.{select, below, In, member, NoDup}
 use Rattle.connectivity.specs.Graph.{Graph, Simple, Adj, edges, edgeCount}
 use Rattle.connectivity.specs.Connectivity.{connectivity}
-use Rattle.connectivity.specs.Path.{Link, vertices, link, usedEdges, edge, pathEdges}
+use Rattle.connectivity.specs.Path.{Path, vertices, link, usedEdges, edge, pathEdges}
 use Rattle.connectivity.specs.Build.{IsBranch, final}
 use Rattle.connectivity.specs.Certificate.{Separation, Tree, Cycle, Ear, Ears, inside, Certificate, Rules, BuildRules, build, tree, separation, ears, kind}
 use Rattle.connectivity.proofs.Lists.{ascending-below, select-in, in-below, clash, in-select, below-in, scan, in?, true?, either, in-member, member-in, out-member, at-most, in-single, at-least, nodup-append, in-append, beside, and-not?, in-two-swap}
@@ -111,14 +111,14 @@ module _ (g : Graph) (p : Simple g) where
   abbrev pub OtherIn : List ℕ → ℕ → ℕ → Type 0
   OtherIn B u v = In v B × (¬ (v ≡ u))
 
-  detour-long : (P : Link) (x a : ℕ) → 3 ≤ length (vertices (link x (a ∷ P .inner) (P .t)))
+  detour-long : (P : Path) (x a : ℕ) → 3 ≤ length (vertices (link x (a ∷ P .inner) (P .t)))
   detour-long P x a = omega (arith, length-append (P .inner) (P .t ∷ []))
 
   -- the first ear: a cycle
-  pub first-ear : (a : ℕ) → a < g .n → ((P : Link) × Cycle g P) ⊎ CutVertex g
+  pub first-ear : (a : ℕ) → a < g .n → ((P : Path) × Cycle g P) ⊎ CutVertex g
   first-ear a la = ⊎-map (λ r. go (r .0) (r .1) (r .2)) (λ c. c) (cycle-through g p a la)
     where
-      go : (x : ℕ) → Adj g a x → Around g p a la x → (P : Link) × Cycle g P
+      go : (x : ℕ) → Adj g a x → Around g p a la x → (P : Path) × Cycle g P
       go x kx f = (
         detour g p (OtherNeighbour g p a la x) a x kx f,
         record {
@@ -129,10 +129,10 @@ module _ (g : Graph) (p : Simple g) where
       )
 
   -- an edge from u in B to w outside, and a path from w to another vertex of B without u: an ear
-  pub ear-step : (B : List ℕ) (u w : ℕ) → In u B → Adj g u w → ¬ In w B → (b : ℕ) → b < g .n → OtherIn B u b → Searched g (λ v. v ≡ w) (OtherIn B u) (λ v. In v (u ∷ [])) → ((P : Link) × Ear g B P) ⊎ CutVertex g
+  pub ear-step : (B : List ℕ) (u w : ℕ) → In u B → Adj g u w → ¬ In w B → (b : ℕ) → b < g .n → OtherIn B u b → Searched g (λ v. v ≡ w) (OtherIn B u) (λ v. In v (u ∷ [])) → ((P : Path) × Ear g B P) ⊎ CutVertex g
   ear-step B u w hu k nw b hb gb = ⊎-map found (λ c. (u, p .low u w k, closed-separated g (λ v. v ≡ w) (OtherIn B u) (u ∷ []) c w (edge-high g p u w k) refl b (hb, λ h. gb .1 (in-single b u h)) gb))
     where
-      found : Found g (λ v. v ≡ w) (OtherIn B u) (λ v. In v (u ∷ [])) → (P : Link) × Ear g B P
+      found : Found g (λ v. v ≡ w) (OtherIn B u) (λ v. In v (u ∷ [])) → (P : Path) × Ear g B P
       found f = (
         detour g p (OtherIn B u) u w k f,
         record {
@@ -145,12 +145,12 @@ module _ (g : Graph) (p : Simple g) where
       )
 
   abbrev Covers : List ℕ → Type 0
-  Covers B = (es : List Link) × Ears g B es × ((z : ℕ) → z < g .n → In z (inside B es))
+  Covers B = (es : List Path) × Ears g B es × ((z : ℕ) → z < g .n → In z (inside B es))
 
-  pub ear-fair : (B : List ℕ) (P : Link) → Ear g B P → Fair B → Fair (P .inner ++ B)
+  pub ear-fair : (B : List ℕ) (P : Path) → Ear g B P → Fair B → Fair (P .inner ++ B)
   ear-fair B P e t = (nodup-append (P .inner) B (nodup-inner P (e .is-path .nodup)) (t .0) (e .new), λ w h. ⊎-elim (λ k. path-low g p P (e .is-path) w (inner-in w P k)) (t .1 w) (in-append w (P .inner) B h))
 
-  pub ear-grows : (B : List ℕ) (P : Link) → Ear g B P → length B < length (P .inner ++ B)
+  pub ear-grows : (B : List ℕ) (P : Path) → Ear g B P → length B < length (P .inner ++ B)
   ear-grows B P e = omega (arith, e .long, length-append (P .inner) B, length-append (P .inner) (P .t ∷ []))
 
   ears-run : (fuel : ℕ) (B : List ℕ) → 2 ≤ length B → Fair B → g .n < length B + fuel → Covers B ⊎ CutVertex g
@@ -160,7 +160,7 @@ module _ (g : Graph) (p : Simple g) where
       stop : ClosedList B → Covers B ⊎ CutVertex g
       stop c = let s = beside B [] (t .0) (omega arith) in ⊎-map (λ f. ([], tt, f)) (none-cut g p) (all-or-separated B (s .0) (s .1) (t .1 (s .0) (s .1)) c)
 
-      step : Exit B → ((P : Link) × Ear g B P) ⊎ CutVertex g
+      step : Exit B → ((P : Path) × Ear g B P) ⊎ CutVertex g
       step r =
           let u = r .0 in
           let w = r .1 in
@@ -168,38 +168,38 @@ module _ (g : Graph) (p : Simple g) where
           ear-step B u w (r .2) (r .3) (r .4) (b .0) (t .1 (b .0) (b .1)) (b .1, λ e. b .2 (inl e)) (search g p (λ v. v ≡ w) (OtherIn B u) (λ v. In v (u ∷ [])) (λ v. ℕ-discrete v w) (λ v. and-not? (in? v B) (ℕ-discrete v u)) (λ v. in? v (u ∷ []))
           (λ v e o. r .4 (rw e at (o .0))) (λ v e h. edge-differ g p u w (r .3) (sym e ∙ in-single v u h)))
 
-      more : (e : (P : Link) × Ear g B P) → Covers (e .0 .inner ++ B) ⊎ CutVertex g → Covers B ⊎ CutVertex g
+      more : (e : (P : Path) × Ear g B P) → Covers (e .0 .inner ++ B) ⊎ CutVertex g → Covers B ⊎ CutVertex g
       more e = ⊎-map (λ c. (e .0 ∷ c .0, (e .1, c .1), c .2)) (λ k. k)
 
   pub record EarDecomposition : Type 0 where
-    pub first : Link
-    pub later : List Link
+    pub first : Path
+    pub later : List Path
     pub cycle : Cycle g first
     pub are-ears : Ears g (vertices first) later
     pub all-in : (z : ℕ) → z < g .n → In z (inside (vertices first) later)
     pub count : suc (length later) ≤ g .n - 2
 
-  pub ears-size : (B : List ℕ) (es : List Link) → Fair B → Ears g B es → Fair (inside B es) × (length B + length es ≤ length (inside B es))
+  pub ears-size : (B : List ℕ) (es : List Path) → Fair B → Ears g B es → Fair (inside B es) × (length B + length es ≤ length (inside B es))
   ears-size B [] t y = (t, omega arith)
   ears-size B (P ∷ es) t y = let r = ears-size (P .inner ++ B) es (ear-fair B P (y .0) t) (y .1) in (r .0, omega (arith, ear-grows B P (y .0)))
 
   pub all-ears : EarDecomposition ⊎ CutVertex g
   all-ears = ⊎-elim (λ r. go (r .0) (r .1)) inr (first-ear 0 (omega (arith, p .big)))
     where
-      go : (P : Link) → Cycle g P → EarDecomposition ⊎ CutVertex g
+      go : (P : Path) → Cycle g P → EarDecomposition ⊎ CutVertex g
       go P y = ⊎-map (λ c. record { first = P; later = c .0; cycle = y; are-ears = c .1; all-in = c .2; count = count (c .0) (c .1) }) (λ k. k) (ears-run (suc (g .n)) (vertices P) (two-vertices P) fair (omega arith))
         where
           fair : Fair (vertices P)
           fair = (y .is-path .nodup, path-low g p P (y .is-path))
 
-          count : (es : List Link) → Ears g (vertices P) es → suc (length es) ≤ g .n - 2
+          count : (es : List Path) → Ears g (vertices P) es → suc (length es) ≤ g .n - 2
           count es k = let r = ears-size (vertices P) es fair k in omega (arith, y .long, r .1, at-most (g .n) (inside (vertices P) es) (r .0 .0) (r .0 .1))
 
   -- 3. A BUILD, OR A SEPARATION PAIR
-  abbrev pub Certified : Type 0
-  Certified = (x : Certificate) × Rules g x
+  abbrev pub RuleKeeping : Type 0
+  RuleKeeping = (x : Certificate) × Rules g x
 
-  pub finished-rules : (ls : List Link) → Recorded (Adj g) ls → Finished g ls → (b : BuildOf (Adj g) ls) → BuildRules g (b .subdivision .p) (b .subdivision .q) (b .subdivision .r) (b .subdivision .s) (b .start) (b .further)
+  pub finished-rules : (ls : List Path) → Recorded (Adj g) ls → Finished g ls → (b : BuildOf (Adj g) ls) → BuildRules g (b .subdivision .p) (b .subdivision .q) (b .subdivision .r) (b .subdivision .s) (b .start) (b .further)
   finished-rules ls val fin b =
       let x = b .subdivision in
       let n = build-count g p (b .start) (b .further) x (b .steps) (branch b) (used b) in record {
@@ -218,7 +218,7 @@ module _ (g : Graph) (p : Simple g) where
       }
     where
       branch : (b : BuildOf (Adj g) ls) → (z : ℕ) → z < g .n → IsBranch z (final (b .start) (b .further))
-      branch b z h = subst (λ (k : List Link). IsBranch z k) (sym (b .links)) (branch-end (Adj g) ls (recorded-path (Adj g) ls val) z (fin .all-branch z h))
+      branch b z h = subst (λ (k : List Path). IsBranch z k) (sym (b .links)) (branch-end (Adj g) ls (recorded-path (Adj g) ls val) z (fin .all-branch z h))
 
       edge-used : (e : ℕ × ℕ) → In e (edges g) → In e (usedEdges ls)
       edge-used e h =
@@ -229,59 +229,59 @@ module _ (g : Graph) (p : Simple g) where
       used : (b : BuildOf (Adj g) ls) → (e : ℕ × ℕ) → In e (edges g) → In e (usedEdges (final (b .start) (b .further)))
       used b e h = subst (λ (k : List (ℕ × ℕ)). In e k) (sym (build-used (Adj g) ls b)) (edge-used e h)
 
-  pub finished-build : (ls : List Link) → Recorded (Adj g) ls → Finished g ls → Certified
+  pub finished-build : (ls : List Path) → Recorded (Adj g) ls → Finished g ls → RuleKeeping
   finished-build ls val fin = let b = build-of (Adj g) ls val in let x = b .subdivision in (build (x .p) (x .q) (x .r) (x .s) (b .start) (b .further), finished-rules ls val fin b)
 
   -- the record uses at most all edges, and every step uses more
-  pub recorded-most : (ls : List Link) → Recorded (Adj g) ls → length (usedEdges ls) ≤ edgeCount g
+  pub recorded-most : (ls : List Path) → Recorded (Adj g) ls → length (usedEdges ls) ≤ edgeCount g
   recorded-most ls val = let b = build-of (Adj g) ls val in omega (arith, ap length (build-used (Adj g) ls b), used-most g p (b .start) (b .further) (b .subdivision) (b .steps))
 
-  build-run : (fuel : ℕ) (ls : List Link) → Recorded (Adj g) ls → edgeCount g < length (usedEdges ls) + fuel → Certified ⊎ SeparationPair g
+  build-run : (fuel : ℕ) (ls : List Path) → Recorded (Adj g) ls → edgeCount g < length (usedEdges ls) + fuel → RuleKeeping ⊎ SeparationPair g
   build-run zero ls val h = absurd (omega (arith, recorded-most ls val))
   build-run (suc fuel) ls val h = go (progress g p ls val) (build-run fuel)
     where
       Run : Type 0
-      Run = (ms : List Link) → Recorded (Adj g) ms → edgeCount g < length (usedEdges ms) + fuel → Certified ⊎ SeparationPair g
+      Run = (ms : List Path) → Recorded (Adj g) ms → edgeCount g < length (usedEdges ms) + fuel → RuleKeeping ⊎ SeparationPair g
 
-      again : Run → Reroute g ls → Certified ⊎ SeparationPair g
+      again : Run → Reroute g ls → RuleKeeping ⊎ SeparationPair g
       again run r =
-          let v = subst (λ (k : List Link). Recorded (Adj g) k) (r .place) val in
-          let new : (w : ℕ) → In w (r .q) → ¬ In w (builtVertices (r .newer ++ (r .L ∷ r .older))) = subst (λ (k : List Link). (w : ℕ) → In w (r .q) → ¬ In w (builtVertices k)) (r .place) (r .new) in
+          let v = subst (λ (k : List Path). Recorded (Adj g) k) (r .place) val in
+          let new : (w : ℕ) → In w (r .q) → ¬ In w (builtVertices (r .newer ++ (r .L ∷ r .older))) = subst (λ (k : List Path). (w : ℕ) → In w (r .q) → ¬ In w (builtVertices k)) (r .place) (r .new) in
           run (rerouted (Adj g) (r .newer) (r .L) (r .older) v (r .x) (r .y) (r .consecutive) (r .q) (r .along) (r .nodup) new)
           (reroute (Adj g) (r .newer) (r .L) (r .older) v (r .x) (r .y) (r .consecutive) (r .q) (r .along) (r .nodup) new)
-          (omega (arith, r .some, ap (λ (k : List Link). length (usedEdges k)) (r .place), reroute-longer (Adj g) (r .newer) (r .L) (r .older) v (r .x) (r .y) (r .consecutive) (r .q) (r .along) (r .nodup) new))
+          (omega (arith, r .some, ap (λ (k : List Path). length (usedEdges k)) (r .place), reroute-longer (Adj g) (r .newer) (r .L) (r .older) v (r .x) (r .y) (r .consecutive) (r .q) (r .along) (r .nodup) new))
 
-      go : Next g ls → Run → Certified ⊎ SeparationPair g
+      go : Next g ls → Run → RuleKeeping ⊎ SeparationPair g
       go (finished f) run = inl (finished-build ls val f)
       go (separated-by t) run = inr t
       go (extended P f) run = run (P ∷ ls) (inr (f, val)) (omega (arith, length-append (pathEdges P) (usedEdges ls), length-path P))
       go (rerouted-at r) run = again run r
 
-  pub build-or-pair : Certified ⊎ SeparationPair g
+  pub build-or-pair : RuleKeeping ⊎ SeparationPair g
   build-or-pair = go (from-vertex g p 0 (omega (arith, p .big)))
     where
-      go : Begin g → Certified ⊎ SeparationPair g
+      go : Begin g → RuleKeeping ⊎ SeparationPair g
       go (begun ls val) = build-run (suc (edgeCount g)) ls val (omega arith)
       go (broken t) = inr t
 
   -- the certificates of kinds 1 and 2; the pair in the order of the record
-  cut-certificate : SpanningTree → CutVertex g → Certified
+  cut-certificate : SpanningTree → CutVertex g → RuleKeeping
   cut-certificate t c = let s = separated-side g (c .0 ∷ []) (c .2) in (tree (c .0) 0 (t .0) (s .0), record { c-low = c .1; first-low = omega (arith, p .big); count = t .1; tree = t .2; separation = s .1 })
 
-  pair-certificate : EarDecomposition → SeparationPair g → Certified
+  pair-certificate : EarDecomposition → SeparationPair g → RuleKeeping
   pair-certificate o t = go (ℕ-discrete (min (t .c) (t .d)) (t .c))
     where
-      make : (c d : ℕ) → c < d → d < g .n → ((v : ℕ) → In v (c ∷ (d ∷ [])) → In v (t .c ∷ (t .d ∷ []))) → ((v : ℕ) → In v (t .c ∷ (t .d ∷ [])) → In v (c ∷ (d ∷ []))) → Certified
+      make : (c d : ℕ) → c < d → d < g .n → ((v : ℕ) → In v (c ∷ (d ∷ [])) → In v (t .c ∷ (t .d ∷ []))) → ((v : ℕ) → In v (t .c ∷ (t .d ∷ [])) → In v (c ∷ (d ∷ []))) → RuleKeeping
       make c d h low to from =
           let s = separated-side g (c ∷ (d ∷ [])) (separated-same g (t .c ∷ (t .d ∷ [])) (c ∷ (d ∷ [])) to from (t .separated)) in
           (ears c d (o .first) (o .later) (s .0), record { order = h; low = low; count = o .count; first = o .cycle; ears = o .are-ears; all-in = o .all-in; separation = s .1 })
 
-      go : Dec (min (t .c) (t .d) ≡ t .c) → Certified
+      go : Dec (min (t .c) (t .d) ≡ t .c) → RuleKeeping
       go (yes e) = make (t .c) (t .d) (omega (arith, t .differ)) (t .d-low) (λ v h. h) (λ v h. h)
       go (no e) = make (t .d) (t .c) (omega (arith, t .differ)) (t .c-low) (in-two-swap (t .d) (t .c)) (in-two-swap (t .c) (t .d))
 
   -- EVERY GRAPH HAS A CERTIFICATE THAT KEEPS EVERY RULE.
-  certify : Certified
+  certify : RuleKeeping
   certify = ⊎-elim (λ t. ⊎-elim (λ o. ⊎-elim (λ x. x) (pair-certificate o) build-or-pair) (cut-certificate t) all-ears) (λ t. let s = separated-side g [] t in (separation (s .0), s .1)) spanning-tree
 
   pub certificate-exists : (x : Certificate) × Rules g x × (kind x ≡ connectivity g)

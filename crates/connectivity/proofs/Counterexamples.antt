@@ -8,7 +8,7 @@ use lib.ListN.{length}
 use borrow.Author.Tests.{eqb-false}
 use Rattle.connectivity.specs.Lists.{In, NoDup, Ascending}
 use Rattle.connectivity.specs.Graph.{Graph, Adj, Simple, Remaining, HasConnectivity, fromEdges}
-use Rattle.connectivity.specs.Path.{Link, link, vertices, Along}
+use Rattle.connectivity.specs.Path.{Path, link, vertices, Along}
 use Rattle.connectivity.specs.Build.{InBuild, IsBranch}
 use Rattle.connectivity.specs.Connectivity.{connectivity}
 use Rattle.connectivity.specs.Certificate.{Rest, Separation, Ears}
@@ -44,7 +44,7 @@ pub pair-alone : Against (PairAlone 1 2 (0 ∷ [])) (graph path4) 2 1
 pair-alone = against (PairAlone 1 2 (0 ∷ [])) 4 (path4 .edges) 2 1 (pairAlone 1 2 (0 ∷ [])) refl refl refl refl
 
 -- 2. An ear whose two ends may be equal: all its inner vertices differ, and no more is asked. Two triangles that share a vertex.
-pub record LooseEar (g : Graph) (B : List ℕ) (P : Link) : Type 0 where
+pub record LooseEar (g : Graph) (B : List ℕ) (P : Path) : Type 0 where
   pub along : Along (Adj g) (P .s) (P .inner) (P .t)
   pub nodup : NoDup (P .inner)
   pub from : In (P .s) B
@@ -52,11 +52,11 @@ pub record LooseEar (g : Graph) (B : List ℕ) (P : Link) : Type 0 where
   pub new : (w : ℕ) → In w (P .inner) → ¬ In w B
   pub long : 3 ≤ length (vertices P)
 
-abbrev pub LooseEars : Graph → List ℕ → List Link → Type 0
+abbrev pub LooseEars : Graph → List ℕ → List Path → Type 0
 LooseEars g B [] = Unit {0}
 LooseEars g B (P ∷ es) = LooseEar g B P × LooseEars g (P .inner ++ B) es
 
-abbrev looseEars : (g : Graph) (B : List ℕ) (es : List Link) → Check (LooseEars g B es)
+abbrev looseEars : (g : Graph) (B : List ℕ) (es : List Path) → Check (LooseEars g B es)
 looseEars g B [] = holds tt
 looseEars g B (P ∷ es) = both
     (giving (both (both (along g (P .s) (P .inner) (P .t)) (distinct (P .inner))) (onEars B P))
@@ -96,10 +96,10 @@ abbrev pub sharedEdge : List (ℕ × ℕ)
 sharedEdge = (0, 1) ∷ ((0, 2) ∷ ((0, 3) ∷ ((0, 4) ∷ ((0, 5) ∷ ((1, 2) ∷ ((1, 3) ∷ ((1, 4) ∷ ((1, 5) ∷ ((2, 3) ∷ ((4, 5) ∷ []))))))))))
 
 -- six paths on 0, 1, 2, 3, the first over the given vertices, the others single edges
-abbrev pub sixPaths : List ℕ → List Link
+abbrev pub sixPaths : List ℕ → List Path
 sixPaths l = link 0 l 1 ∷ (link 0 [] 2 ∷ (link 0 [] 3 ∷ (link 1 [] 2 ∷ (link 1 [] 3 ∷ (link 2 [] 3 ∷ [])))))
 
-abbrev pub beside : List Link
+abbrev pub beside : List Path
 beside = link 0 (4 ∷ []) 1 ∷ (link 0 (5 ∷ []) 1 ∷ (link 4 [] 5 ∷ []))
 
 abbrev pub ParallelLink : Graph → Type 0

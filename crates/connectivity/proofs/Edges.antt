@@ -11,7 +11,7 @@ use lib.ListN.{length}
 use borrow.Author.Tests.{eqb-true, eq-eqb}
 use Rattle.connectivity.specs.Lists.{In, NoDup, select, below}
 use Rattle.connectivity.specs.Graph.{withHigher, Graph, edgesBelow, Adj, edges, Simple, isPair, listed, EdgeBefore, AscendingEdges, EdgeList, fromEdges, edgeCount}
-use Rattle.connectivity.specs.Path.{Along, Link, IsPath, vertices, edge}
+use Rattle.connectivity.specs.Path.{Along, Path, IsPath, vertices, edge}
 use Rattle.connectivity.proofs.Lists.{in-append, select-in, in-below, in-right, either, in-left, in-select, below-in, nodup-append, select-nodup, nodup-below, and-true, clash, or-true, true-or, fewer}
 use Rattle.connectivity.proofs.Paths.{along-edge, edge-sorted, edge-comm}
 
@@ -74,7 +74,7 @@ module _ (g : Graph) (p : Simple g) where
   pub along-low : (s : ℕ) (l : List ℕ) (t : ℕ) → Along (Adj g) s l t → (z : ℕ) → In z (s ∷ (l ++ (t ∷ []))) → z < g .n
   along-low s l t w z h = let m = along-edge (Adj g) (p .symmetric) s l t w z h in p .low z (m .0) (m .1)
 
-  pub path-low : (P : Link) → IsPath (Adj g) P → (w : ℕ) → In w (vertices P) → w < g .n
+  pub path-low : (P : Path) → IsPath (Adj g) P → (w : ℕ) → In w (vertices P) → w < g .n
   path-low P h = along-low (P .s) (P .inner) (P .t) (h .along)
 
   pub in-edges : (u v : ℕ) → Adj g u v → In (edge u v) (edges g)

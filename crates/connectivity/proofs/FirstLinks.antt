@@ -14,7 +14,7 @@ use lib.ListN.{length, length-append}
 use lib.Bits.{differ}
 use Rattle.connectivity.specs.Lists.{In, NoDup, member, below, select, Ascending}
 use Rattle.connectivity.specs.Graph.{Graph, Simple, Adj}
-use Rattle.connectivity.specs.Path.{Link, link, Along, IsPath, vertices}
+use Rattle.connectivity.specs.Path.{Path, link, Along, IsPath, vertices}
 use Rattle.connectivity.specs.Build.{four, endPairs, sixPairs, innerVertices}
 use Rattle.connectivity.proofs.Lists.{rev, rev-in, nodup-append, four-differ, nodup-rev, nodup-left, beside, ascending-below, member-in, select-in, fewer, select-nodup, nodup-below, in-select, below-in, in-member, nodup-count, in-append, in-left, in-right, nodup-right, nodup-apart, nodup-under, nodup-swap, in-swap, in-split, in?, length-below, isYes, no-false, true-yes, yes-true, in-below, scan, either, and-not?, true?, length-rev, in-rev, in-single}
 use Rattle.connectivity.proofs.Paths.{SamePair, inner-on, along-rev, in-ends, nodup-inner, same-trans, end-vertex, along-cut, in-inner, end-t, inner-in, along-join, end-s, ends-differ, end-or-inner}
@@ -25,22 +25,22 @@ use Rattle.connectivity.proofs.Recorded.{Recorded}
 use Rattle.connectivity.proofs.Progress.{SeparationPair, closed-separated, Separated, cut-pair, CutVertex, none-cut}
 
 -- SORTED AND ORIENTED. The paths of the record are those found, some of them reversed.
-abbrev pub reversed : Link → Link
+abbrev pub reversed : Path → Path
 reversed L = link (L .t) (rev (L .inner)) (L .s)
 
-abbrev pub OneOf : List Link → Link → Type 0
-OneOf ls M = (L : Link) × In L ls × ((M ≡ L) ⊎ (M ≡ reversed L))
+abbrev pub OneOf : List Path → Path → Type 0
+OneOf ls M = (L : Path) × In L ls × ((M ≡ L) ⊎ (M ≡ reversed L))
 
-one-inner : (L M : Link) → (M ≡ L) ⊎ (M ≡ reversed L) → (w : ℕ) → In w (M .inner) → In w (L .inner)
+one-inner : (L M : Path) → (M ≡ L) ⊎ (M ≡ reversed L) → (w : ℕ) → In w (M .inner) → In w (L .inner)
 one-inner L M (inl e) w h = rw e at h
 one-inner L M (inr e) w h = rev-in w (L .inner) (rw e at h)
 
-one-ends : (L M : Link) → (M ≡ L) ⊎ (M ≡ reversed L) → SamePair (L .s) (L .t) (M .s) (M .t)
+one-ends : (L M : Path) → (M ≡ L) ⊎ (M ≡ reversed L) → SamePair (L .s) (L .t) (M .s) (M .t)
 one-ends L M (inl e) = rw e (inl (refl, refl))
 one-ends L M (inr e) = rw e (inr (refl, refl))
 
-module _ (g : Graph) (p : Simple g) (B : List ℕ) (ls : List Link) (x : StartPaths (Adj g) B ls) where
-  pub sorted-start : (a b c d : ℕ) → a < b → b < c → c < d → ((w : ℕ) → In w (four a b c d) → In w B) → (ms : List Link) → endPairs ms ≡ sixPairs a b c d → ((M : Link) → In M ms → OneOf ls M) → Subdivision (Adj g) ms
+module _ (g : Graph) (p : Simple g) (B : List ℕ) (ls : List Path) (x : StartPaths (Adj g) B ls) where
+  pub sorted-start : (a b c d : ℕ) → a < b → b < c → c < d → ((w : ℕ) → In w (four a b c d) → In w B) → (ms : List Path) → endPairs ms ≡ sixPairs a b c d → ((M : Path) → In M ms → OneOf ls M) → Subdivision (Adj g) ms
   sorted-start a b c d ab bc cd four-in ms shape one = record {
     p = a;
     q = b;
@@ -57,29 +57,29 @@ module _ (g : Graph) (p : Simple g) (B : List ℕ) (ls : List Link) (x : StartPa
     };
   }
     where
-      along : (M : Link) → OneOf ls M → Along (Adj g) (M .s) (M .inner) (M .t)
+      along : (M : Path) → OneOf ls M → Along (Adj g) (M .s) (M .inner) (M .t)
       along M (L, h, inl e) = rw e (x .along L h)
       along M (L, h, inr e) = rw e (along-rev (Adj g) (p .symmetric) (L .s) (L .inner) (L .t) (x .along L h))
 
-      off : (M : Link) → OneOf ls M → (w : ℕ) → In w (M .inner) → ¬ In w B
+      off : (M : Path) → OneOf ls M → (w : ℕ) → In w (M .inner) → ¬ In w B
       off M r w h = clear-start (Adj g) B ls x (r .0) (r .1) w (one-inner (r .0) M (r .2) w h)
 
-      order : (M : Link) → In M ms → M .s < M .t
+      order : (M : Path) → In M ms → M .s < M .t
       order M h = six-order a b c d (M .s) (M .t) ab bc cd (subst (λ (k : List (ℕ × ℕ)). In {A = ℕ × ℕ} (M .s, M .t) k) shape (in-ends ms M h))
 
-      list : (M : Link) → OneOf ls M → NoDup (M .inner)
+      list : (M : Path) → OneOf ls M → NoDup (M .inner)
       list M (L, h, inl e) = rw e (nodup-inner L (start-path (Adj g) B ls x L h .nodup))
       list M (L, h, inr e) = rw e (nodup-rev (L .inner) (nodup-inner L (start-path (Adj g) B ls x L h .nodup)))
 
       -- an inner vertex of two of them: they come from one path, so they have the same ends
-      apart : (M N : Link) → In M ms → In N ms → (w : ℕ) → In w (M .inner) → In w (N .inner) → (M .s ≡ N .s) × (M .t ≡ N .t)
+      apart : (M N : Path) → In M ms → In N ms → (w : ℕ) → In w (M .inner) → In w (N .inner) → (M .s ≡ N .s) × (M .t ≡ N .t)
       apart M N hM hN w h k =
           let r = one M hM in
           let s = one N hN in
           let e : r .0 ≡ s .0 = inner-sole ls (nodup-left (innerVertices ls) B (x .nodup)) (r .0) (s .0) (r .1) (s .1) w (one-inner (r .0) M (r .2) w h) (one-inner (s .0) N (s .2) w k) in
           ⊎-elim (λ j. j) (λ j. absurd (omega (arith, order M hM, order N hN, j .0, j .1))) (same-trans (s .0 .s) (s .0 .t) (M .s) (M .t) (N .s) (N .t) (rw e at (one-ends (r .0) M (r .2))) (one-ends (s .0) N (s .2)))
 
-      inner : (ns : List Link) → ((M : Link) → In M ns → In M ms) → NoDup (endPairs ns) → NoDup (innerVertices ns)
+      inner : (ns : List Path) → ((M : Path) → In M ns → In M ms) → NoDup (endPairs ns) → NoDup (innerVertices ns)
       inner [] f nd = tt
       inner (M ∷ ns) f nd = nodup-append (M .inner) (innerVertices ns) (list M (one M (f M (inl refl)))) (inner ns (λ N h. f N (inr h)) (nd .1)) (λ w h k.
           let r = inner-on ns w k in
@@ -88,7 +88,7 @@ module _ (g : Graph) (p : Simple g) (B : List ℕ) (ls : List Link) (x : StartPa
 
   -- such a list is there
   abbrev pub Oriented : ℕ → ℕ → Type 0
-  Oriented u v = (M : Link) × (M .s ≡ u) × (M .t ≡ v) × OneOf ls M
+  Oriented u v = (M : Path) × (M .s ≡ u) × (M .t ≡ v) × OneOf ls M
 
   pub oriented : (u v : ℕ) → In u B → In v B → u ≢ v → Oriented u v
   oriented u v hu hv ne = let r = start-joined (Adj g) B ls x u v hu hv ne in ⊎-elim (λ (e : (u ≡ r .0 .s) × (v ≡ r .0 .t)). (r .0, sym (e .0), sym (e .1), (r .0, r .1, inl refl)))
@@ -100,7 +100,7 @@ module _ (g : Graph) (p : Simple g) (B : List ℕ) (ls : List Link) (x : StartPa
       let r = start-joined (Adj g) B ls x (z .0) w (z .1) h (λ e. z .2 (inl e)) in
       along-low g p (r .0 .s) (r .0 .inner) (r .0 .t) (x .along (r .0) (r .1)) w (end-vertex w (r .0) (⊎-elim (λ e. inr (e .1)) (λ e. inl (e .1)) (r .2)))
 
-  pub sort-start : length B ≡ 4 → (ms : List Link) × Subdivision (Adj g) ms
+  pub sort-start : length B ≡ 4 → (ms : List Path) × Subdivision (Adj g) ms
   sort-start four-long = go sorted (ascending-below (λ w. member w B) (g .n)) size (λ w h. member-in w B (select-in (λ w. member w B) (below (g .n)) w h .1))
     where
       sorted : List ℕ
@@ -114,7 +114,7 @@ module _ (g : Graph) (p : Simple g) (B : List ℕ) (ls : List Link) (x : StartPa
         fewer B sorted (start-differ (Adj g) B ls x) (λ w h. in-select (λ w. member w B) (below (g .n)) w (below-in (g .n) w (start-low w (omega arith) h)) (in-member w B h)),
       )
 
-      go : (l : List ℕ) → Ascending l → length l ≡ 4 → ((w : ℕ) → In w l → In w B) → (ms : List Link) × Subdivision (Adj g) ms
+      go : (l : List ℕ) → Ascending l → length l ≡ 4 → ((w : ℕ) → In w l → In w B) → (ms : List Path) × Subdivision (Adj g) ms
       go [] up n f = absurd (omega arith)
       go (a ∷ []) up n f = absurd (omega arith)
       go (a ∷ (b ∷ [])) up n f = absurd (omega arith)
@@ -138,12 +138,12 @@ module _ (g : Graph) (p : Simple g) (B : List ℕ) (ls : List Link) (x : StartPa
           get : (u v : ℕ) → In u (four a b c d) → In v (four a b c d) → u ≢ v → Oriented u v
           get u v hu hv ne = oriented u v (f u hu) (f v hv) ne
 
-          make : Oriented a b → Oriented a c → Oriented a d → Oriented b c → Oriented b d → Oriented c d → (ms : List Link) × Subdivision (Adj g) ms
+          make : Oriented a b → Oriented a c → Oriented a d → Oriented b c → Oriented b d → Oriented c d → (ms : List Path) × Subdivision (Adj g) ms
           make m1 m2 m3 m4 m5 m6 =
               let ms = m1 .0 ∷ (m2 .0 ∷ (m3 .0 ∷ (m4 .0 ∷ (m5 .0 ∷ (m6 .0 ∷ []))))) in
               (ms, sorted-start a b c d (up .0) (up .1 .0) (up .1 .1 .0) f ms (λ i. (m1 .1 i, m1 .2 i) ∷ ((m2 .1 i, m2 .2 i) ∷ ((m3 .1 i, m3 .2 i) ∷ ((m4 .1 i, m4 .2 i) ∷ ((m5 .1 i, m5 .2 i) ∷ ((m6 .1 i, m6 .2 i) ∷ [])))))) one)
             where
-              one : (M : Link) → In M (m1 .0 ∷ (m2 .0 ∷ (m3 .0 ∷ (m4 .0 ∷ (m5 .0 ∷ (m6 .0 ∷ [])))))) → OneOf ls M
+              one : (M : Path) → In M (m1 .0 ∷ (m2 .0 ∷ (m3 .0 ∷ (m4 .0 ∷ (m5 .0 ∷ (m6 .0 ∷ [])))))) → OneOf ls M
               one M (inl e) = rw e (m1 .3)
               one M (inr (inl e)) = rw e (m2 .3)
               one M (inr (inr (inl e))) = rw e (m3 .3)
@@ -170,28 +170,28 @@ pub record ThreeLinks (g : Graph) : Type 0 where
 
 -- the certifier's start, or a separation pair
 pub data Begin (g : Graph) : Type 0 where
-  begun : (ls : List Link) → Recorded (Adj g) ls → Begin g
+  begun : (ls : List Path) → Recorded (Adj g) ls → Begin g
   broken : SeparationPair g → Begin g
 
-recorded-start : (g : Graph) → ((ms : List Link) × Subdivision (Adj g) ms) → Begin g
+recorded-start : (g : Graph) → ((ms : List Path) × Subdivision (Adj g) ms) → Begin g
 recorded-start g ([], x) = absurd (omega (arith, ap length (x .paths .shape)))
 recorded-start g (M ∷ ms, x) = begun (M ∷ ms) (inl x)
 
 -- a path l from s inside one link to t inside another: six links between a, s, t, b
-abbrev pub sixBetween : (a b : ℕ) (p₁ : List ℕ) (s : ℕ) (p₂ q₁ : List ℕ) (t : ℕ) (q₂ r l : List ℕ) → List Link
+abbrev pub sixBetween : (a b : ℕ) (p₁ : List ℕ) (s : ℕ) (p₂ q₁ : List ℕ) (t : ℕ) (q₂ r l : List ℕ) → List Path
 sixBetween a b p₁ s p₂ q₁ t q₂ r l = link a p₁ s ∷ (link a q₁ t ∷ (link a r b ∷ (link s l t ∷ (link s p₂ b ∷ (link t q₂ b ∷ [])))))
 
 pub six-paths : (E : ℕ → ℕ → Type 0) (a b : ℕ) (p₁ : List ℕ) (s : ℕ) (p₂ q₁ : List ℕ) (t : ℕ) (q₂ r l : List ℕ) → Along E a (p₁ ++ (s ∷ p₂)) b → Along E a (q₁ ++ (t ∷ q₂)) b → Along E a r b → Along E s l t
     → NoDup (l ++ ((p₁ ++ (s ∷ p₂)) ++ ((q₁ ++ (t ∷ q₂)) ++ (r ++ (a ∷ (b ∷ [])))))) → StartPaths E (four a s t b) (sixBetween a b p₁ s p₂ q₁ t q₂ r l)
 six-paths E a b p₁ s p₂ q₁ t q₂ r l ap aq ar al nd = record { shape = refl; along = along; nodup = nodup-count ℕ-discrete (innerVertices six ++ four a s t b) old nd into (simp length-append (omega arith)) }
   where
-    six : List Link
+    six : List Path
     six = sixBetween a b p₁ s p₂ q₁ t q₂ r l
 
     old : List ℕ
     old = l ++ ((p₁ ++ (s ∷ p₂)) ++ ((q₁ ++ (t ∷ q₂)) ++ (r ++ (a ∷ (b ∷ [])))))
 
-    along : (M : Link) → In M six → Along E (M .s) (M .inner) (M .t)
+    along : (M : Path) → In M six → Along E (M .s) (M .inner) (M .t)
     along M (inl e) = rw e (along-cut E a p₁ s p₂ b ap .0)
     along M (inr (inl e)) = rw e (along-cut E a q₁ t q₂ b aq .0)
     along M (inr (inr (inl e))) = rw e ar
@@ -205,7 +205,7 @@ six-paths E a b p₁ s p₂ q₁ t q₂ r l ap aq ar al nd = record { shape = re
         (λ k. ⊎-elim at-p (λ j. ⊎-elim at-q at-r (in-append w (q₁ ++ (t ∷ q₂)) (r ++ (a ∷ (b ∷ []))) j)) (in-append w (p₁ ++ (s ∷ p₂)) ((q₁ ++ (t ∷ q₂)) ++ (r ++ (a ∷ (b ∷ [])))) k))
         (in-append w l ((p₁ ++ (s ∷ p₂)) ++ ((q₁ ++ (t ∷ q₂)) ++ (r ++ (a ∷ (b ∷ []))))) h)
       where
-        inner : (M : Link) → In M six → In w (M .inner) → In w (innerVertices six ++ four a s t b)
+        inner : (M : Path) → In M six → In w (M .inner) → In w (innerVertices six ++ four a s t b)
         inner M h k = in-left w (innerVertices six) (four a s t b) (in-inner M six w h k)
 
         branch : In w (four a s t b) → In w (innerVertices six ++ four a s t b)
@@ -221,7 +221,7 @@ six-paths E a b p₁ s p₂ q₁ t q₂ r l ap aq ar al nd = record { shape = re
         at-r h = ⊎-elim (inner (link a r b) (inr (inr (inl refl)))) (λ k. ⊎-elim (λ e. branch (inl e)) (λ j. branch (inr (inr (inr j)))) k) (in-append w r (a ∷ (b ∷ [])) h)
 
 -- a cycle through a, given by the path P without a, and a path Q from a neighbour of a to the cycle: the three links
-pub three-nodup : (a : ℕ) (P Q : Link) → NoDup (vertices P) → ¬ In a (vertices P) → NoDup (vertices Q) → ¬ In a (Q .s ∷ Q .inner) → ((w : ℕ) → In w (Q .s ∷ Q .inner) → ¬ In w (vertices P))
+pub three-nodup : (a : ℕ) (P Q : Path) → NoDup (vertices P) → ¬ In a (vertices P) → NoDup (vertices Q) → ¬ In a (Q .s ∷ Q .inner) → ((w : ℕ) → In w (Q .s ∷ Q .inner) → ¬ In w (vertices P))
     → (u v : List ℕ) → vertices P ≡ u ++ (Q .t ∷ v) → NoDup ((Q .s ∷ Q .inner) ++ (u ++ (rev v ++ (a ∷ (Q .t ∷ [])))))
 three-nodup a P Q nP na nQ aQ off u v e = nodup-count ℕ-discrete new ((Q .s ∷ Q .inner) ++ (a ∷ (u ++ (Q .t ∷ v)))) old into (simp (length-append, length-rev) (omega arith))
   where
@@ -246,7 +246,7 @@ three-nodup a P Q nP na nQ aQ off u v e = nodup-count ℕ-discrete new ((Q .s �
         (λ k. ⊎-elim (λ i. ends w (inl i)) (λ j. ⊎-elim (λ i. halves w (inl i)) (λ i. ⊎-elim (λ m. ends w (inr (inl m))) (λ m. halves w (inr (in-rev w v m))) i) (in-append w u (Q .t ∷ v) j)) k)
         (in-append w (Q .s ∷ Q .inner) (a ∷ (u ++ (Q .t ∷ v))) h)
 
-pub two-arcs : (E : ℕ → ℕ → Type 0) → ((u v : ℕ) → E u v → E v u) → (a : ℕ) (P : Link) → E a (P .s) → Along E (P .s) (P .inner) (P .t) → E a (P .t) → (b : ℕ) (u v : List ℕ) → vertices P ≡ u ++ (b ∷ v) → Along E a u b × Along E a (rev v) b
+pub two-arcs : (E : ℕ → ℕ → Type 0) → ((u v : ℕ) → E u v → E v u) → (a : ℕ) (P : Path) → E a (P .s) → Along E (P .s) (P .inner) (P .t) → E a (P .t) → (b : ℕ) (u v : List ℕ) → vertices P ≡ u ++ (b ∷ v) → Along E a u b × Along E a (rev v) b
 two-arcs E esym a P ks path kt b u v e =
     let round : Along E a (vertices P) a = along-join E a (P .s ∷ P .inner) (P .t) [] a (ks, path) (esym a (P .t) kt) in
     let cut = along-cut E a u b v a (subst (λ (k : List ℕ). Along E a k a) e round) in
@@ -335,8 +335,8 @@ module _ (g : Graph) (p : Simple g) where
 
   module _ (a : ℕ) (la : a < g .n) where
     -- a cycle through a, given by the path P without a, and a third edge of a, to z: three links
-    module _ (P : Link) (path : IsPath (Adj g) P) (ks : Adj g a (P .s)) (kt : Adj g a (P .t)) (na : ¬ In a (vertices P)) (z : ℕ) (kz : Adj g a z) (nz : ¬ In z (vertices P)) where
-      three-links : (Q : Link) → IsPath (Adj g) Q → Adj g a (Q .s) → ¬ In a (Q .s ∷ Q .inner) → ((w : ℕ) → In w (Q .s ∷ Q .inner) → ¬ In w (vertices P)) → (u v : List ℕ) → vertices P ≡ u ++ (Q .t ∷ v) → ThreeLinks g
+    module _ (P : Path) (path : IsPath (Adj g) P) (ks : Adj g a (P .s)) (kt : Adj g a (P .t)) (na : ¬ In a (vertices P)) (z : ℕ) (kz : Adj g a z) (nz : ¬ In z (vertices P)) where
+      three-links : (Q : Path) → IsPath (Adj g) Q → Adj g a (Q .s) → ¬ In a (Q .s ∷ Q .inner) → ((w : ℕ) → In w (Q .s ∷ Q .inner) → ¬ In w (vertices P)) → (u v : List ℕ) → vertices P ≡ u ++ (Q .t ∷ v) → ThreeLinks g
       three-links Q pathQ kQ aQ off u v e =
           let arcs = two-arcs (Adj g) (p .symmetric) a P ks (path .along) kt (Q .t) u v e in
           let y = witness (ℕ-discrete (P .s) (Q .t)) in

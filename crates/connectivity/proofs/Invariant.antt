@@ -6,7 +6,7 @@ use mathlib.Core.List.{List, _∷_, []}
 use Prim.Native.Nat.{ℕ}
 use native.Mathlib.Decide.{ℕ-discrete}
 use Rattle.connectivity.specs.Lists.{In}
-use Rattle.connectivity.specs.Path.{Link, IsPath, End, vertices}
+use Rattle.connectivity.specs.Path.{Path, IsPath, End, vertices}
 use Rattle.connectivity.specs.Build.{BGPath, splitAt, taken, Steps, final}
 use Rattle.connectivity.proofs.Lists.{either}
 use Rattle.connectivity.proofs.Paths.{end-or-inner, both-ends, end-of, SamePair, inner-not-end}
@@ -14,16 +14,16 @@ use Rattle.connectivity.proofs.Walks.{Free, Connected, AllFree, reach-e
 use Rattle.connectivity.proofs.Split.{split-path, piece-of, piece-end, Piece, piece-in, piece-meet, split-skip}
 
 -- B lists the branch vertices.
-pub record Invariant (E : ℕ → ℕ → Type 0) (B : List ℕ) (links : List Link) : Type 0 where
-  pub is-path : (L : Link) → In L links → IsPath E L
-  pub ends : (L : Link) → In L links → (z : ℕ) → End z L → In z B
-  pub share-one : (L M : Link) → In L links → In M links → (c d : ℕ) → c ≢ d → In c (vertices L) → In d (vertices L) → In c (vertices M) → In d (vertices M) → L ≡ M
+pub record Invariant (E : ℕ → ℕ → Type 0) (B : List ℕ) (links : List Path) : Type 0 where
+  pub is-path : (L : Path) → In L links → IsPath E L
+  pub ends : (L : Path) → In L links → (z : ℕ) → End z L → In z B
+  pub share-one : (L M : Path) → In L links → In M links → (c d : ℕ) → c ≢ d → In c (vertices L) → In d (vertices L) → In c (vertices M) → In d (vertices M) → L ≡ M
   pub connected : (c d u v : ℕ) → In u B → In v B → Free c d u → Free c d v → Connected E c d u v
 
-module _ (E : ℕ → ℕ → Type 0) (esym : (u v : ℕ) → E u v → E v u) (B : List ℕ) (links : List Link) (inv : Invariant E B links) where
+module _ (E : ℕ → ℕ → Type 0) (esym : (u v : ℕ) → E u v → E v u) (B : List ℕ) (links : List Path) (inv : Invariant E B links) where
   -- x and y are the ends of a path whose inner vertices Q are on no link: from x one comes to a branch vertex
   reach-branch : (c d x y : ℕ) (Q : List ℕ) → (AllFree c d Q → Free c d x → Free c d y → Connected E c d x y)
-      → (L M : Link) → In L links → In M links → In x (vertices L) → In y (vertices M) → ¬ In y (vertices L)
+      → (L M : Path) → In L links → In M links → In x (vertices L) → In y (vertices M) → ¬ In y (vertices L)
       → ((w : ℕ) → In w Q → ¬ In w (vertices L)) → Free c d x
       → (z : ℕ) × In z B × Free c d z × Connected E c d x z
   reach-branch c d x y Q br L M hL hM hx hy ny fr fx = go (reach-end E esym c d L x (inv .is-path L hL) hx fx)
@@ -45,7 +45,7 @@ module _ (E : ℕ → ℕ → Type 0) (esym : (u v : ℕ) → E u v → E v u) (
           second fy (br (λ w m. off w (fr w m) (r .0) (r .1)) fx fy) (r .0) (r .1) (r .2) (reach-end E esym c d M y (inv .is-path M hM) hy fy)
 
   -- P is added, and its ends become branch vertices
-  module _ (P : Link) (bg : BGPath E links P) where
+  module _ (P : Path) (bg : BGPath E links P) where
     cross : (c d : ℕ) → AllFree c d (P .inner) → Free c d (P .s) → Free c d (P .t) → Connected E c d (P .s) (P .t)
     cross c d f fx fy = along-connected E c d (P .s) (P .inner) (P .t) (bg .is-path .along) every
       where
@@ -73,7 +73,7 @@ module _ (E : ℕ → ℕ → Type 0) (esym : (u v : ℕ) → E u v → E v u) (
     to-branch c d u (inr (inr m)) f = (u, m, f, here)
 
     -- P shares at most one vertex with an old link
-    lone : (M : Link) → In M links → (c d : ℕ) → c ≢ d → In c (vertices P) → In d (vertices P) → In c (vertices M) → In d (vertices M) → ⊥
+    lone : (M : Path) → In M links → (c d : ℕ) → c ≢ d → In c (vertices P) → In d (vertices P) → In c (vertices M) → In d (vertices M) → ⊥
     lone M hM c d ne pc pd mc md = go (both-ends P c d ne (shared c pc mc) (shared d pd md))
       where
         shared : (u : ℕ) → In u (vertices P) → In u (vertices M) → End u P
@@ -86,16 +86,16 @@ module _ (E : ℕ → ℕ → Type 0) (esym : (u v : ℕ) → E u v → E v u) (
     pub add-path : Invariant E (P .s ∷ (P .t ∷ B)) (P ∷ links)
     add-path = record { is-path = path; ends = ends; share-one = share; connected = conn }
       where
-        path : (L : Link) → In L (P ∷ links) → IsPath E L
+        path : (L : Path) → In L (P ∷ links) → IsPath E L
         path L (inl e) = rw e (bg .is-path)
         path L (inr m) = inv .is-path L m
 
-        ends : (L : Link) → In L (P ∷ links) → (z : ℕ) → End z L → In z (P .s ∷ (P .t ∷ B))
+        ends : (L : Path) → In L (P ∷ links) → (z : ℕ) → End z L → In z (P .s ∷ (P .t ∷ B))
         ends L (inl e) z (inl k) = inl (rw e at k)
         ends L (inl e) z (inr k) = inr (inl (rw e at k))
         ends L (inr m) z k = inr (inr (inv .ends L m z k))
 
-        share : (L M : Link) → In L (P ∷ links) → In M (P ∷ links) → (c d : ℕ) → c ≢ d → In c (vertices L) → In d (vertices L) → In c (vertices M) → In d (vertices M) → L ≡ M
+        share : (L M : Path) → In L (P ∷ links) → In M (P ∷ links) → (c d : ℕ) → c ≢ d → In c (vertices L) → In d (vertices L) → In c (vertices M) → In d (vertices M) → L ≡ M
         share L M (inl e) (inl k) c d ne lc ld mc md = e ∙ sym k
         share L M (inl e) (inr k) c d ne lc ld mc md = absurd (lone M k c d ne (rw e at lc) (rw e at ld) mc md)
         share L M (inr e) (inl k) c d ne lc ld mc md = absurd (lone L e c d ne (rw k at mc) (rw k at md) lc ld)
@@ -108,15 +108,15 @@ module _ (E : ℕ → ℕ → Type 0) (esym : (u v : ℕ) → E u v → E v u) (
             connected-trans E esym c d (a .3) (connected-trans E esym c d (inv .connected c d (a .0) (b .0) (a .1) (b .1) (a .2) (b .2)) (connected-back E esym c d (b .3)))
 
 -- links are split at a branch vertex
-module _ (E : ℕ → ℕ → Type 0) (B : List ℕ) (links : List Link) (inv : Invariant E B links) (x : ℕ) (hx : In x B) where
+module _ (E : ℕ → ℕ → Type 0) (B : List ℕ) (links : List Path) (inv : Invariant E B links) (x : ℕ) (hx : In x B) where
   pub split-invariant : Invariant E B (splitAt x links)
   split-invariant = record { is-path = split-path E x links (inv .is-path); ends = ends; share-one = λ p q hp hq. share p q (piece-of x links p hp) (piece-of x links q hq); connected = inv .connected }
     where
-      ends : (p : Link) → In p (splitAt x links) → (z : ℕ) → End z p → In z B
+      ends : (p : Path) → In p (splitAt x links) → (z : ℕ) → End z p → In z B
       ends p m z h = let r = piece-of x links p m in ⊎-elim (λ e. rw e hx) (inv .ends (r .0) (r .1) z) (piece-end x z (r .0) p (r .2) h)
 
       -- one of the two shared vertices is not x
-      share : (p q : Link) → ((L : Link) × In L links × Piece x L p) → ((M : Link) × In M links × Piece x M q) → (c d : ℕ) → c ≢ d → In c (vertices p) → In d (vertices p) → In c (vertices q) → In d (vertices q) → p ≡ q
+      share : (p q : Path) → ((L : Path) × In L links × Piece x L p) → ((M : Path) × In M links × Piece x M q) → (c d : ℕ) → c ≢ d → In c (vertices p) → In d (vertices p) → In c (vertices q) → In d (vertices q) → p ≡ q
       share p q a b c d ne pc pd qc qd =
           let e : a .0 ≡ b .0 = inv .share-one (a .0) (b .0) (a .1) (b .1) c d ne (piece-in x c (a .0) p (a .2) pc) (piece-in x d (a .0) p (a .2) pd) (piece-in x c (b .0) q (b .2) qc) (piece-in x d (b .0) q (b .2) qd) in
           let meet = piece-meet x (b .0) p q (inv .is-path (b .0) (b .1) .nodup) (rw e at (a .2)) (b .2) in
@@ -124,7 +124,7 @@ module _ (E : ℕ → ℕ → Type 0) (B : List ℕ) (links : List Link) (inv : 
 
 -- THE STEP, AND ALL STEPS.
 module _ (E : ℕ → ℕ → Type 0) (esym : (u v : ℕ) → E u v → E v u) where
-  pub taken-invariant : (B : List ℕ) (links : List Link) → Invariant E B links → (P : Link) → BGPath E links P → Invariant E (P .s ∷ (P .t ∷ B)) (taken links P)
+  pub taken-invariant : (B : List ℕ) (links : List Path) → Invariant E B links → (P : Path) → BGPath E links P → Invariant E (P .s ∷ (P .t ∷ B)) (taken links P)
   taken-invariant B links inv P f =
       let B′ = P .s ∷ (P .t ∷ B) in
       let nd = f .is-path .nodup in
@@ -133,6 +133,6 @@ module _ (E : ℕ → ℕ → Type 0) (esym : (u v : ℕ) → E u v → E v u) w
       let b = split-invariant E B′ (P ∷ splitAt (P .t) links) a′ (P .s) (inl refl) in
       rw (split-skip (P .s) P (splitAt (P .t) links) (λ h. inner-not-end P nd (P .s) h (inl refl))) at b
 
-  pub steps-invariant : (B : List ℕ) (links ps : List Link) → Invariant E B links → Steps E links ps → (C : List ℕ) × Invariant E C (final links ps)
+  pub steps-invariant : (B : List ℕ) (links ps : List Path) → Invariant E B links → Steps E links ps → (C : List ℕ) × Invariant E C (final links ps)
   steps-invariant B links [] inv s = (B, inv)
   steps-invariant B links (P ∷ ps) inv s = steps-invariant (P .s ∷ (P .t ∷ B)) (taken links P) ps (taken-invariant B links inv P (s .0)) (s .1)

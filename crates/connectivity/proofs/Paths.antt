@@ -8,7 +8,7 @@ use native.Mathlib.Omega.{arith}
 use native.Mathlib.Decide.{ℕ-discrete}
 use lib.ListN.{length, length-append}
 use Rattle.connectivity.specs.Lists.{In, NoDup}
-use Rattle.connectivity.specs.Path.{Link, link, vertices, End, Along, IsPath, edge, pathEdges, edgesAlong, usedEdges}
+use Rattle.connectivity.specs.Path.{Path, link, vertices, End, Along, IsPath, edge, pathEdges, edgesAlong, usedEdges}
 use Rattle.connectivity.specs.Build.{innerVertices, InBuild, IsBranch, endPairs}
 use Rattle.connectivity.proofs.Lists.{in-right, in-left, in-single, in-append, nodup-apart, nodup-left, rev}
 use Rattle.connectivity.proofs.Order.{Separates}
@@ -22,7 +22,7 @@ abbrev pub initOf : ℕ → List ℕ → List ℕ
 initOf a [] = []
 initOf a (b ∷ l) = a ∷ initOf b l
 
-abbrev pub linkOf : List ℕ → Link
+abbrev pub linkOf : List ℕ → Path
 linkOf [] = link 0 [] 0
 linkOf (a ∷ []) = link a [] a
 linkOf (a ∷ b ∷ l) = link a (initOf b l) (lastOf b l)
@@ -44,52 +44,52 @@ pub last-end : (b : ℕ) (l : List ℕ) (t : ℕ) → lastOf b (l ++ (t ∷ []))
 last-end b [] t = refl
 last-end b (a ∷ l) t = last-end a l t
 
-pub link-vertices : (P : Link) → linkOf (vertices P) ≡ P
+pub link-vertices : (P : Path) → linkOf (vertices P) ≡ P
 link-vertices P = go (P .s) (P .inner) (P .t)
   where
     go : (s : ℕ) (l : List ℕ) (t : ℕ) → linkOf (s ∷ (l ++ (t ∷ []))) ≡ link s l t
     go s [] t = refl
     go s (b ∷ l) t = λ i. link s (init-end b l t i) (last-end b l t i)
 
-pub two-vertices : (P : Link) → 2 ≤ length (vertices P)
+pub two-vertices : (P : Path) → 2 ≤ length (vertices P)
 two-vertices P = omega (arith, length-append (P .inner) (P .t ∷ []))
 
 -- ends and inner vertices
-pub end-s : (L : Link) → In (L .s) (vertices L)
+pub end-s : (L : Path) → In (L .s) (vertices L)
 end-s L = inl refl
 
-pub end-t : (L : Link) → In (L .t) (vertices L)
+pub end-t : (L : Path) → In (L .t) (vertices L)
 end-t L = inr (in-right (L .t) (L .inner) (L .t ∷ []) (inl refl))
 
-pub inner-in : (w : ℕ) (L : Link) → In w (L .inner) → In w (vertices L)
+pub inner-in : (w : ℕ) (L : Path) → In w (L .inner) → In w (vertices L)
 inner-in w L m = inr (in-left w (L .inner) (L .t ∷ []) m)
 
-pub end-vertex : (z : ℕ) (L : Link) → End z L → In z (vertices L)
+pub end-vertex : (z : ℕ) (L : Path) → End z L → In z (vertices L)
 end-vertex z L (inl e) = inl e
 end-vertex z L (inr e) = inr (in-right z (L .inner) (L .t ∷ []) (inl e))
 
-pub end-or-inner : (L : Link) (w : ℕ) → In w (vertices L) → End w L ⊎ In w (L .inner)
+pub end-or-inner : (L : Path) (w : ℕ) → In w (vertices L) → End w L ⊎ In w (L .inner)
 end-or-inner L w (inl e) = inl (inl e)
 end-or-inner L w (inr h) = ⊎-elim inr (λ k. inl (inr (in-single w (L .t) k))) (in-append w (L .inner) (L .t ∷ []) h)
 
-pub end-of : (L : Link) (w : ℕ) → In w (vertices L) → ¬ In w (L .inner) → End w L
+pub end-of : (L : Path) (w : ℕ) → In w (vertices L) → ¬ In w (L .inner) → End w L
 end-of L w h n = ⊎-elim (λ e. e) (λ k. absurd (n k)) (end-or-inner L w h)
 
-pub inner-of : (L : Link) (w : ℕ) → In w (vertices L) → ¬ End w L → In w (L .inner)
+pub inner-of : (L : Path) (w : ℕ) → In w (vertices L) → ¬ End w L → In w (L .inner)
 inner-of L w h n = ⊎-elim (λ e. absurd (n e)) (λ k. k) (end-or-inner L w h)
 
-pub ends-differ : (L : Link) → NoDup (vertices L) → L .s ≢ L .t
+pub ends-differ : (L : Path) → NoDup (vertices L) → L .s ≢ L .t
 ends-differ L nd e = nd .0 (in-right (L .s) (L .inner) (L .t ∷ []) (inl e))
 
-pub inner-not-end : (L : Link) → NoDup (vertices L) → (w : ℕ) → In w (L .inner) → ¬ End w L
+pub inner-not-end : (L : Path) → NoDup (vertices L) → (w : ℕ) → In w (L .inner) → ¬ End w L
 inner-not-end L nd w h (inl e) = nd .0 (in-left (L .s) (L .inner) (L .t ∷ []) (rw e at h))
 inner-not-end L nd w h (inr e) = nodup-apart (L .inner) (L .t ∷ []) (nd .1) w h (inl e)
 
-pub nodup-inner : (L : Link) → NoDup (vertices L) → NoDup (L .inner)
+pub nodup-inner : (L : Path) → NoDup (vertices L) → NoDup (L .inner)
 nodup-inner L nd = nodup-left (L .inner) (L .t ∷ []) (nd .1)
 
 -- a list that holds the ends and the inner vertices holds them all
-pub all-vertices : (L : Link) (D : List ℕ) → In (L .s) D → In (L .t) D → ((w : ℕ) → In w (L .inner) → In w D) → (w : ℕ) → In w (vertices L) → In w D
+pub all-vertices : (L : Path) (D : List ℕ) → In (L .s) D → In (L .t) D → ((w : ℕ) → In w (L .inner) → In w D) → (w : ℕ) → In w (vertices L) → In w D
 all-vertices L D hs ht f w h = ⊎-elim end (f w) (end-or-inner L w h)
   where
     end : End w L → In w D
@@ -130,7 +130,7 @@ abbrev pub headOf : List ℕ → ℕ → ℕ
 headOf [] t = t
 headOf (a ∷ l) t = a
 
-pub record Consecutive (L : Link) (x y : ℕ) : Type 0 where
+pub record Consecutive (L : Path) (x y : ℕ) : Type 0 where
   pub u : List ℕ
   pub v : List ℕ
   pub cut : L .inner ≡ u ++ v
@@ -149,20 +149,20 @@ head-vertex [] [] t = inl refl
 head-vertex [] (a ∷ v) t = inl refl
 head-vertex (b ∷ u) v t = inr (head-vertex u v t)
 
-pub consecutive-left : (L : Link) (x y : ℕ) → Consecutive L x y → In x (vertices L)
+pub consecutive-left : (L : Path) (x y : ℕ) → Consecutive L x y → In x (vertices L)
 consecutive-left L x y g = rw (g .cut, g .left) (last-vertex (L .s) (g .u) (g .v) (L .t))
 
-pub consecutive-right : (L : Link) (x y : ℕ) → Consecutive L x y → In y (vertices L)
+pub consecutive-right : (L : Path) (x y : ℕ) → Consecutive L x y → In y (vertices L)
 consecutive-right L x y g = rw (g .cut, g .right) (inr (head-vertex (g .u) (g .v) (L .t)))
 
-pub consecutive-differ : (L : Link) (x y : ℕ) → NoDup (vertices L) → Consecutive L x y → x ≢ y
+pub consecutive-differ : (L : Path) (x y : ℕ) → NoDup (vertices L) → Consecutive L x y → x ≢ y
 consecutive-differ L x y nd g e = go (L .s) (g .u) (g .v) (L .t) (rw (g .cut) at nd) (sym (g .left) ∙ e ∙ g .right)
   where
     go : (s : ℕ) (u v : List ℕ) (t : ℕ) → NoDup (s ∷ ((u ++ v) ++ (t ∷ []))) → lastOf s u ≡ headOf v t → ⊥
     go s [] v t n k = n .0 (rw k (head-vertex [] v t))
     go s (b ∷ u) v t n k = go b u v t (n .1) k
 
-pub consecutive-edge : (E : ℕ → ℕ → Type 0) (L : Link) (x y : ℕ) → IsPath E L → Consecutive L x y → E x y
+pub consecutive-edge : (E : ℕ → ℕ → Type 0) (L : Path) (x y : ℕ) → IsPath E L → Consecutive L x y → E x y
 consecutive-edge E L x y g k = rw (k .left, k .right) (go (L .s) (k .u) (k .v) (L .t) (rw (k .cut) at (g .along)))
   where
     go : (s : ℕ) (u v : List ℕ) (t : ℕ) → Along E s (u ++ v) t → E (lastOf s u) (headOf v t)
@@ -174,7 +174,7 @@ consecutive-edge E L x y g k = rw (k .left, k .right) (go (L .s) (k .u) (k .v) (
 abbrev SomeBetween : List ℕ → ℕ → ℕ → Type 0
 SomeBetween l x y = (z : ℕ) × In z l × Separates z x y l
 
-abbrev pub Neighbours : Link → ℕ → ℕ → Type 0
+abbrev pub Neighbours : Path → ℕ → ℕ → Type 0
 Neighbours L x y = Consecutive L x y ⊎ Consecutive L y x
 
 pub between-or-consecutive : (s : ℕ) (l : List ℕ) (t x y : ℕ) → In x (vertices (link s l t)) → In y (vertices (link s l t)) → x ≢ y → SomeBetween (vertices (link s l t)) x y ⊎ Neighbours (link s l t) x y
@@ -213,21 +213,21 @@ same-trans x y p q s t (inr e) (inl k) = inr (sym (e .1) ∙ k .1, sym (e .0) �
 same-trans x y p q s t (inr e) (inr k) = inl (sym (e .1) ∙ k .1, sym (e .0) ∙ k .0)
 
 -- two different ends are the two ends
-pub both-ends : (P : Link) (x y : ℕ) → x ≢ y → End x P → End y P → SamePair x y (P .s) (P .t)
+pub both-ends : (P : Path) (x y : ℕ) → x ≢ y → End x P → End y P → SamePair x y (P .s) (P .t)
 both-ends P x y ne (inl a) (inl b) = absurd (ne (a ∙ sym b))
 both-ends P x y ne (inl a) (inr b) = inl (a, b)
 both-ends P x y ne (inr a) (inl b) = inr (a, b)
 both-ends P x y ne (inr a) (inr b) = absurd (ne (a ∙ sym b))
 
 -- the edges of a path are the pairs of neighbours
-pub length-path : (L : Link) → length (pathEdges L) ≡ suc (length (L .inner))
+pub length-path : (L : Path) → length (pathEdges L) ≡ suc (length (L .inner))
 length-path L = go (L .s) (L .inner) (L .t)
   where
     go : (s : ℕ) (l : List ℕ) (t : ℕ) → length (edgesAlong s l t) ≡ suc (length l)
     go s [] t = refl
     go s (a ∷ l) t = ap suc (go a l t)
 
-pub length-used : (ls : List Link) → length (usedEdges ls) ≡ length ls + length (innerVertices ls)
+pub length-used : (ls : List Path) → length (usedEdges ls) ≡ length ls + length (innerVertices ls)
 length-used [] = omega arith
 length-used (L ∷ ls) = let ih = length-used ls in omega (arith, length-append (pathEdges L) (usedEdges ls), length-path L, length-append (L .inner) (innerVertices ls))
 
@@ -236,10 +236,10 @@ edge-consecutive s [] t e h = (s, t, record { u = []; v = []; cut = refl; left =
 edge-consecutive s (a ∷ l) t e (inl k) = (s, a, record { u = []; v = a ∷ l; cut = refl; left = refl; right = refl }, k)
 edge-consecutive s (a ∷ l) t e (inr k) = let r = edge-consecutive a l t e k in (r .0, r .1, consecutive-cons s a l t (r .0) (r .1) (r .2), r .3)
 
-pub path-consecutive : (L : Link) (e : ℕ × ℕ) → In e (pathEdges L) → (x : ℕ) × (y : ℕ) × Consecutive L x y × (e ≡ edge x y)
+pub path-consecutive : (L : Path) (e : ℕ × ℕ) → In e (pathEdges L) → (x : ℕ) × (y : ℕ) × Consecutive L x y × (e ≡ edge x y)
 path-consecutive L e h = edge-consecutive (L .s) (L .inner) (L .t) e h
 
-pub consecutive-path : (L : Link) (x y : ℕ) → Consecutive L x y → In (edge x y) (pathEdges L)
+pub consecutive-path : (L : Path) (x y : ℕ) → Consecutive L x y → In (edge x y) (pathEdges L)
 consecutive-path L x y g = rw (g .cut, g .left, g .right) (go (L .s) (g .u) (g .v) (L .t))
   where
     go : (s : ℕ) (u v : List ℕ) (t : ℕ) → In (edge (lastOf s u) (headOf v t)) (edgesAlong s (u ++ v) t)
@@ -247,7 +247,7 @@ consecutive-path L x y g = rw (g .cut, g .left, g .right) (go (L .s) (g .u) (g .
     go s [] (a ∷ v) t = inl refl
     go s (b ∷ u) v t = inr (go b u v t)
 
-pub nodup-path : (L : Link) → NoDup (vertices L) → NoDup (pathEdges L)
+pub nodup-path : (L : Path) → NoDup (vertices L) → NoDup (pathEdges L)
 nodup-path L nd = go (L .s) (L .inner) (L .t) nd
   where
     off : (s a : ℕ) (l : List ℕ) (t : ℕ) → ¬ In s (vertices (link a l t)) → ¬ In (edge s a) (edgesAlong a l t)
@@ -258,70 +258,70 @@ nodup-path L nd = go (L .s) (L .inner) (L .t) nd
     go s [] t nd = ((λ h. h), tt)
     go s (a ∷ l) t nd = (off s a l t (nd .0), go a l t (nd .1))
 
-pub used-in : (ls : List Link) (e : ℕ × ℕ) → In e (usedEdges ls) → (M : Link) × In M ls × In e (pathEdges M)
+pub used-in : (ls : List Path) (e : ℕ × ℕ) → In e (usedEdges ls) → (M : Path) × In M ls × In e (pathEdges M)
 used-in [] e h = absurd h
 used-in (L ∷ ls) e h = ⊎-elim (λ k. (L, inl refl, k)) (λ k. let r = used-in ls e k in (r .0, inr (r .1), r .2)) (in-append e (pathEdges L) (usedEdges ls) h)
 
-pub in-used : (ls : List Link) (e : ℕ × ℕ) (M : Link) → In M ls → In e (pathEdges M) → In e (usedEdges ls)
+pub in-used : (ls : List Path) (e : ℕ × ℕ) (M : Path) → In M ls → In e (pathEdges M) → In e (usedEdges ls)
 in-used [] e M h k = absurd h
 in-used (L ∷ ls) e M (inl j) k = in-left e (pathEdges L) (usedEdges ls) (rw j at k)
 in-used (L ∷ ls) e M (inr h) k = in-right e (pathEdges L) (usedEdges ls) (in-used ls e M h k)
 
 -- the vertices of several paths, their ends, their inner vertices
-abbrev pub builtVertices : List Link → List ℕ
+abbrev pub builtVertices : List Path → List ℕ
 builtVertices [] = []
 builtVertices (L ∷ ls) = vertices L ++ builtVertices ls
 
-abbrev pub branchVertices : List Link → List ℕ
+abbrev pub branchVertices : List Path → List ℕ
 branchVertices [] = []
 branchVertices (L ∷ ls) = L .s ∷ (L .t ∷ branchVertices ls)
 
-pub in-built : (L : Link) (ls : List Link) (w : ℕ) → In L ls → In w (vertices L) → In w (builtVertices ls)
+pub in-built : (L : Path) (ls : List Path) (w : ℕ) → In L ls → In w (vertices L) → In w (builtVertices ls)
 in-built L [] w h k = absurd h
 in-built L (M ∷ ls) w (inl e) k = in-left w (vertices M) (builtVertices ls) (rw e at k)
 in-built L (M ∷ ls) w (inr h) k = in-right w (vertices M) (builtVertices ls) (in-built L ls w h k)
 
-pub built-in : (ls : List Link) (w : ℕ) → In w (builtVertices ls) → InBuild w ls
+pub built-in : (ls : List Path) (w : ℕ) → In w (builtVertices ls) → InBuild w ls
 built-in [] w h = absurd h
 built-in (M ∷ ls) w h = ⊎-elim (λ k. (M, inl refl, k)) (λ k. let r = built-in ls w k in (r .0, inr (r .1), r .2)) (in-append w (vertices M) (builtVertices ls) h)
 
-pub in-branch : (L : Link) (ls : List Link) (w : ℕ) → In L ls → End w L → In w (branchVertices ls)
+pub in-branch : (L : Path) (ls : List Path) (w : ℕ) → In L ls → End w L → In w (branchVertices ls)
 in-branch L [] w h e = absurd h
 in-branch L (M ∷ ls) w (inl i) (inl e) = inl (rw i at e)
 in-branch L (M ∷ ls) w (inl i) (inr e) = inr (inl (rw i at e))
 in-branch L (M ∷ ls) w (inr h) e = inr (inr (in-branch L ls w h e))
 
-pub branch-in : (ls : List Link) (w : ℕ) → In w (branchVertices ls) → IsBranch w ls
+pub branch-in : (ls : List Path) (w : ℕ) → In w (branchVertices ls) → IsBranch w ls
 branch-in [] w h = absurd h
 branch-in (L ∷ ls) w (inl e) = (L, inl refl, inl e)
 branch-in (L ∷ ls) w (inr (inl e)) = (L, inl refl, inr e)
 branch-in (L ∷ ls) w (inr (inr h)) = let r = branch-in ls w h in (r .0, inr (r .1), r .2)
 
-pub branch-built : (ls : List Link) (w : ℕ) → In w (branchVertices ls) → In w (builtVertices ls)
+pub branch-built : (ls : List Path) (w : ℕ) → In w (branchVertices ls) → In w (builtVertices ls)
 branch-built ls w h = let r = branch-in ls w h in in-built (r .0) ls w (r .1) (end-vertex w (r .0) (r .2))
 
-pub in-inner : (L : Link) (ls : List Link) (w : ℕ) → In L ls → In w (L .inner) → In w (innerVertices ls)
+pub in-inner : (L : Path) (ls : List Path) (w : ℕ) → In L ls → In w (L .inner) → In w (innerVertices ls)
 in-inner L [] w h k = absurd h
 in-inner L (M ∷ ls) w (inl e) k = in-left w (M .inner) (innerVertices ls) (rw e at k)
 in-inner L (M ∷ ls) w (inr h) k = in-right w (M .inner) (innerVertices ls) (in-inner L ls w h k)
 
-pub inner-on : (ls : List Link) (w : ℕ) → In w (innerVertices ls) → (L : Link) × In L ls × In w (L .inner)
+pub inner-on : (ls : List Path) (w : ℕ) → In w (innerVertices ls) → (L : Path) × In L ls × In w (L .inner)
 inner-on [] w h = absurd h
 inner-on (L ∷ ls) w h = ⊎-elim (λ k. (L, inl refl, k)) (λ k. let r = inner-on ls w k in (r .0, inr (r .1), r .2)) (in-append w (L .inner) (innerVertices ls) h)
 
-pub inner-built : (ls : List Link) (w : ℕ) → In w (innerVertices ls) → In w (builtVertices ls)
+pub inner-built : (ls : List Path) (w : ℕ) → In w (innerVertices ls) → In w (builtVertices ls)
 inner-built ls w h = let r = inner-on ls w h in in-built (r .0) ls w (r .1) (inner-in w (r .0) (r .2))
 
-pub in-ends : (ms : List Link) (M : Link) → In M ms → In {A = ℕ × ℕ} (M .s, M .t) (endPairs ms)
+pub in-ends : (ms : List Path) (M : Path) → In M ms → In {A = ℕ × ℕ} (M .s, M .t) (endPairs ms)
 in-ends [] M h = absurd h
-in-ends (L ∷ ms) M (inl e) = inl (ap (λ (p : Link). (p .s, p .t)) e)
+in-ends (L ∷ ms) M (inl e) = inl (ap (λ (p : Path). (p .s, p .t)) e)
 in-ends (L ∷ ms) M (inr h) = inr (in-ends ms M h)
 
-pub ends-in : (ms : List Link) (u v : ℕ) → In {A = ℕ × ℕ} (u, v) (endPairs ms) → (L : Link) × In L ms × (u ≡ L .s) × (v ≡ L .t)
+pub ends-in : (ms : List Path) (u v : ℕ) → In {A = ℕ × ℕ} (u, v) (endPairs ms) → (L : Path) × In L ms × (u ≡ L .s) × (v ≡ L .t)
 ends-in [] u v h = absurd h
 ends-in (L ∷ ms) u v (inl e) = (L, inl refl, ap (λ (p : ℕ × ℕ). p .0) e, ap (λ (p : ℕ × ℕ). p .1) e)
 ends-in (L ∷ ms) u v (inr h) = let r = ends-in ms u v h in (r .0, inr (r .1), r .2, r .3)
 
-pub length-ends : (ls : List Link) → length (endPairs ls) ≡ length ls
+pub length-ends : (ls : List Path) → length (endPairs ls) ≡ length ls
 length-ends [] = refl
 length-ends (L ∷ ls) = ap suc (length-ends ls)

@@ -14,7 +14,7 @@ use native.Mathlib.Decide.{ℕ-discrete}
 use lib.ListN.{length}
 use Rattle.connectivity.specs.Lists.{In, NoDup}
 use Rattle.connectivity.specs.Graph.{Graph, Adj, Remaining, Simple}
-use Rattle.connectivity.specs.Path.{Link, Along, vertices, link, IsPath}
+use Rattle.connectivity.specs.Path.{Path, Along, vertices, link, IsPath}
 use Rattle.connectivity.proofs.Lists.{isYes, no-false, clash, yes-true, true-yes, and-not?, true?, vertex-beside, in?, in-right, in-left, in-append, nodup-left, nodup-right, in-single, in-split, rev, nodup-rev, rev-in, length-rev, never?, full, scan, either, all-in?}
 use Rattle.connectivity.proofs.Order.{Separates, Between, between-join, between-right}
 use Rattle.connectivity.proofs.Paths.{Consecutive, builtVertices, branchVertices, Neighbours, between-or-consecutive, built-in, branch-built, in-built, inner-in, end-or-inner, ends-differ, inner-of, in-branch, nodup-inner, along-rev, lastOf, last-of, along-last}
@@ -81,10 +81,10 @@ module _ (g : Graph) (p : Simple g) where
       record { c = d .0; d = r .0; c-low = d .1; d-low = r .1; differ = λ e. d .2 (inl e); separated = separated-more g (r .0 ∷ []) t (d .0) (λ e. d .2 (inr (inl e))) (λ e. d .2 (inr (inr (inl e)))) }
 
 -- new vertices between two neighbours on a path of the record
-pub record Reroute (g : Graph) (ls : List Link) : Type 0 where
-  pub newer : List Link
-  pub L : Link
-  pub older : List Link
+pub record Reroute (g : Graph) (ls : List Path) : Type 0 where
+  pub newer : List Path
+  pub L : Path
+  pub older : List Path
   pub place : ls ≡ newer ++ (L ∷ older)
   pub x : ℕ
   pub y : ℕ
@@ -95,13 +95,13 @@ pub record Reroute (g : Graph) (ls : List Link) : Type 0 where
   pub new : (w : ℕ) → In w q → ¬ In w (builtVertices ls)
   pub some : 0 < length q
 
-pub record Finished (g : Graph) (ls : List Link) : Type 0 where
+pub record Finished (g : Graph) (ls : List Path) : Type 0 where
   pub all-branch : (z : ℕ) → z < g .n → In z (branchVertices ls)
-  pub used : (u v : ℕ) → Adj g u v → (M : Link) × In M ls × Neighbours M u v
+  pub used : (u v : ℕ) → Adj g u v → (M : Path) × In M ls × Neighbours M u v
 
-pub data Next (g : Graph) (ls : List Link) : Type 0 where
+pub data Next (g : Graph) (ls : List Path) : Type 0 where
   finished : Finished g ls → Next g ls
-  extended : (P : Link) → Extends (Adj g) ls P → Next g ls
+  extended : (P : Path) → Extends (Adj g) ls P → Next g ls
   rerouted-at : Reroute g ls → Next g ls
   separated-by : SeparationPair g → Next g ls
 
@@ -138,8 +138,8 @@ first-branch B (c ∷ l) = go (in? c B) (first-branch B l)
     go (no h) (inr r) = inr (c ∷ r .0, r .1, r .2, ap (λ (k : List ℕ). c ∷ k) (r .3), r .4, none-cons B c (r .0) h (r .5))
 
 -- on each path that has both x and y a branch vertex stands between them, or they are neighbours on one
-apart-or-consecutive : (B : List ℕ) (x y : ℕ) → x ≢ y → (ms : List Link) → ((M : Link) → In M ms → (z : ℕ) → In z (vertices M) → In z B)
-    → ((M : Link) → In M ms → Apart B (vertices M) x y) ⊎ ((M : Link) × In M ms × Neighbours M x y)
+apart-or-consecutive : (B : List ℕ) (x y : ℕ) → x ≢ y → (ms : List Path) → ((M : Path) → In M ms → (z : ℕ) → In z (vertices M) → In z B)
+    → ((M : Path) → In M ms → Apart B (vertices M) x y) ⊎ ((M : Path) × In M ms × Neighbours M x y)
 apart-or-consecutive B x y ne [] f = inl (λ M h. absurd h)
 apart-or-consecutive B x y ne (M ∷ ms) f = ⊎-elim (λ g. ⊎-map (λ p N h. ⊎-elim (λ e. rw e p) (g N) h) (λ k. (M, inl refl, k)) one) (λ r. inr (r .0, inr (r .1), r .2)) (apart-or-consecutive B x y ne ms (λ N h. f N (inr h)))
   where
@@ -151,7 +151,7 @@ apart-or-consecutive B x y ne (M ∷ ms) f = ⊎-elim (λ g. ⊎-map (λ p N h. 
         go (yes h) (no k) = inl (λ hx hy. absurd (k hy))
         go (yes h) (yes k) = ⊎-map (λ b hx hy. (b .0, f M (inl refl) (b .0) (b .1), b .2)) (λ g. g) (between-or-consecutive (M .s) (M .inner) (M .t) x y h k ne)
 
-module _ (g : Graph) (p : Simple g) (ls : List Link) (val : Recorded (Adj g) ls) where
+module _ (g : Graph) (p : Simple g) (ls : List Path) (val : Recorded (Adj g) ls) where
   pub built-low : (w : ℕ) → In w (builtVertices ls) → w < g .n
   built-low w h = let r = built-in ls w h in path-low g p (r .0) (recorded-path (Adj g) ls val (r .0) (r .1)) w (r .2)
 
@@ -159,7 +159,7 @@ module _ (g : Graph) (p : Simple g) (ls : List Link) (val : Recorded (Adj g) ls)
   branch-low w h = built-low w (branch-built ls w h)
 
   -- (a) A LINK WITH AN INNER VERTEX: the part K of the path L, whose ends alone are branch vertices.
-  module _ (L : Link) (hL : In L ls) (K : Link) (u v : List ℕ) (cut : vertices L ≡ u ++ (vertices K ++ v)) (hs : In (K .s) (branchVertices ls)) (ht : In (K .t) (branchVertices ls)) (hm : NoneIn (branchVertices ls) (K .inner)) where
+  module _ (L : Path) (hL : In L ls) (K : Path) (u v : List ℕ) (cut : vertices L ≡ u ++ (vertices K ++ v)) (hs : In (K .s) (branchVertices ls)) (ht : In (K .t) (branchVertices ls)) (hm : NoneIn (branchVertices ls) (K .inner)) where
     abbrev pub OffLink : ℕ → Type 0
     OffLink z = In z (builtVertices ls) × (¬ In z (vertices K))
 
@@ -187,7 +187,7 @@ module _ (g : Graph) (p : Simple g) (ls : List Link) (val : Recorded (Adj g) ls)
       apart = λ M hM x y. same M x y (recorded-sole (Adj g) ls val M L hM hL (f .path .s) x (on-path (f .path .s) (inner-in (f .path .s) K (f .seed))) (hm (f .path .s) (f .seed)));
     }
       where
-        same : (M : Link) → In (f .path .s) (vertices M) → In (f .path .t) (vertices M) → M ≡ L → (z : ℕ) × In z (branchVertices ls) × Separates z (f .path .s) (f .path .t) (vertices M)
+        same : (M : Path) → In (f .path .s) (vertices M) → In (f .path .t) (vertices M) → M ≡ L → (z : ℕ) × In z (branchVertices ls) × Separates z (f .path .s) (f .path .t) (vertices M)
         same M x y e = rw e (inside-outside (f .path .s) (f .path .t) (f .seed) (f .goal .1) (rw e at y))
 
     pub link-step : (w : ℕ) → In w (K .inner) → Searched g (λ z. In z (K .inner)) OffLink (λ z. In z linkEndsOf) → Next g ls
@@ -219,7 +219,7 @@ module _ (g : Graph) (p : Simple g) (ls : List Link) (val : Recorded (Adj g) ls)
       let k = in-split w (L .inner) (inner-of L w (r .2) (λ e. nw (in-branch L ls w (r .1) e))) in
       go L (r .1) (k .0) (k .1) (k .2) (last-branch (branchVertices ls) (L .s ∷ k .0)) (first-branch (branchVertices ls) (k .1 ++ (L .t ∷ [])))
     where
-      go : (L : Link) → In L ls → (a b : List ℕ) → L .inner ≡ a ++ (w ∷ b) → NoneIn (branchVertices ls) (L .s ∷ a) ⊎ Last (branchVertices ls) (L .s ∷ a)
+      go : (L : Path) → In L ls → (a b : List ℕ) → L .inner ≡ a ++ (w ∷ b) → NoneIn (branchVertices ls) (L .s ∷ a) ⊎ Last (branchVertices ls) (L .s ∷ a)
           → NoneIn (branchVertices ls) (b ++ (L .t ∷ [])) ⊎ First (branchVertices ls) (b ++ (L .t ∷ [])) → Next g ls
       go L hL a b e (inl x) y = absurd (x (L .s) (inl refl) (in-branch L ls (L .s) hL (inl refl)))
       go L hL a b e (inr x) (inl y) = absurd (y (L .t) (in-right (L .t) b (L .t ∷ []) (inl refl)) (in-branch L ls (L .t) hL (inr refl)))
@@ -233,7 +233,7 @@ module _ (g : Graph) (p : Simple g) (ls : List Link) (val : Recorded (Adj g) ls)
 
   -- (b) and (c): every vertex of the build is a branch vertex
   module _ (all-branch : (z : ℕ) → In z (builtVertices ls) → In z (branchVertices ls)) where
-    pub told : (x y : ℕ) → x ≢ y → ((M : Link) → In M ls → Apart (branchVertices ls) (vertices M) x y) ⊎ ((M : Link) × In M ls × Neighbours M x y)
+    pub told : (x y : ℕ) → x ≢ y → ((M : Path) → In M ls → Apart (branchVertices ls) (vertices M) x y) ⊎ ((M : Path) × In M ls × Neighbours M x y)
     told x y ne = apart-or-consecutive (branchVertices ls) x y ne ls (λ M h z k. all-branch z (in-built M ls z h k))
 
     -- a path outside the build, from x to y: it extends the build or is put in between x and y
@@ -241,7 +241,7 @@ module _ (g : Graph) (p : Simple g) (ls : List Link) (val : Recorded (Adj g) ls)
     extend-or-reroute x q y path hx hy new pos = ⊎-elim (λ a. extended (link x q y) (record { is-path = path; from = hx; upto = hy; new = new; apart = a }))
         (λ r. put (r .0) (in-split (r .0) ls (r .1)) (r .2)) (told x y (ends-differ (link x q y) (path .nodup)))
       where
-        put : (M : Link) → ((a : List Link) × (b : List Link) × (ls ≡ a ++ (M ∷ b))) → Neighbours M x y → Next g ls
+        put : (M : Path) → ((a : List Path) × (b : List Path) × (ls ≡ a ++ (M ∷ b))) → Neighbours M x y → Next g ls
         put M r (inl k) = rerouted-at (record { newer = r .0; L = M; older = r .1; place = r .2; x = x; y = y; consecutive = k; q = q; along = path .along; nodup = nodup-inner (link x q y) (path .nodup); new = new; some = pos })
         put M r (inr k) = rerouted-at
             (record { newer = r .0; L = M; older = r .1; place = r .2; x = y; y = x; consecutive = k; q = rev q; along = along-rev (Adj g) (p .symmetric) x q y (path .along); nodup = nodup-rev q (nodup-inner (link x q y) (path .nodup)); new = λ w h. new w (rev-in w q h); some = rw length-rev pos })
@@ -276,9 +276,9 @@ module _ (g : Graph) (p : Simple g) (ls : List Link) (val : Recorded (Adj g) ls)
     -- (c) EVERY VERTEX IS BUILT: an edge that is not used
     module _ (full : (z : ℕ) → z < g .n → In z (builtVertices ls)) where
       abbrev Used : ℕ → ℕ → Type 0
-      Used u v = (M : Link) × In M ls × Neighbours M u v
+      Used u v = (M : Path) × In M ls × Neighbours M u v
 
-      pub edge-step : (u v : ℕ) → Adj g u v → ((P : Link) × Extends (Adj g) ls P) ⊎ Used u v
+      pub edge-step : (u v : ℕ) → Adj g u v → ((P : Path) × Extends (Adj g) ls P) ⊎ Used u v
       edge-step u v k = ⊎-map
           (λ a. (link u [] v, record { is-path = record { along = k; nodup = ((λ h. ne (in-single u v h)), ((λ h. h), tt)) }; from = full u (p .low u v k); upto = full v (edge-high g p u v k); new = λ w h. absurd h; apart = a }))
           (λ r. r) (told u v ne)
@@ -288,9 +288,9 @@ module _ (g : Graph) (p : Simple g) (ls : List Link) (val : Recorded (Adj g) ls)
 
       edges-done : Next g ls
       edges-done = ⊎-elim (λ f. finished (record { all-branch = λ z h. all-branch z (full z h); used = λ u v k. f u (p .low u v k) v (edge-high g p u v k) k })) (λ r. extended (r .2 .2 .0) (r .2 .2 .1))
-          (scan (λ u. (v : ℕ) → v < g .n → Adj g u v → Used u v) (λ u. (v : ℕ) × (v < g .n) × ((P : Link) × Extends (Adj g) ls P)) (λ u. scan (λ v. Adj g u v → Used u v) (λ v. (P : Link) × Extends (Adj g) ls P) (one u) (g .n)) (g .n))
+          (scan (λ u. (v : ℕ) → v < g .n → Adj g u v → Used u v) (λ u. (v : ℕ) × (v < g .n) × ((P : Path) × Extends (Adj g) ls P)) (λ u. scan (λ v. Adj g u v → Used u v) (λ v. (P : Path) × Extends (Adj g) ls P) (one u) (g .n)) (g .n))
         where
-          one : (u v : ℕ) → (Adj g u v → Used u v) ⊎ ((P : Link) × Extends (Adj g) ls P)
+          one : (u v : ℕ) → (Adj g u v → Used u v) ⊎ ((P : Path) × Extends (Adj g) ls P)
           one u v = ⊎-elim (λ k. ⊎-elim inr (λ r. inl (λ j. r)) (edge-step u v k)) (λ n. inl (λ j. absurd (n j))) (either (true? (g .adj u v)))
 
     spread : Next g ls

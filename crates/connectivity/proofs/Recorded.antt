@@ -7,7 +7,7 @@ use Prim.Native.Nat.{ℕ, _<_, _+_}
 use native.Mathlib.Omega.{arith}
 use lib.ListN.{length, length-append}
 use Rattle.connectivity.specs.Lists.{In, NoDup}
-use Rattle.connectivity.specs.Path.{Link, IsPath, vertices, End, link, Along, usedEdges, pathEdges}
+use Rattle.connectivity.specs.Path.{Path, IsPath, vertices, End, link, Along, usedEdges, pathEdges}
 use Rattle.connectivity.specs.Build.{innerVertices, InBuild, endPairs}
 use Rattle.connectivity.proofs.Lists.{beside, nodup-left, nodup-right, nodup-apart, in-left, in-right, in-append, nodup-append}
 use Rattle.connectivity.proofs.Order.{Separates, Between, in-insert, insert-in, between-insert, nodup-insert}
@@ -19,44 +19,44 @@ abbrev pub Apart : List ℕ → List ℕ → ℕ → ℕ → Type 0
 Apart B l s t = In s l → In t l → (z : ℕ) × In z B × Separates z s t l
 
 -- a further path, said of whole paths
-pub record Extends (E : ℕ → ℕ → Type 0) (ls : List Link) (P : Link) : Type 0 where
+pub record Extends (E : ℕ → ℕ → Type 0) (ls : List Path) (P : Path) : Type 0 where
   pub is-path : IsPath E P
   pub from : In (P .s) (builtVertices ls)
   pub upto : In (P .t) (builtVertices ls)
   pub new : (w : ℕ) → In w (P .inner) → ¬ In w (builtVertices ls)
-  pub apart : (M : Link) → In M ls → Apart (branchVertices ls) (vertices M) (P .s) (P .t)
+  pub apart : (M : Path) → In M ls → Apart (branchVertices ls) (vertices M) (P .s) (P .t)
 
 -- THE RECORD: six paths of a start, and further ones.
-abbrev pub Recorded : (E : ℕ → ℕ → Type 0) → List Link → Type 0
+abbrev pub Recorded : (E : ℕ → ℕ → Type 0) → List Path → Type 0
 Recorded E [] = ⊥
 Recorded E (P ∷ ls) = Subdivision E (P ∷ ls) ⊎ (Extends E ls P × Recorded E ls)
 
-pub recorded-path : (E : ℕ → ℕ → Type 0) (ls : List Link) → Recorded E ls → (L : Link) → In L ls → IsPath E L
+pub recorded-path : (E : ℕ → ℕ → Type 0) (ls : List Path) → Recorded E ls → (L : Path) → In L ls → IsPath E L
 recorded-path E [] v L h = absurd h
 recorded-path E (P ∷ ls) (inl x) L h = start-path E (theFour x) (P ∷ ls) (x .paths) L h
 recorded-path E (P ∷ ls) (inr f) L (inl e) = rw e (f .0 .is-path)
 recorded-path E (P ∷ ls) (inr f) L (inr h) = recorded-path E ls (f .1) L h
 
 -- four different branch vertices
-pub recorded-four : (E : ℕ → ℕ → Type 0) (ls : List Link) → Recorded E ls → (B : List ℕ) × NoDup B × (length B ≡ 4) × ((w : ℕ) → In w B → In w (branchVertices ls))
+pub recorded-four : (E : ℕ → ℕ → Type 0) (ls : List Path) → Recorded E ls → (B : List ℕ) × NoDup B × (length B ≡ 4) × ((w : ℕ) → In w B → In w (branchVertices ls))
 recorded-four E [] v = absurd v
 recorded-four E (P ∷ ls) (inl x) = (theFour x, subdivision-differ E (P ∷ ls) x, refl, four-branch E (P ∷ ls) x)
 recorded-four E (P ∷ ls) (inr f) = let r = recorded-four E ls (f .1) in (r .0, r .1, r .2, λ w h. inr (inr (r .3 w h)))
 
 -- a branch vertex that is not in a list of at most three
-pub branch-beside : (E : ℕ → ℕ → Type 0) (ls : List Link) → Recorded E ls → (l : List ℕ) → length l < 4 → (z : ℕ) × In z (branchVertices ls) × (¬ In z l)
+pub branch-beside : (E : ℕ → ℕ → Type 0) (ls : List Path) → Recorded E ls → (l : List ℕ) → length l < 4 → (z : ℕ) × In z (branchVertices ls) × (¬ In z l)
 branch-beside E ls v l h = let r = recorded-four E ls v in let z = beside (r .0) l (r .1) (omega (arith, r .2)) in (z .0, r .3 (z .0) (z .1), z .2)
 
 -- inner vertices are new when their path is taken
-abbrev Fresh : List Link → Type 0
+abbrev Fresh : List Path → Type 0
 Fresh [] = Unit {0}
 Fresh (P ∷ ls) = ((w : ℕ) → In w (P .inner) → ¬ In w (builtVertices ls)) × Fresh ls
 
-recorded-fresh : (E : ℕ → ℕ → Type 0) (ls : List Link) → Recorded E ls → Fresh ls
+recorded-fresh : (E : ℕ → ℕ → Type 0) (ls : List Path) → Recorded E ls → Fresh ls
 recorded-fresh E [] v = tt
 recorded-fresh E (P ∷ ls) (inl x) = of (P ∷ ls) (λ L h. h) (nodup-left (innerVertices (P ∷ ls)) (theFour x) (x .paths .nodup))
   where
-    of : (ms : List Link) → ((L : Link) → In L ms → In L (P ∷ ls)) → NoDup (innerVertices ms) → Fresh ms
+    of : (ms : List Path) → ((L : Path) → In L ms → In L (P ∷ ls)) → NoDup (innerVertices ms) → Fresh ms
     of [] f nd = tt
     of (M ∷ ms) f nd = ((λ w h k. off w h (built-in ms w k)), of ms (λ L h. f L (inr h)) (nodup-right (M .inner) (innerVertices ms) nd))
       where
@@ -66,13 +66,13 @@ recorded-fresh E (P ∷ ls) (inl x) = of (P ∷ ls) (λ L h. h) (nodup-left (inn
 recorded-fresh E (P ∷ ls) (inr f) = (f .0 .new, recorded-fresh E ls (f .1))
 
 -- a vertex that is no branch vertex is on one path only
-pub recorded-sole : (E : ℕ → ℕ → Type 0) (ls : List Link) → Recorded E ls → (L M : Link) → In L ls → In M ls → (w : ℕ) → In w (vertices L) → In w (vertices M) → ¬ In w (branchVertices ls) → L ≡ M
+pub recorded-sole : (E : ℕ → ℕ → Type 0) (ls : List Path) → Recorded E ls → (L M : Path) → In L ls → In M ls → (w : ℕ) → In w (vertices L) → In w (vertices M) → ¬ In w (branchVertices ls) → L ≡ M
 recorded-sole E ls v = sole ls (recorded-fresh E ls v)
   where
-    not-end : (P : Link) (ls : List Link) (w : ℕ) → ¬ In w (branchVertices (P ∷ ls)) → ¬ End w P
+    not-end : (P : Path) (ls : List Path) (w : ℕ) → ¬ In w (branchVertices (P ∷ ls)) → ¬ End w P
     not-end P ls w n e = n (⊎-map (λ k. k) inl e)
 
-    sole : (ls : List Link) → Fresh ls → (L M : Link) → In L ls → In M ls → (w : ℕ) → In w (vertices L) → In w (vertices M) → ¬ In w (branchVertices ls) → L ≡ M
+    sole : (ls : List Path) → Fresh ls → (L M : Path) → In L ls → In M ls → (w : ℕ) → In w (vertices L) → In w (vertices M) → ¬ In w (branchVertices ls) → L ≡ M
     sole [] f L M hL hM w a b n = absurd hL
     sole (P ∷ ls) f L M (inl e) (inl k) w a b n = e ∙ sym k
     sole (P ∷ ls) f L M (inl e) (inr k) w a b n = absurd (f .0 w (inner-of P w (rw e at a) (not-end P ls w n)) (in-built M ls w k b))
@@ -80,7 +80,7 @@ recorded-sole E ls v = sole ls (recorded-fresh E ls v)
     sole (P ∷ ls) f L M (inr e) (inr k) w a b n = sole ls (f .1) L M e k w a b (λ j. n (inr (inr j)))
 
 -- THE REROUTE. M is L with vertices of q put in.
-pub record Wider (q : List ℕ) (L M : Link) : Type 0 where
+pub record Wider (q : List ℕ) (L M : Path) : Type 0 where
   pub s-eq : M .s ≡ L .s
   pub t-eq : M .t ≡ L .t
   pub keep : (w : ℕ) → In w (vertices L) → In w (vertices M)
@@ -88,48 +88,48 @@ pub record Wider (q : List ℕ) (L M : Link) : Type 0 where
   pub between : (s z t : ℕ) → Between s z t (vertices L) → Between s z t (vertices M)
   pub inner : (w : ℕ) → In w (M .inner) → In w (L .inner) ⊎ In w q
 
-data Grow (q : List ℕ) : List Link → List Link → Type 0 where
+data Grow (q : List ℕ) : List Path → List Path → Type 0 where
   none : Grow q [] []
-  both : {L M : Link} {ls ms : List Link} → Wider q L M → Grow q ls ms → Grow q (L ∷ ls) (M ∷ ms)
+  both : {L M : Path} {ls ms : List Path} → Wider q L M → Grow q ls ms → Grow q (L ∷ ls) (M ∷ ms)
 
-grow-refl : (q : List ℕ) (ls : List Link) → Grow q ls ls
+grow-refl : (q : List ℕ) (ls : List Path) → Grow q ls ls
 grow-refl q [] = none
 grow-refl q (L ∷ ls) = both (record { s-eq = refl; t-eq = refl; keep = λ w h. h; only = λ w h. inl h; between = λ s z t h. h; inner = λ w h. inl h }) (grow-refl q ls)
 
-grow-at : (q : List ℕ) (newer : List Link) (L M : Link) (older : List Link) → Wider q L M → Grow q (newer ++ (L ∷ older)) (newer ++ (M ∷ older))
+grow-at : (q : List ℕ) (newer : List Path) (L M : Path) (older : List Path) → Wider q L M → Grow q (newer ++ (L ∷ older)) (newer ++ (M ∷ older))
 grow-at q [] L M older w = both w (grow-refl q older)
 grow-at q (P ∷ newer) L M older w = both (record { s-eq = refl; t-eq = refl; keep = λ w h. h; only = λ w h. inl h; between = λ s z t h. h; inner = λ w h. inl h }) (grow-at q newer L M older w)
 
-grow-keep : {q : List ℕ} {ls ms : List Link} → Grow q ls ms → (w : ℕ) → In w (builtVertices ls) → In w (builtVertices ms)
+grow-keep : {q : List ℕ} {ls ms : List Path} → Grow q ls ms → (w : ℕ) → In w (builtVertices ls) → In w (builtVertices ms)
 grow-keep none w h = h
 grow-keep (both {L = L} {M = M} {ls = ls} {ms = ms} a g) w h = ⊎-elim (λ k. in-left w (vertices M) (builtVertices ms) (a .keep w k)) (λ k. in-right w (vertices M) (builtVertices ms) (grow-keep g w k)) (in-append w (vertices L) (builtVertices ls) h)
 
-grow-only : {q : List ℕ} {ls ms : List Link} → Grow q ls ms → (w : ℕ) → In w (builtVertices ms) → In w (builtVertices ls) ⊎ In w q
+grow-only : {q : List ℕ} {ls ms : List Path} → Grow q ls ms → (w : ℕ) → In w (builtVertices ms) → In w (builtVertices ls) ⊎ In w q
 grow-only none w h = inl h
 grow-only (both {L = L} {M = M} {ls = ls} {ms = ms} a g) w h = ⊎-elim (λ k. ⊎-map (in-left w (vertices L) (builtVertices ls)) (λ j. j) (a .only w k))
     (λ k. ⊎-map (in-right w (vertices L) (builtVertices ls)) (λ j. j) (grow-only g w k)) (in-append w (vertices M) (builtVertices ms) h)
 
-grow-branch : {q : List ℕ} {ls ms : List Link} → Grow q ls ms → branchVertices ms ≡ branchVertices ls
+grow-branch : {q : List ℕ} {ls ms : List Path} → Grow q ls ms → branchVertices ms ≡ branchVertices ls
 grow-branch none = refl
 grow-branch (both a g) = rw (a .s-eq, a .t-eq, grow-branch g)
 
-grow-ends : {q : List ℕ} {ls ms : List Link} → Grow q ls ms → endPairs ms ≡ endPairs ls
+grow-ends : {q : List ℕ} {ls ms : List Path} → Grow q ls ms → endPairs ms ≡ endPairs ls
 grow-ends none = refl
 grow-ends (both a g) = rw (a .s-eq, a .t-eq, grow-ends g)
 
-grow-inner : {q : List ℕ} {ls ms : List Link} → Grow q ls ms → (w : ℕ) → In w (innerVertices ms) → In w (innerVertices ls) ⊎ In w q
+grow-inner : {q : List ℕ} {ls ms : List Path} → Grow q ls ms → (w : ℕ) → In w (innerVertices ms) → In w (innerVertices ls) ⊎ In w q
 grow-inner none w h = inl h
 grow-inner (both {L = L} {M = M} {ls = ls} {ms = ms} a g) w h = ⊎-elim (λ k. ⊎-map (in-left w (L .inner) (innerVertices ls)) (λ j. j) (a .inner w k))
     (λ k. ⊎-map (in-right w (L .inner) (innerVertices ls)) (λ j. j) (grow-inner g w k)) (in-append w (M .inner) (innerVertices ms) h)
 
-grow-old : {q : List ℕ} {ls ms : List Link} → Grow q ls ms → (M : Link) → In M ms → (L : Link) × In L ls × Wider q L M
+grow-old : {q : List ℕ} {ls ms : List Path} → Grow q ls ms → (M : Path) → In M ms → (L : Path) × In L ls × Wider q L M
 grow-old none M h = absurd h
 grow-old (both {L = L} a g) M (inl e) = (L, inl refl, rw e a)
 grow-old (both a g) M (inr h) = let r = grow-old g M h in (r .0, inr (r .1), r .2)
 
 module _ (E : ℕ → ℕ → Type 0) (q : List ℕ) where
   -- a path that extends the list extends the wider list
-  extends-grow : (ls ms : List Link) (P : Link) → Grow q ls ms → Extends E ls P → ((w : ℕ) → In w q → ¬ In w (vertices P)) → Extends E ms P
+  extends-grow : (ls ms : List Path) (P : Path) → Grow q ls ms → Extends E ls P → ((w : ℕ) → In w q → ¬ In w (vertices P)) → Extends E ms P
   extends-grow ls ms P g f n = record {
     is-path = f .is-path;
     from = grow-keep g (P .s) (f .from);
@@ -138,16 +138,16 @@ module _ (E : ℕ → ℕ → Type 0) (q : List ℕ) where
     apart = λ M h. apart M (grow-old g M h);
   }
     where
-      old : (L M : Link) → Wider q L M → (w : ℕ) → In w (vertices P) → In w (vertices M) → In w (vertices L)
+      old : (L M : Path) → Wider q L M → (w : ℕ) → In w (vertices P) → In w (vertices M) → In w (vertices L)
       old L M a w p h = ⊎-elim (λ k. k) (λ k. absurd (n w k p)) (a .only w h)
 
-      apart : (M : Link) → ((L : Link) × In L ls × Wider q L M) → Apart (branchVertices ms) (vertices M) (P .s) (P .t)
+      apart : (M : Path) → ((L : Path) × In L ls × Wider q L M) → Apart (branchVertices ms) (vertices M) (P .s) (P .t)
       apart M r hs ht =
           let c = f .apart (r .0) (r .1) (old (r .0) M (r .2) (P .s) (end-s P) hs) (old (r .0) M (r .2) (P .t) (end-t P) ht) in
           (c .0, rw (grow-branch g) (c .1), ⊎-map (r .2 .between (P .s) (c .0) (P .t)) (r .2 .between (P .t) (c .0) (P .s)) (c .2))
 
   -- the widened path extends where the old one did
-  extends-self : (ls : List Link) (L M : Link) → Wider q L M → IsPath E M → Extends E ls L → ((w : ℕ) → In w q → ¬ In w (builtVertices ls)) → Extends E ls M
+  extends-self : (ls : List Path) (L M : Path) → Wider q L M → IsPath E M → Extends E ls L → ((w : ℕ) → In w q → ¬ In w (builtVertices ls)) → Extends E ls M
   extends-self ls L M a path f n = record {
     is-path = path;
     from = rw (a .s-eq) (f .from);
@@ -156,8 +156,8 @@ module _ (E : ℕ → ℕ → Type 0) (q : List ℕ) where
     apart = λ N h. rw (a .s-eq, a .t-eq) (f .apart N h);
   }
 
-  module _ (L M : Link) (older : List Link) (a : Wider q L M) (path : IsPath E M) where
-    inner-nodup : (B : List ℕ) (newer : List Link) → NoDup (innerVertices (newer ++ (L ∷ older)) ++ B) → ((w : ℕ) → In w q → ¬ In w (innerVertices (newer ++ (L ∷ older)) ++ B)) → NoDup (innerVertices (newer ++ (M ∷ older)) ++ B)
+  module _ (L M : Path) (older : List Path) (a : Wider q L M) (path : IsPath E M) where
+    inner-nodup : (B : List ℕ) (newer : List Path) → NoDup (innerVertices (newer ++ (L ∷ older)) ++ B) → ((w : ℕ) → In w q → ¬ In w (innerVertices (newer ++ (L ∷ older)) ++ B)) → NoDup (innerVertices (newer ++ (M ∷ older)) ++ B)
     inner-nodup B [] nd n =
         let k : NoDup (L .inner ++ (innerVertices older ++ B)) = rw append-assoc at nd in
         rw append-assoc (nodup-append (M .inner) (innerVertices older ++ B) (nodup-inner M (path .nodup)) (nodup-right (L .inner) (innerVertices older ++ B) k)
@@ -175,7 +175,7 @@ module _ (E : ℕ → ℕ → Type 0) (q : List ℕ) where
         off w h k n′ (inl j) = ⊎-elim (λ i. nodup-apart (P .inner) (innerVertices (newer ++ (L ∷ older)) ++ B) k w h (in-left w (innerVertices (newer ++ (L ∷ older))) B i))
             (λ i. n′ w i (in-left w (P .inner) (innerVertices (newer ++ (L ∷ older)) ++ B) h)) (grow-inner (grow-at q newer L M older a) w j)
 
-    subdivision-replace : (newer : List Link) → ((w : ℕ) → In w q → ¬ In w (builtVertices (newer ++ (L ∷ older)))) → Subdivision E (newer ++ (L ∷ older)) → Subdivision E (newer ++ (M ∷ older))
+    subdivision-replace : (newer : List Path) → ((w : ℕ) → In w q → ¬ In w (builtVertices (newer ++ (L ∷ older)))) → Subdivision E (newer ++ (L ∷ older)) → Subdivision E (newer ++ (M ∷ older))
     subdivision-replace newer n x = record {
       p = x .p;
       q = x .q;
@@ -192,7 +192,7 @@ module _ (E : ℕ → ℕ → Type 0) (q : List ℕ) where
       };
     }
 
-    recorded-replace : (newer : List Link) → ((w : ℕ) → In w q → ¬ In w (builtVertices (newer ++ (L ∷ older)))) → Recorded E (newer ++ (L ∷ older)) → Recorded E (newer ++ (M ∷ older))
+    recorded-replace : (newer : List Path) → ((w : ℕ) → In w q → ¬ In w (builtVertices (newer ++ (L ∷ older)))) → Recorded E (newer ++ (L ∷ older)) → Recorded E (newer ++ (M ∷ older))
     recorded-replace [] n (inl x) = inl (subdivision-replace [] n x)
     recorded-replace [] n (inr f) = inr (extends-self older L M a path (f .0) (λ w h k. n w h (in-right w (vertices L) (builtVertices older) k)), f .1)
     recorded-replace (P ∷ newer) n (inl x) = inl (subdivision-replace (P ∷ newer) n x)
@@ -202,7 +202,7 @@ module _ (E : ℕ → ℕ → Type 0) (q : List ℕ) where
     )
 
 -- the path with q put in behind the first part of its inner vertices
-abbrev pub fill : Link → List ℕ → List ℕ → List ℕ → Link
+abbrev pub fill : Path → List ℕ → List ℕ → List ℕ → Path
 fill L u q v = link (L .s) (u ++ (q ++ v)) (L .t)
 
 along-fill : (E : ℕ → ℕ → Type 0) (s : ℕ) (u q v : List ℕ) (t : ℕ) → Along E s (u ++ v) t → Along E (lastOf s u) q (headOf v t) → Along E s (u ++ (q ++ v)) t
@@ -210,7 +210,7 @@ along-fill E s [] q [] t a b = rw append-nil b
 along-fill E s [] q (c ∷ v) t a b = along-join E s q c v t b (a .1)
 along-fill E s (c ∷ u) q v t a b = (a .0, along-fill E c u q v t (a .1) b)
 
-module _ (L : Link) (u q v : List ℕ) (e : L .inner ≡ u ++ v) where
+module _ (L : Path) (u q v : List ℕ) (e : L .inner ≡ u ++ v) where
   old-vertices : vertices L ≡ (L .s ∷ u) ++ (v ++ (L .t ∷ []))
   old-vertices = rw e (ap (λ (k : List ℕ). L .s ∷ k) (append-assoc u v (L .t ∷ [])))
 
@@ -234,9 +234,9 @@ module _ (L : Link) (u q v : List ℕ) (e : L .inner ≡ u ++ v) where
   }
 
 -- x and y are neighbours on the path L of the record newer ++ (L ∷ older); the new vertices q lead from x to y
-module _ (E : ℕ → ℕ → Type 0) (newer : List Link) (L : Link) (older : List Link) (val : Recorded E (newer ++ (L ∷ older))) (x y : ℕ) (g : Consecutive L x y)
+module _ (E : ℕ → ℕ → Type 0) (newer : List Path) (L : Path) (older : List Path) (val : Recorded E (newer ++ (L ∷ older))) (x y : ℕ) (g : Consecutive L x y)
     (q : List ℕ) (along : Along E x q y) (nodup : NoDup q) (new : (w : ℕ) → In w q → ¬ In w (builtVertices (newer ++ (L ∷ older)))) where
-  abbrev pub rerouted : List Link
+  abbrev pub rerouted : List Path
   rerouted = newer ++ (fill L (g .u) q (g .v) ∷ older)
 
   pub reroute-branch : branchVertices rerouted ≡ branchVertices (newer ++ (L ∷ older))
@@ -252,12 +252,12 @@ module _ (E : ℕ → ℕ → Type 0) (newer : List Link) (L : Link) (older : Li
   pub reroute-longer : length (usedEdges rerouted) ≡ length (usedEdges (newer ++ (L ∷ older))) + length q
   reroute-longer = go newer
     where
-      M : Link
+      M : Path
       M = fill L (g .u) q (g .v)
 
       filled-length : length (M .inner) ≡ length (L .inner) + length q
       filled-length = omega (arith, length-append (g .u) (q ++ g .v), length-append q (g .v), length-append (g .u) (g .v), ap length (g .cut))
 
-      go : (newer : List Link) → length (usedEdges (newer ++ (fill L (g .u) q (g .v) ∷ older))) ≡ length (usedEdges (newer ++ (L ∷ older))) + length q
+      go : (newer : List Path) → length (usedEdges (newer ++ (fill L (g .u) q (g .v) ∷ older))) ≡ length (usedEdges (newer ++ (L ∷ older))) + length q
       go [] = omega (arith, filled-length, length-append (pathEdges L) (usedEdges older), length-append (pathEdges (fill L (g .u) q (g .v))) (usedEdges older), length-path L, length-path (fill L (g .u) q (g .v)))
       go (P ∷ newer) = let ih = go newer in omega (arith, length-append (pathEdges P) (usedEdges (newer ++ (L ∷ older))), length-append (pathEdges P) (usedEdges (newer ++ (fill L (g .u) q (g .v) ∷ older))))

@@ -9,13 +9,13 @@ use native.Mathlib.Omega.{arith}
 use lib.ListN.{length}
 use Rattle.connectivity.specs.Lists.{In, NoDup, select, below}
 use Rattle.connectivity.specs.Graph.{Graph, Adj, Simple}
-use Rattle.connectivity.specs.Path.{Link, IsPath, Along, link, vertices}
+use Rattle.connectivity.specs.Path.{Path, IsPath, Along, link, vertices}
 use Rattle.connectivity.proofs.Lists.{nodup-snoc, in-single, in-append, in?, true?, isYes, yes-true, no-false, true-yes, or?, scan, at-most, select-nodup, nodup-below, in-below, select-in, in-select, below-in}
 use Rattle.connectivity.proofs.Paths.{along-join, end-or-inner}
 use Rattle.connectivity.proofs.Edges.{edge-high}
 
 pub record Found (g : Graph) (S G R : ℕ → Type 0) : Type 0 where
-  pub path : Link
+  pub path : Path
   pub is-path : IsPath (Adj g) path
   pub seed : S (path .s)
   pub goal : G (path .t)
@@ -142,7 +142,7 @@ module _ (g : Graph) (p : Simple g) (S G R : ℕ → Type 0) (sdec : (w : ℕ) �
 
 -- a found path, and an edge before it
 module _ (g : Graph) (p : Simple g) (G : ℕ → Type 0) (x c : ℕ) (k : Adj g x c) (f : Found g (λ v. v ≡ c) G (λ v. In v (x ∷ []))) where
-  abbrev pub detour : Link
+  abbrev pub detour : Path
   detour = link x (f .path .s ∷ f .path .inner) (f .path .t)
 
   pub detour-path : ((v : ℕ) → G v → v ≢ x) → IsPath (Adj g) detour

@@ -8,7 +8,7 @@ use lib.ListN.{length}
 use Rattle.connectivity.specs.Lists.{In, NoDup, all}
 use Rattle.connectivity.specs.Graph.{Graph, Simple, Walk, stay, hop, AllConnected, Adj, Separator, HasConnectivity}
 use Rattle.connectivity.specs.Connectivity.{connectivity}
-use Rattle.connectivity.specs.Path.{Link, IsPath, vertices, End}
+use Rattle.connectivity.specs.Path.{Path, IsPath, vertices, End}
 use Rattle.connectivity.specs.Build.{Steps, IsBranch, final}
 use Rattle.connectivity.specs.Certificate.{Separation, Tree, Cycle, Ear, Ears, inside, Certificate, Rules, kind, separation, tree, ears, build}
 use Rattle.connectivity.proofs.Lists.{either, in?, in-single, full, in-append}
@@ -75,14 +75,14 @@ module _ (g : Graph) (p : Simple g) where
   StayConnected B = (c u v : ℕ) → In u B → In v B → u ≢ c → v ≢ c → Connected (Adj g) c c u v
 
   -- along a path to an end of it
-  to-end : (P : Link) → IsPath (Adj g) P → (c u : ℕ) → In u (vertices P) → u ≢ c → (z : ℕ) × End z P × (z ≢ c) × Connected (Adj g) c c u z
+  to-end : (P : Path) → IsPath (Adj g) P → (c u : ℕ) → In u (vertices P) → u ≢ c → (z : ℕ) × End z P × (z ≢ c) × Connected (Adj g) c c u z
   to-end P path c u h ne = ⊎-elim (λ r. (r .0, r .1, r .2 .0, r .3)) (λ r. absurd (r .2 refl)) (reach-end (Adj g) (p .symmetric) c c P u path h (ne, ne))
 
   -- from u to x and from v to z, and between the two
   by-way : (c : ℕ) {u v x z : ℕ} → Connected (Adj g) c c u x → Connected (Adj g) c c x z → Connected (Adj g) c c v z → Connected (Adj g) c c u v
   by-way c a b k = connected-trans (Adj g) (p .symmetric) c c a (connected-trans (Adj g) (p .symmetric) c c b (connected-back (Adj g) (p .symmetric) c c k))
 
-  cycle-connected : (P : Link) → Cycle g P → StayConnected (vertices P)
+  cycle-connected : (P : Path) → Cycle g P → StayConnected (vertices P)
   cycle-connected P y c u v hu hv nu nv =
       let a = to-end P (y .is-path) c u hu nu in
       let b = to-end P (y .is-path) c v hv nv in
@@ -94,7 +94,7 @@ module _ (g : Graph) (p : Simple g) where
       ends x z (inl e) (inr k) nx nz = move {u = x} {v = z} (rw (e, k) (p .symmetric (P .t) (P .s) (y .closes))) (nx, nx) (nz, nz) here
       ends x z (inr e) (inl k) nx nz = move {u = x} {v = z} (rw (e, k) (y .closes)) (nx, nx) (nz, nz) here
 
-  ear-connected : (B : List ℕ) (P : Link) → Ear g B P → StayConnected B → StayConnected (P .inner ++ B)
+  ear-connected : (B : List ℕ) (P : Path) → Ear g B P → StayConnected B → StayConnected (P .inner ++ B)
   ear-connected B P y f c u v hu hv nu nv =
       let a = to u (in-append u (P .inner) B hu) nu in
       let b = to v (in-append v (P .inner) B hv) nv in
@@ -108,16 +108,16 @@ module _ (g : Graph) (p : Simple g) where
       to w (inr h) ne = (w, h, ne, here)
       to w (inl h) ne = let r = to-end P (y .is-path) c w (inner-in w P h) ne in (r .0, at (r .0) (r .1), r .2, r .3)
 
-  ears-stay : (B : List ℕ) (es : List Link) → Ears g B es → StayConnected B → StayConnected (inside B es)
+  ears-stay : (B : List ℕ) (es : List Path) → Ears g B es → StayConnected B → StayConnected (inside B es)
   ears-stay B [] y f = f
   ears-stay B (P ∷ es) y f = ears-stay (P .inner ++ B) es (y .1) (ear-connected B P (y .0) f)
 
-  pub ears-connected : (P : Link) (es : List Link) → Cycle g P → Ears g (vertices P) es → ((z : ℕ) → z < g .n → In z (inside (vertices P) es)) → (c : ℕ) → AllConnected g (c ∷ [])
+  pub ears-connected : (P : Path) (es : List Path) → Cycle g P → Ears g (vertices P) es → ((z : ℕ) → z < g .n → In z (inside (vertices P) es)) → (c : ℕ) → AllConnected g (c ∷ [])
   ears-connected P es y k all c u v hu hv =
       connected-walk {d = c} (λ w h. inl (in-single w c h)) (ears-stay (vertices P) es k (cycle-connected P y) c u v (all u (hu .0)) (all v (hv .0)) (λ e. hu .1 (inl e)) (λ e. hv .1 (inl e)))
 
   -- BUILD: no two vertices separate the graph.
-  pub build-connected : (start further : List Link) → Subdivision (Adj g) start → Steps (Adj g) start further → ((z : ℕ) → z < g .n → IsBranch z (final start further)) → (c d : ℕ) → AllConnected g (c ∷ (d ∷ []))
+  pub build-connected : (start further : List Path) → Subdivision (Adj g) start → Steps (Adj g) start further → ((z : ℕ) → z < g .n → IsBranch z (final start further)) → (c d : ℕ) → AllConnected g (c ∷ (d ∷ []))
   build-connected start further x steps all c d u v hu hv =
       let r = steps-invariant (Adj g) (p .symmetric) (theFour x) start further (start-invariant (Adj g) start x (p .symmetric)) steps in
       let i = all u (hu .0) in
@@ -134,13 +134,13 @@ module _ (g : Graph) (p : Simple g) where
   pub tree-none : (f : ℕ) (ps : List (ℕ × ℕ)) → f < g .n → length ps ≡ g .n - 1 → Tree g (f ∷ []) ps → ¬ Separator g 0
   tree-none f ps low count t = no-separator-0 g (tree-connected f ps low count t)
 
-  pub ears-none : (P : Link) (es : List Link) → Cycle g P → Ears g (vertices P) es → ((z : ℕ) → z < g .n → In z (inside (vertices P) es)) → (¬ Separator g 0) × (¬ Separator g 1)
+  pub ears-none : (P : Path) (es : List Path) → Cycle g P → Ears g (vertices P) es → ((z : ℕ) → z < g .n → In z (inside (vertices P) es)) → (¬ Separator g 0) × (¬ Separator g 1)
   ears-none P es y k all = (no-separator-0 g (all-connected-0 g p one), no-separator-1 g one)
     where
       one : (c : ℕ) → c < g .n → AllConnected g (c ∷ [])
       one c h = ears-connected P es y k all c
 
-  pub build-has-3 : (start further : List Link) → Subdivision (Adj g) start → Steps (Adj g) start further → ((z : ℕ) → z < g .n → IsBranch z (final start further)) → HasConnectivity g 3
+  pub build-has-3 : (start further : List Path) → Subdivision (Adj g) start → Steps (Adj g) start further → ((z : ℕ) → z < g .n → IsBranch z (final start further)) → HasConnectivity g 3
   build-has-3 start further x steps all = has-3 g (no-separator-0 g (all-connected-0 g p (all-connected-1 g p two))) (no-separator-1 g (all-connected-1 g p two)) (no-separator-2 g two)
     where
       two : (c d : ℕ) → c < g .n → d < g .n → c ≢ d → AllConnected g (c ∷ (d ∷ []))

@@ -10,7 +10,7 @@ use lib.Dec.{eqb}
 use borrow.Author.Tests.{eqb-true, eq-eqb}
 use Rattle.connectivity.specs.Lists.{In}
 use Rattle.connectivity.specs.Graph.{edges, isPair}
-use Rattle.connectivity.specs.Path.{Link, link, vertices, edge}
+use Rattle.connectivity.specs.Path.{Path, link, vertices, edge}
 use Rattle.connectivity.specs.Build.{IsBranch, four, sixPairs, endPairs, linkEnds}
 use Rattle.connectivity.specs.TopologicalGraph.{TGraph, IsSimple, SameMembers, SameGraph, addEdge, without, subdivide, VertexVertex, EdgeVertex, EdgeEdge, Addition, vertex-vertex, edge-vertex, edge-edge, BGSequence, none, then, complete, endsOf, topological}
 use Rattle.connectivity.proofs.Lists.{clash, and-true}
@@ -78,24 +78,24 @@ same-subdivide {G} {H} a b v e =
     record { vertices = members-cons v (G .vertices) (H .vertices) (e .vertices); edges = members-cons (edge a v) (edge v b ∷ without f (G .edges)) (edge v b ∷ without f (H .edges)) x }
 
 -- The vertices and the edges of a topological graph.
-pub branch-vertex : (ls : List Link) (z : ℕ) → IsBranch z ls → In z (endsOf (endPairs ls))
+pub branch-vertex : (ls : List Path) (z : ℕ) → IsBranch z ls → In z (endsOf (endPairs ls))
 branch-vertex [] z r = absurd (r .1)
 branch-vertex (M ∷ ls) z (L, inl i, inl e) = inl (rw i at e)
 branch-vertex (M ∷ ls) z (L, inl i, inr e) = inr (inl (rw i at e))
 branch-vertex (M ∷ ls) z (L, inr h, e) = inr (inr (branch-vertex ls z (L, h, e)))
 
-pub vertex-branch : (ls : List Link) (z : ℕ) → In z (endsOf (endPairs ls)) → IsBranch z ls
+pub vertex-branch : (ls : List Path) (z : ℕ) → In z (endsOf (endPairs ls)) → IsBranch z ls
 vertex-branch [] z h = absurd h
 vertex-branch (L ∷ ls) z (inl e) = (L, inl refl, inl e)
 vertex-branch (L ∷ ls) z (inr (inl e)) = (L, inl refl, inr e)
 vertex-branch (L ∷ ls) z (inr (inr h)) = let r = vertex-branch ls z h in (r .0, inr (r .1), r .2)
 
-pub link-edge : (ls : List Link) (L : Link) → In L ls → In (edge (L .s) (L .t)) (linkEnds ls)
+pub link-edge : (ls : List Path) (L : Path) → In L ls → In (edge (L .s) (L .t)) (linkEnds ls)
 link-edge [] L h = absurd h
-link-edge (M ∷ ls) L (inl e) = inl (ap (λ (k : Link). edge (k .s) (k .t)) e)
+link-edge (M ∷ ls) L (inl e) = inl (ap (λ (k : Path). edge (k .s) (k .t)) e)
 link-edge (M ∷ ls) L (inr h) = inr (link-edge ls L h)
 
-pub edge-link : (ls : List Link) (e : ℕ × ℕ) → In e (linkEnds ls) → (L : Link) × In L ls × (e ≡ edge (L .s) (L .t))
+pub edge-link : (ls : List Path) (e : ℕ × ℕ) → In e (linkEnds ls) → (L : Path) × In L ls × (e ≡ edge (L .s) (L .t))
 edge-link [] e h = absurd h
 edge-link (L ∷ ls) e (inl k) = (L, inl refl, k)
 edge-link (L ∷ ls) e (inr h) = let r = edge-link ls e h in (r .0, inr (r .1), r .2)
@@ -111,7 +111,7 @@ edge-ends u v l hu hv = go (ℕ-discrete (min u v) u)
     go (no e) = let j : min u v ≡ v = omega arith in let k : max u v ≡ u = omega arith in (rw j hv, rw k hu)
 
 -- A link whose ends are vertices of the graph is one more edge.
-pub link-added : (ls : List Link) (G : TGraph) (P : Link) → SameGraph (topological ls) G → In (P .s) (G .vertices) → In (P .t) (G .vertices) → SameGraph (topological (P ∷ ls)) (addEdge G (P .s) (P .t))
+pub link-added : (ls : List Path) (G : TGraph) (P : Path) → SameGraph (topological ls) G → In (P .s) (G .vertices) → In (P .t) (G .vertices) → SameGraph (topological (P ∷ ls)) (addEdge G (P .s) (P .t))
 link-added ls G P e hs ht = record { vertices = (into, λ z h. inr (inr (e .vertices .1 z h))); edges = members-cons (edge (P .s) (P .t)) (linkEnds ls) (G .edges) (e .edges) }
   where
     into : (z : ℕ) → In z (P .s ∷ (P .t ∷ endsOf (endPairs ls))) → In z (G .vertices)
@@ -124,7 +124,7 @@ abbrev unordered : List (ℕ × ℕ) → List (ℕ × ℕ)
 unordered [] = []
 unordered (e ∷ es) = edge (e .0) (e .1) ∷ unordered es
 
-linkEnds-pairs : (ls : List Link) → linkEnds ls ≡ unordered (endPairs ls)
+linkEnds-pairs : (ls : List Path) → linkEnds ls ≡ unordered (endPairs ls)
 linkEnds-pairs [] = refl
 linkEnds-pairs (L ∷ ls) = ap (λ (k : List (ℕ × ℕ)). edge (L .s) (L .t) ∷ k) (linkEnds-pairs ls)
 
@@ -156,7 +156,7 @@ four-ends p q r s = (
     is : In s (four p q r s)
     is = inr (inr (inr (inl refl)))
 
-pub start-complete : (ls : List Link) (p q r s : ℕ) → endPairs ls ≡ sixPairs p q r s → SameGraph (complete p q r s) (topological ls)
+pub start-complete : (ls : List Path) (p q r s : ℕ) → endPairs ls ≡ sixPairs p q r s → SameGraph (complete p q r s) (topological ls)
 start-complete ls p q r s e = record {
   vertices = subst (λ (k : List (ℕ × ℕ)). SameMembers (four p q r s) (endsOf k)) (sym e) (four-ends p q r s);
   edges = subst (λ (k : List (ℕ × ℕ)). SameMembers (unordered (sixPairs p q r s)) k) (sym (linkEnds-pairs ls ∙ ap unordered e)) (members-refl (unordered (sixPairs p q r s)));

@@ -6,7 +6,7 @@ use Prim.Native.Nat.{ℕ}
 use native.Mathlib.Decide.{ℕ-discrete}
 use Rattle.connectivity.specs.Lists.{In, NoDup}
 use Rattle.connectivity.specs.Graph.{Graph, Walk, stay, hop, Simple, Adj}
-use Rattle.connectivity.specs.Path.{Along, Link, End, vertices, IsPath}
+use Rattle.connectivity.specs.Path.{Along, Path, End, vertices, IsPath}
 use Rattle.connectivity.proofs.Lists.{meet-once, in-right, in-widen, in-split}
 use Rattle.connectivity.proofs.Paths.{end-or-inner, along-cut}
 
@@ -71,7 +71,7 @@ along-connected E c d s [] t w f = move w (f s (inl refl)) (f t (inr (inl refl))
 along-connected E c d s (a ∷ l) t w f = move (w .0) (f s (inl refl)) (f a (inr (inl refl))) (along-connected E c d a l t (w .1) (λ u m. f u (inr m)))
 
 -- from x the walk along L comes to an end of L, or c and d are two vertices of L
-abbrev pub ReachesEnd : (E : ℕ → ℕ → Type 0) (c d : ℕ) → Link → ℕ → Type 0
+abbrev pub ReachesEnd : (E : ℕ → ℕ → Type 0) (c d : ℕ) → Path → ℕ → Type 0
 ReachesEnd E c d L x = ((z : ℕ) × End z L × Free c d z × Connected E c d x z) ⊎ (In c (vertices L) × In d (vertices L) × (c ≢ d))
 
 module _ (E : ℕ → ℕ → Type 0) (esym : (u v : ℕ) → E u v → E v u) (c d : ℕ) where
@@ -101,7 +101,7 @@ module _ (E : ℕ → ℕ → Type 0) (esym : (u v : ℕ) → E u v → E v u) (
       go (inr a) (inr b) = inr (both-removed c d (a .0) (b .0) whole (a .2) (b .2) (ne (a .0) (b .0) (a .1) (b .1) (a .2))
           (in-widen (a .0) x (s ∷ p) (q ++ (t ∷ [])) (a .1)) (in-right (b .0) (s ∷ p) (x ∷ (q ++ (t ∷ []))) (b .1)))
 
-  pub reach-end : (L : Link) (x : ℕ) → IsPath E L → In x (vertices L) → Free c d x → ReachesEnd E c d L x
+  pub reach-end : (L : Path) (x : ℕ) → IsPath E L → In x (vertices L) → Free c d x → ReachesEnd E c d L x
   reach-end L x g h f = ⊎-elim (λ e. inl (x, e, f, here)) (λ k. let r = in-split x (L .inner) k in inside (r .0) (r .1) (r .2)) (end-or-inner L x h)
     where
       inside : (p q : List ℕ) → L .inner ≡ p ++ (x ∷ q) → ReachesEnd E c d L x

@@ -5,7 +5,7 @@ use mathlib.Core.Bool.{cond}
 use Prim.Native.Nat.{ℕ, _<_}
 use Rattle.connectivity.specs.Lists.{In, NoDup, below}
 use Rattle.connectivity.specs.Graph.{Graph, edges, isPair}
-use Rattle.connectivity.specs.Path.{Link, edge}
+use Rattle.connectivity.specs.Path.{Path, edge}
 use Rattle.connectivity.specs.Build.{IsBranch, four, endPairs, linkEnds}
 
 -- A graph by its vertices and its edges, the edge between u and v being `edge u v`, its lower end first.
@@ -94,16 +94,16 @@ abbrev pub endsOf : List (ℕ × ℕ) → List ℕ
 endsOf [] = []
 endsOf (e ∷ es) = e .0 ∷ (e .1 ∷ endsOf es)
 
-abbrev pub topological : List Link → TGraph
+abbrev pub topological : List Path → TGraph
 topological links = record { vertices = endsOf (endPairs links); edges = linkEnds links }
 
 -- A vertex of a build is a branch vertex, or an inner vertex together with its link.
-pub data Place (x : ℕ) (links : List Link) : Type 0 where
+pub data Place (x : ℕ) (links : List Path) : Type 0 where
   branch : IsBranch x links → Place x links
-  inner : (L : Link) → In L links → In x (L .inner) → Place x links
+  inner : (L : Path) → In L links → In x (L .inner) → Place x links
 
 -- The addition that a path from s to t makes, by the places of its two ends. Links are split at t first, then at s.
-abbrev pub Added : {links : List Link} {s t : ℕ} → Place s links → Place t links → TGraph → Type 0
+abbrev pub Added : {links : List Path} {s t : ℕ} → Place s links → Place t links → TGraph → Type 0
 Added {links} {s} {t} (branch h) (branch k) H = VertexVertex (topological links) H s t
 Added {links} {s} {t} (inner L h i) (branch k) H = EdgeVertex (topological links) H (L .s) (L .t) s t
 Added {links} {s} {t} (branch h) (inner M k j) H = EdgeVertex (topological links) H (M .s) (M .t) t s

@@ -10,7 +10,7 @@ use Rattle.vertexset.specs.declared.VertexSet.{VertexSet}
 use Rattle.vertexset.proofs.Laws.{Words}
 use Rattle.graph.specs.Rows.{adjacentIn, rowWords, rowsGraph}
 use Rattle.connectivity.specs.Graph.{Graph, Simple}
-use Rattle.connectivity.specs.Path.{Link, vertices}
+use Rattle.connectivity.specs.Path.{Path, vertices}
 use Rattle.connectivity.proofs.Lists.{rev}
 use Rattle.connectivity.proofs.Search as searching
 use Rattle.connectivity.proofs.Progress.{Separated}
@@ -44,7 +44,7 @@ pub record IsCut (rows : List ℕ) (n : ℕ) (c : Cut) : Type 0 where
   pub same-side : separated .side ≡ has (c .side .words)
 
 -- paths one after the other, a stop before each
-abbrev pub flatten : List Link → List ℕ
+abbrev pub flatten : List Path → List ℕ
 flatten [] = []
 flatten (P ∷ ps) = stop ∷ (vertices P ++ flatten ps)
 

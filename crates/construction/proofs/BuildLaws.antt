@@ -12,7 +12,7 @@ use borrow.Author.Tests.{lt-ltb, le-ltb}
 use Rattle.graph.specs.Limits.{maxEdges}
 use Rattle.connectivity.specs.Lists.{In}
 use Rattle.connectivity.specs.Graph.{Adj, edgeCount}
-use Rattle.connectivity.specs.Path.{Link, usedEdges}
+use Rattle.connectivity.specs.Path.{Path, usedEdges}
 use Rattle.connectivity.specs.Build.{endPairs, IsBranch}
 use Rattle.connectivity.proofs.Paths.{branchVertices, branch-in, length-ends}
 use Rattle.connectivity.proofs.Start.{Subdivision, theFour, four-branch, end-start}
@@ -45,9 +45,9 @@ still m u v f h k = omega arith
 enough : (m u : ℕ) → m ≤ maxEdges → m < u + (maxEdges + 1)
 enough m u h = omega arith
 
-module _ (rows : List ℕ) (n : ℕ) (dr : Drawn rows n) (few : edgeCount (rowsGraph n rows) ≤ maxEdges) (ms : List Link) where
+module _ (rows : List ℕ) (n : ℕ) (dr : Drawn rows n) (few : edgeCount (rowsGraph n rows) ≤ maxEdges) (ms : List Path) where
   -- ONE STEP
-  module _ (ps : List Link) (st : State) (go : Going rows n ms ps st) where
+  module _ (ps : List Path) (st : State) (go : Going rows n ms ps st) where
     abbrev Step : State → Type 0
     Step s = Stepped rows n ms (length (usedEdges (newestFirst ps))) s
 
@@ -80,12 +80,12 @@ module _ (rows : List ℕ) (n : ℕ) (dr : Drawn rows n) (few : edgeCount (rowsG
   abbrev Outcome : State → Type 0
   Outcome st = Completed rows n ms st ⊎ IsCut rows n (st .cutBy)
 
-  steps-law : (f : ℕ) (ps : List Link) (st : State) → Going rows n ms ps st → edgeCount (rowsGraph n rows) < length (usedEdges (newestFirst ps)) + f → Outcome (steps rows (fullSet n) f st)
+  steps-law : (f : ℕ) (ps : List Path) (st : State) → Going rows n ms ps st → edgeCount (rowsGraph n rows) < length (usedEdges (newestFirst ps)) + f → Outcome (steps rows (fullSet n) f st)
   unfolding steps
   steps-law zero ps st go h = absurd (spent (edgeCount (rowsGraph n rows)) (length (usedEdges (newestFirst ps))) (recorded-most (rowsGraph n rows) (dr .simple) (newestFirst ps) (go .recorded)) h)
   steps-law (suc f) ps st go h = subst (λ (b : Bool). Outcome (cond b (steps rows (fullSet n) f (step rows (fullSet n) st)) st)) (sym (go .goes-on)) (next (step rows (fullSet n) st) (step-law ps st go) (λ qs s. steps-law f qs s))
     where
-      next : (s : State) → Stepped rows n ms (length (usedEdges (newestFirst ps))) s → ((qs : List Link) (s : State) → Going rows n ms qs s → edgeCount (rowsGraph n rows) < length (usedEdges (newestFirst qs)) + f → Outcome (steps rows (fullSet n) f s)) → Outcome (steps rows (fullSet n) f s)
+      next : (s : State) → Stepped rows n ms (length (usedEdges (newestFirst ps))) s → ((qs : List Path) (s : State) → Going rows n ms qs s → edgeCount (rowsGraph n rows) < length (usedEdges (newestFirst qs)) + f → Outcome (steps rows (fullSet n) f s)) → Outcome (steps rows (fullSet n) f s)
       next s (goes qs g more) rest = rest qs s g (still (edgeCount (rowsGraph n rows)) (length (usedEdges (newestFirst ps))) (length (usedEdges (newestFirst qs))) f more h)
       next s (ends e r) rest = subst Outcome (sym (steps-stopped f s e)) (inl r)
       next s (cuts e c) rest = subst Outcome (sym (steps-stopped f s e)) (inr c)
@@ -97,7 +97,7 @@ six-low k l h e = omega arith
 six-high : (k l : ℕ) → k ≡ l → k ≡ 6 → 6 ≤ l
 six-high k l h e = omega arith
 
-module _ (E : ℕ → ℕ → Type 0) (ms : List Link) (x : Subdivision E ms) where
+module _ (E : ℕ → ℕ → Type 0) (ms : List Path) (x : Subdivision E ms) where
   six-paths : length ms ≤ 6
   six-paths = six-low (length (endPairs ms)) (length ms) (length-ends ms) (ap length (x .paths .shape))
 
@@ -107,20 +107,20 @@ module _ (E : ℕ → ℕ → Type 0) (ms : List Link) (x : Subdivision E ms) wh
   newest-start : newestFirst ms ≡ ms
   newest-start = λ i. recordOf (take-all 6 ms six-paths i) (drop-of-length-le ms six-paths i)
 
-recorded-start : (E : ℕ → ℕ → Type 0) (ms : List Link) → Subdivision E ms → Recorded E ms
+recorded-start : (E : ℕ → ℕ → Type 0) (ms : List Path) → Subdivision E ms → Recorded E ms
 recorded-start E [] x = absurd (omega (arith, start-six E [] x))
 recorded-start E (P ∷ ms) x = inl x
 
-first-going : (rows : List ℕ) (n : ℕ) (b : Begun) (ms : List Link) (x : Subdivision (Adj (rowsGraph n rows)) ms) → b .flat ≡ flatten ms → members (b .four) ≡ theFour x → Sized (b .four) → Going rows n ms ms (firstState b)
+first-going : (rows : List ℕ) (n : ℕ) (b : Begun) (ms : List Path) (x : Subdivision (Adj (rowsGraph n rows)) ms) → b .flat ≡ flatten ms → members (b .four) ≡ theFour x → Sized (b .four) → Going rows n ms ms (firstState b)
 first-going rows n b ms x flat four sized = record {
-  recorded = subst (λ (k : List Link). Recorded (Adj (rowsGraph n rows)) k) (sym start) (recorded-start (Adj (rowsGraph n rows)) ms x);
+  recorded = subst (λ (k : List Path). Recorded (Adj (rowsGraph n rows)) k) (sym start) (recorded-start (Adj (rowsGraph n rows)) ms x);
   six = start-six (Adj (rowsGraph n rows)) ms x;
   ends = ap endPairs (take-all 6 ms (six-paths (Adj (rowsGraph n rows)) ms x));
   same-flat = flat;
   branch-sized = sized;
   built-sized = sized-all _ (b .flat) sized-empty;
-  branch-on = λ w h. subst (λ (k : List Link). In w (branchVertices k)) (sym start) (four-branch (Adj (rowsGraph n rows)) ms x w (subst (λ (l : List ℕ). In w l) four (in-members (b .four) w sized h)));
-  on-branch = λ w h. members-in (b .four) w (subst (λ (l : List ℕ). In w l) (sym four) (of w (branch-in ms w (subst (λ (k : List Link). In w (branchVertices k)) start h))));
+  branch-on = λ w h. subst (λ (k : List Path). In w (branchVertices k)) (sym start) (four-branch (Adj (rowsGraph n rows)) ms x w (subst (λ (l : List ℕ). In w l) four (in-members (b .four) w sized h)));
+  on-branch = λ w h. members-in (b .four) w (subst (λ (l : List ℕ). In w l) (sym four) (of w (branch-in ms w (subst (λ (k : List Path). In w (branchVertices k)) start h))));
   built-on = λ w h. set-on (b .flat) w h;
   on-built = λ w h k. on-set (b .flat) w k h;
   fits = omega arith;
@@ -135,10 +135,10 @@ first-going rows n b ms x flat four sized = record {
     of w r = end-start (Adj (rowsGraph n rows)) (theFour x) ms (x .paths) (r .0) (r .1) w (r .2)
 
 -- THE BUILD
-abbrev pub Built : List ℕ → ℕ → Begun → List Link → Type 0
+abbrev pub Built : List ℕ → ℕ → Begun → List Path → Type 0
 Built rows n b ms = Completed rows n ms (build rows (fullSet n) b)
 
-pub build-law : (rows : List ℕ) (n : ℕ) → Drawn rows n → edgeCount (rowsGraph n rows) ≤ maxEdges → (b : Begun) → (ms : List Link) (x : Subdivision (Adj (rowsGraph n rows)) ms)
+pub build-law : (rows : List ℕ) (n : ℕ) → Drawn rows n → edgeCount (rowsGraph n rows) ≤ maxEdges → (b : Begun) → (ms : List Path) (x : Subdivision (Adj (rowsGraph n rows)) ms)
     → b .flat ≡ flatten ms → members (b .four) ≡ theFour x → Sized (b .four) → Built rows n b ms ⊎ IsCut rows n (build rows (fullSet n) b .cutBy)
 unfolding build
 build-law rows n dr few b ms x flat four sized = steps-law rows n dr few ms (maxEdges + 1) ms (firstState b) (first-going rows n b ms x flat four sized) (enough (edgeCount (rowsGraph n rows)) (length (usedEdges (newestFirst ms))) few)

@@ -11,7 +11,7 @@ use Rattle.graph.specs.Limits.{maxEdges}
 use Rattle.certificates.specs.Encoding.{pathBytes, certificateBytes}
 use Rattle.connectivity.specs.Lists.{In, select, below}
 use Rattle.connectivity.specs.Graph.{Graph, Simple, Adj, edgeCount, edgesBelow, withHigher}
-use Rattle.connectivity.specs.Path.{Link, vertices, IsPath, usedEdges}
+use Rattle.connectivity.specs.Path.{Path, vertices, IsPath, usedEdges}
 use Rattle.connectivity.specs.Build.{four, sixPairs, endPairs}
 use Rattle.connectivity.specs.Certificate.{Certificate.build, BuildRules}
 use Rattle.connectivity.proofs.Lists.{fewer, beside, below?, nodup-below, length-below, select-in, select-nodup, at-most}
@@ -29,22 +29,22 @@ use Rattle.construction.proofs.NumberLaws.{pathNumbers, path-number, le
 use Rattle.construction.proofs.CutRecords.{Written, low-small}
 
 -- a branch vertex that is not on the path: no path has all vertices
-off-path : (E : ℕ → ℕ → Type 0) (ls : List Link) → Recorded E ls → (P : Link) → In P ls → (z : ℕ) × In z (branchVertices ls) × (¬ In z (vertices P))
+off-path : (E : ℕ → ℕ → Type 0) (ls : List Path) → Recorded E ls → (P : Path) → In P ls → (z : ℕ) × In z (branchVertices ls) × (¬ In z (vertices P))
 off-path E [] v P h = absurd h
 off-path E (Q ∷ ls) (inl x) P h =
     let z = beside (theFour x) (P .s ∷ (P .t ∷ [])) (subdivision-differ E (Q ∷ ls) x) (omega arith) in
     (z .0, four-branch E (Q ∷ ls) x (z .0) (z .1), λ k. ⊎-elim (λ e. z .2 (⊎-map (λ i. i) inl e)) (λ j. clear-start E (theFour x) (Q ∷ ls) (x .paths) P h (z .0) j (z .1)) (end-or-inner P (z .0) k))
 off-path E (Q ∷ ls) (inr f) P (inl e) =
     let z = branch-beside E ls (f .1) (P .s ∷ (P .t ∷ [])) (omega arith) in
-    (z .0, inr (inr (z .1)), λ k. ⊎-elim (λ i. z .2 (⊎-map (λ j. j) inl i)) (λ j. f .0 .new (z .0) (subst (λ (L : Link). In (z .0) (L .inner)) e j) (branch-built ls (z .0) (z .1))) (end-or-inner P (z .0) k))
+    (z .0, inr (inr (z .1)), λ k. ⊎-elim (λ i. z .2 (⊎-map (λ j. j) inl i)) (λ j. f .0 .new (z .0) (subst (λ (L : Path). In (z .0) (L .inner)) e j) (branch-built ls (z .0) (z .1))) (end-or-inner P (z .0) k))
 off-path E (Q ∷ ls) (inr f) P (inr h) = let r = off-path E ls (f .1) P h in (r .0, inr (inr (r .1)), r .2)
 
 -- a record tells its start from its further paths where the length of the start is known
-length-record : (ls ps : List Link) → length (recordOf ls ps) ≡ length ls + length ps
+length-record : (ls ps : List Path) → length (recordOf ls ps) ≡ length ls + length ps
 length-record ls [] = omega arith
 length-record ls (P ∷ ps) = let ih = length-record (P ∷ ls) ps in omega arith
 
-same-record : (a b c d : List Link) → length a ≡ length c → recordOf a b ≡ recordOf c d → (a ≡ c) × (b ≡ d)
+same-record : (a b c d : List Path) → length a ≡ length c → recordOf a b ≡ recordOf c d → (a ≡ c) × (b ≡ d)
 same-record a [] c [] h e = (e, refl)
 same-record a [] c (D ∷ d) h e = absurd (omega (arith, ap length e, length-record (D ∷ c) d))
 same-record a (B ∷ b) c [] h e = absurd (omega (arith, ap length e, length-record (B ∷ a) b))
@@ -75,11 +75,11 @@ module _ (a b c e p q r s : ℕ) (h : sixPairs a b c e ≡ sixPairs p q r s) whe
   abbrev at : ℕ → List (ℕ × ℕ) → ℕ × ℕ
   at i l = getD l i (0, 0)
 
-  rules-as : (g : Graph) (st fu st′ fu′ : List Link) → st ≡ st′ → fu ≡ fu′ → BuildRules g p q r s st fu → BuildRules g a b c e st′ fu′
+  rules-as : (g : Graph) (st fu st′ fu′ : List Path) → st ≡ st′ → fu ≡ fu′ → BuildRules g p q r s st fu → BuildRules g a b c e st′ fu′
   rules-as g st fu st′ fu′ hs hf y = rw (ap (λ (l : List (ℕ × ℕ)). at 0 l .0) h, ap (λ (l : List (ℕ × ℕ)). at 0 l .1) h, ap (λ (l : List (ℕ × ℕ)). at 1 l .1) h, ap (λ (l : List (ℕ × ℕ)). at 2 l .1) h, ← hs, ← hf) y
 
-module _ (g : Graph) (p : Simple g) (big : g .n ≤ capacity) (few : edgeCount g ≤ maxEdges) (qs : List Link) (six : 6 ≤ length qs) (val : Recorded (Adj g) (newestFirst qs)) where
-  path-short : (P : Link) → In P qs → length (vertices P) < g .n
+module _ (g : Graph) (p : Simple g) (big : g .n ≤ capacity) (few : edgeCount g ≤ maxEdges) (qs : List Path) (six : 6 ≤ length qs) (val : Recorded (Adj g) (newestFirst qs)) where
+  path-short : (P : Path) → In P qs → length (vertices P) < g .n
   path-short P h = at-most (g .n) (z .0 ∷ vertices P) (z .2, path .nodup) low
     where
       path : IsPath (Adj g) P
@@ -130,7 +130,7 @@ module _ (g : Graph) (p : Simple g) (big : g .n ≤ capacity) (few : edgeCount g
         ∙ sym (append-assoc (listBytes numberBytes (four a b c e)) (listBytes pathBytes (take 6 qs)) (listBytes pathBytes (drop 6 qs))))
       where
         paths : listBytes numberBytes (pathNumbers qs) ≡ listBytes pathBytes (take 6 qs) ++ listBytes pathBytes (drop 6 qs)
-        paths = path-bytes qs ∙ ap (λ (l : List Link). listBytes pathBytes l) (sym (take-append-drop 6 qs)) ∙ bytes-append pathBytes (take 6 qs) (drop 6 qs)
+        paths = path-bytes qs ∙ ap (λ (l : List Path). listBytes pathBytes l) (sym (take-append-drop 6 qs)) ∙ bytes-append pathBytes (take 6 qs) (drop 6 qs)
 
     pub build-written : Written g numbers
     build-written = record {

@@ -12,7 +12,7 @@ use Rattle.graph.specs.Limits.{maxEdges}
 use Rattle.certificates.specs.Encoding.{certificateBytes}
 use Rattle.connectivity.specs.Lists.{In, Ascending, select, below}
 use Rattle.connectivity.specs.Graph.{Graph, edgeCount}
-use Rattle.connectivity.specs.Path.{Link}
+use Rattle.connectivity.specs.Path.{Path}
 use Rattle.connectivity.specs.Build.{four, endPairs}
 use Rattle.connectivity.specs.Certificate.{Certificate, kind, Rules, Separation}
 use Rattle.connectivity.proofs.Lists.{ascending-below, in-below, below-in, select-in, in-select}
@@ -101,7 +101,7 @@ module _ (rows : List ℕ) (n : ℕ) (d : Drawn rows n) where
       (record { order = order; low = removed-low c i (r ∷ (q ∷ [])) h q (inr (inl refl)); count = k .o .count; first = k .o .cycle; ears = k .o .are-ears; all-in = k .o .all-in; separation = side-as c i (r ∷ (q ∷ [])) h })
       (members-nodup (c .side))))
     where
-      all : List Link
+      all : List Path
       all = k .o .first ∷ k .o .later
 
       order : r < q
@@ -187,7 +187,7 @@ module _ (rows : List ℕ) (n : ℕ) (d : Drawn rows n) where
         go false e = tree-written e
 
 -- THE THEOREM
-pub record Certified (rows : List ℕ) (n : ℕ) : Type 0 where
+pub record Constructed (rows : List ℕ) (n : ℕ) : Type 0 where
   pub certificate : Certificate
   pub rules : Rules (rowsGraph n rows) certificate
   pub grade : getD (certificateNumbers rows n) 0 0 ≡ kind certificate
@@ -196,5 +196,5 @@ pub record Certified (rows : List ℕ) (n : ℕ) : Type 0 where
   pub short : length (certificateRecord rows n) ≤ certificateRoom
   pub small : (i : ℕ) → getD (certificateNumbers rows n) i 0 < numberLimit
 
-pub certified : (rows : List ℕ) (n : ℕ) → Drawn rows n → edgeCount (rowsGraph n rows) ≤ maxEdges → Certified rows n
+pub certified : (rows : List ℕ) (n : ℕ) → Drawn rows n → edgeCount (rowsGraph n rows) ≤ maxEdges → Constructed rows n
 certified rows n d few = let w = all-written rows n d few in record { certificate = w .certificate; rules = w .rules; grade = w .grade; bytes = w .bytes; few = w .few; short = w .short; small = w .small }

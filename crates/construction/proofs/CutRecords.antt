@@ -9,7 +9,7 @@ use Rattle.record.specs.Number.{numberBytes, listBytes, numberLimit}
 use Rattle.certificates.specs.Encoding.{sideBytes, pathBytes, certificateBytes}
 use Rattle.connectivity.specs.Lists.{In, NoDup}
 use Rattle.connectivity.specs.Graph.{Graph, Simple, Adj}
-use Rattle.connectivity.specs.Path.{Link, vertices, IsPath}
+use Rattle.connectivity.specs.Path.{Path, vertices, IsPath}
 use Rattle.connectivity.specs.Certificate.{Certificate, Certificate.separation, Certificate.tree, Certificate.ears, kind, Rules, Separation, TreeRules, Ears, inside, EarRules}
 use Rattle.connectivity.proofs.Lists.{in-append, at-most}
 use Rattle.connectivity.proofs.Paths.{builtVertices, built-in}
@@ -84,21 +84,21 @@ one-written g big c ps S r tree-low nd = written g (1 ∷ (c ∷ (t ++ (length S
 
 -- ---- kind 2
 
-ears-path : (g : Graph) (B : List ℕ) (es : List Link) → Ears g B es → (P : Link) → In P es → IsPath (Adj g) P
+ears-path : (g : Graph) (B : List ℕ) (es : List Path) → Ears g B es → (P : Path) → In P es → IsPath (Adj g) P
 ears-path g B [] y P h = absurd h
 ears-path g B (Q ∷ es) y P (inl e) = rw e (y .0 .is-path)
 ears-path g B (Q ∷ es) y P (inr h) = ears-path g (Q .inner ++ B) es (y .1) P h
 
 -- every vertex of the ears is written once, and three numbers more an ear
-ears-length : (B : List ℕ) (es : List Link) → length (pathNumbers es) + length B ≡ length (inside B es) + 3 * length es
+ears-length : (B : List ℕ) (es : List Path) → length (pathNumbers es) + length B ≡ length (inside B es) + 3 * length es
 ears-length B [] = omega arith
 ears-length B (P ∷ es) = let ih = ears-length (P .inner ++ B) es in omega (arith, length-append (P .inner) B, length-append (vertices P) (pathNumbers es), length-append (P .inner) (P .t ∷ []))
 
 module _ (g : Graph) (p : Simple g) (big : g .n ≤ capacity) (o : EarDecomposition g p) where
-  abbrev all : List Link
+  abbrev all : List Path
   all = o .first ∷ o .later
 
-  ear-path : (P : Link) → In P all → IsPath (Adj g) P
+  ear-path : (P : Path) → In P all → IsPath (Adj g) P
   ear-path P (inl e) = rw e (o .cycle .is-path)
   ear-path P (inr h) = ears-path g (vertices (o .first)) (o .later) (o .are-ears) P h
 

@@ -14,7 +14,7 @@ use Rattle.vertexset.specs.declared.VertexSet.{VertexSet}
 use Rattle.graph.specs.Rows.{rowOf, adjacentIn, rowsGraph}
 use Rattle.connectivity.specs.Lists.{In, below}
 use Rattle.connectivity.specs.Graph.{Adj}
-use Rattle.connectivity.specs.Path.{Link, link, vertices, IsPath}
+use Rattle.connectivity.specs.Path.{Path, link, vertices, IsPath}
 use Rattle.connectivity.proofs.Lists.{rev, fewer, beside, clash, bool?, nodup-below, length-below, in-below}
 use Rattle.connectivity.proofs.Paths.{end-or-inner}
 use Rattle.connectivity.proofs.Edges.{edge-high, edge-differ}
@@ -56,7 +56,7 @@ DetourLaw rows n set = Detoured rows n set ⊎ DetourCut rows n set
 -- a path P between two neighbours of 0, listed from its end, and then 0
 pub record ThroughZero (rows : List ℕ) (n : ℕ) (f : Found) : Type 0 where
   pub not-cut : isCut (f .cutBy) ≡ false
-  pub P : Link
+  pub P : Path
   pub is-path : IsPath (Adj (rowsGraph n rows)) P
   pub from : P .s ≡ least (rowOf rows 0)
   pub ks : Adj (rowsGraph n rows) 0 (P .s)
@@ -216,7 +216,7 @@ module _ (rows : List ℕ) (n : ℕ) (d : Drawn rows n) (set : VertexSet) (s : S
       same = ap (λ (l : List ℕ). l ++ (x ∷ [])) (m .same);
     }
       where
-        P : Link
+        P : Path
         P = m .found .path
 
         start : P .s ≡ c
@@ -392,7 +392,7 @@ module _ (rows : List ℕ) (n : ℕ) (d : Drawn rows n) where
       same = ap (λ (l : List ℕ). l ++ (0 ∷ [])) (m .same);
     }
       where
-        P : Link
+        P : Path
         P = m .found .path
 
         start : P .s ≡ x

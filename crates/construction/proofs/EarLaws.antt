@@ -10,7 +10,7 @@ use Rattle.vertexset.specs.Set.{has, emptySet, capacity}
 use Rattle.vertexset.specs.declared.VertexSet.{VertexSet}
 use Rattle.connectivity.specs.Lists.{In, NoDup}
 use Rattle.connectivity.specs.Graph.{Adj, Graph}
-use Rattle.connectivity.specs.Path.{Link, link, vertices}
+use Rattle.connectivity.specs.Path.{Path, link, vertices}
 use Rattle.connectivity.specs.Certificate.{Cycle, Ear, Ears, inside}
 use Rattle.connectivity.proofs.Lists.{rev, rev-in, nodup-snoc, length-rev, bool?, clash, beside, full, at-most, in-append, in-left, in-right}
 use Rattle.connectivity.proofs.Paths.{along-rev, along-join, end-or-inner, inner-in, two-vertices}
@@ -26,7 +26,7 @@ use Rattle.construction.proofs.SetLaws.{sized-empty, sized-all, sized-m
 use Rattle.construction.proofs.Flat.{rev-vertices, path-reversed}
 use Rattle.construction.proofs.Detours.{OneCut, Detoured, DetourLaw, Cycled, detour-law, cycle-law, no-cut, low-capacity, full-sized}
 
-length-vertices : (P : Link) → length (vertices P) ≡ length (P .inner) + 2
+length-vertices : (P : Path) → length (vertices P) ≡ length (P .inner) + 2
 length-vertices P = omega (arith, length-append (P .inner) (P .t ∷ []))
 
 pub record EarsFound (rows : List ℕ) (n : ℕ) (d : Drawn rows n) : Type 0 where
@@ -55,7 +55,7 @@ module _ (rows : List ℕ) (n : ℕ) (d : Drawn rows n) where
   -- the ears that are still to come
   record Later (B flat : List ℕ) (k : ℕ) (e : Eared) : Type 0 where
     pub not-cut : isCut (e .cutBy) ≡ false
-    pub es : List Link
+    pub es : List Path
     pub are-ears : Ears g B es
     pub all-in : (z : ℕ) → z < n → In z (inside B es)
     pub same-flat : e .flat ≡ flat ++ flatten es
@@ -68,7 +68,7 @@ module _ (rows : List ℕ) (n : ℕ) (d : Drawn rows n) where
   done B flat k h = record { not-cut = no-cut; es = []; are-ears = tt; all-in = h; same-flat = sym (append-nil flat); same-count = omega arith }
 
   -- ONE EAR MORE
-  module _ (B flat : List ℕ) (set : VertexSet) (st : Stage B flat set) (P : Link) (ear : Ear g B P) (path : List ℕ) (same : path ≡ vertices P) where
+  module _ (B flat : List ℕ) (set : VertexSet) (st : Stage B flat set) (P : Path) (ear : Ear g B P) (path : List ℕ) (same : path ≡ vertices P) where
     new-nodup : NoDup (P .inner ++ B)
     new-nodup = ear-fair g (d .simple) B P ear (st .nodup, st .low) .0
 
@@ -185,10 +185,10 @@ module _ (rows : List ℕ) (n : ℕ) (d : Drawn rows n) where
 
   -- THE FIRST EAR
   module _ (c : Cycled rows n) where
-    abbrev P : Link
+    abbrev P : Path
     P = c .P
 
-    abbrev first : Link
+    abbrev first : Path
     first = link (P .t) (rev (P .inner) ++ (P .s ∷ [])) 0
 
     first-listed : cycle rows .path ≡ vertices first

@@ -14,7 +14,7 @@ use Rattle.graph.specs.Limits.{maxEdges}
 use Rattle.graph.specs.Rows.{adjacentIn, rowOf, rowWords, bareRows, rowsGraph}
 use Rattle.connectivity.specs.Lists.{In, NoDup, below, upFrom}
 use Rattle.connectivity.specs.Graph.{Graph, Adj, edgeCount}
-use Rattle.connectivity.specs.Path.{Link, link, vertices, usedEdges, edge}
+use Rattle.connectivity.specs.Path.{Path, link, vertices, usedEdges, edge}
 use Rattle.connectivity.proofs.Lists.{in-append, in-left, in-right, in-single, true?, select-nodup, below?, nodup-below, below-in}
 use Rattle.connectivity.proofs.Paths.{branchVertices, branch-built, Consecutive, Neighbours, used-in, in-used, path-consecutive, consecutive-path, edge-same, edge-comm}
 use Rattle.connectivity.proofs.Edges.{edge-high, edge-differ}
@@ -31,34 +31,34 @@ use Rattle.construction.proofs.Flat.{newestFirst, newest-snoc, newest-i
 use Rattle.construction.proofs.Table.{tableOf, table-used, used-table, marked-words}
 
 -- What the finish leaves: paths that begin as before, a record of them, and every edge on one of them.
-pub record FinishedWith (rows : List ℕ) (n : ℕ) (ps : List Link) : Type 0 where
-  pub qs : List Link
+pub record FinishedWith (rows : List ℕ) (n : ℕ) (ps : List Path) : Type 0 where
+  pub qs : List Path
   pub same : finish rows n (flatten ps) ≡ flatten qs
   pub first : take 6 qs ≡ take 6 ps
   pub six : 6 ≤ length qs
   pub recorded : Recorded (Adj (rowsGraph n rows)) (newestFirst qs)
   pub finished : Finished (rowsGraph n rows) (newestFirst qs)
 
-used-snoc : (qs : List Link) (u v : ℕ) (e : ℕ × ℕ) → In e (usedEdges (qs ++ (link u [] v ∷ []))) → In e (usedEdges qs) ⊎ (e ≡ edge u v)
+used-snoc : (qs : List Path) (u v : ℕ) (e : ℕ × ℕ) → In e (usedEdges (qs ++ (link u [] v ∷ []))) → In e (usedEdges qs) ⊎ (e ≡ edge u v)
 used-snoc qs u v e h = ⊎-map (λ k. k) (in-single e (edge u v)) (in-append e (usedEdges qs) (edge u v ∷ []) (subst (λ (k : List (ℕ × ℕ)). In e k) (used-append qs (link u [] v ∷ [])) h))
 
-snoc-used : (qs : List Link) (u v : ℕ) (e : ℕ × ℕ) → In e (usedEdges qs) ⊎ (e ≡ edge u v) → In e (usedEdges (qs ++ (link u [] v ∷ [])))
+snoc-used : (qs : List Path) (u v : ℕ) (e : ℕ × ℕ) → In e (usedEdges qs) ⊎ (e ≡ edge u v) → In e (usedEdges (qs ++ (link u [] v ∷ [])))
 snoc-used qs u v e h = subst (λ (k : List (ℕ × ℕ)). In e k) (sym (used-append qs (link u [] v ∷ []))) (⊎-elim (in-left e (usedEdges qs) (edge u v ∷ [])) (λ k. in-right e (usedEdges qs) (edge u v ∷ []) (inl k)) h)
 
-module _ (rows : List ℕ) (n : ℕ) (d : Drawn rows n) (few : edgeCount (rowsGraph n rows) ≤ maxEdges) (ps : List Link) where
+module _ (rows : List ℕ) (n : ℕ) (d : Drawn rows n) (few : edgeCount (rowsGraph n rows) ≤ maxEdges) (ps : List Path) where
   abbrev g : Graph
   g = rowsGraph n rows
 
   -- a build in which every vertex is a branch vertex, and whose start is that of ps
-  record Full (qs : List Link) : Type 0 where
+  record Full (qs : List Path) : Type 0 where
     pub first : take 6 qs ≡ take 6 ps
     pub six : 6 ≤ length qs
     pub recorded : Recorded (Adj g) (newestFirst qs)
     pub branch : (z : ℕ) → z < n → In z (branchVertices (newestFirst qs))
 
   -- ONE EDGE MORE
-  module _ (qs : List Link) (f : Full qs) (u v : ℕ) (k : Adj g u v) (new : ¬ In (edge u v) (usedEdges qs)) where
-    abbrev longer : List Link
+  module _ (qs : List Path) (f : Full qs) (u v : ℕ) (k : Adj g u v) (new : ¬ In (edge u v) (usedEdges qs)) where
+    abbrev longer : List Path
     longer = qs ++ (link u [] v ∷ [])
 
     extends : Extends (Adj g) (newestFirst qs) (link u [] v)
@@ -71,7 +71,7 @@ module _ (rows : List ℕ) (n : ℕ) (d : Drawn rows n) (few : edgeCount (rowsGr
           (told g (d .simple) (newestFirst qs) (f .recorded) (λ z h. f .branch z (built-low g (d .simple) (newestFirst qs) (f .recorded) z h)) u v (λ e. edge-differ g (d .simple) u v k (sym e)));
     }
       where
-        used : (M : Link) → In M (newestFirst qs) → Neighbours M u v → ⊥
+        used : (M : Path) → In M (newestFirst qs) → Neighbours M u v → ⊥
         used M h (inl c) = new (in-used qs (edge u v) M (newest-in qs M h) (consecutive-path M u v c))
         used M h (inr c) = new (in-used qs (edge u v) M (newest-in qs M h) (rw (edge-comm u v) (consecutive-path M v u c)))
 
@@ -82,8 +82,8 @@ module _ (rows : List ℕ) (n : ℕ) (d : Drawn rows n) (few : edgeCount (rowsGr
     full-snoc = record {
       first = take-append-le 6 qs (link u [] v ∷ []) (f .six) ∙ f .first;
       six = omega (arith, f .six, length-append qs (link u [] v ∷ []));
-      recorded = subst (λ (l : List Link). Recorded (Adj g) l) (sym newest) (inr (extends, f .recorded));
-      branch = λ z h. subst (λ (l : List Link). In z (branchVertices l)) (sym newest) (inr (inr (f .branch z h)));
+      recorded = subst (λ (l : List Path). Recorded (Adj g) l) (sym newest) (inr (extends, f .recorded));
+      branch = λ z h. subst (λ (l : List Path). In z (branchVertices l)) (sym newest) (inr (inr (f .branch z h)));
     }
 
     added-edge : addPath (flatten qs) (u ∷ (v ∷ [])) ≡ flatten longer
@@ -93,15 +93,15 @@ module _ (rows : List ℕ) (n : ℕ) (d : Drawn rows n) (few : edgeCount (rowsGr
         room = omega (arith, few, recorded-most g (d .simple) (newestFirst longer) (full-snoc .recorded), flat-most longer, ap length (flatten-append qs (link u [] v ∷ [])), length-append (flatten qs) (stop ∷ (u ∷ (v ∷ []))))
 
   -- THE EDGES FROM u to the vertices of a list
-  record EdgesAdded (u : ℕ) (l : List ℕ) (qs : List Link) (flat : List ℕ) : Type 0 where
-    pub out : List Link
+  record EdgesAdded (u : ℕ) (l : List ℕ) (qs : List Path) (flat : List ℕ) : Type 0 where
+    pub out : List Path
     pub same : flat ≡ flatten out
     pub full : Full out
     pub kept : (e : ℕ × ℕ) → In e (usedEdges qs) → In e (usedEdges out)
     pub new : (v : ℕ) → In v l → In (edge u v) (usedEdges out)
     pub only : (e : ℕ × ℕ) → In e (usedEdges out) → In e (usedEdges qs) ⊎ ((v : ℕ) × In v l × (e ≡ edge u v))
 
-  edges-law : (u : ℕ) (l : List ℕ) (qs : List Link) → Full qs → NoDup l → ((v : ℕ) → In v l → Adj g u v × (¬ In (edge u v) (usedEdges qs))) → EdgesAdded u l qs (addEdges u l (flatten qs))
+  edges-law : (u : ℕ) (l : List ℕ) (qs : List Path) → Full qs → NoDup l → ((v : ℕ) → In v l → Adj g u v × (¬ In (edge u v) (usedEdges qs))) → EdgesAdded u l qs (addEdges u l (flatten qs))
   unfolding addEdges
   edges-law u [] qs f nd h = record { out = qs; same = refl; full = f; kept = λ e k. k; new = λ v k. absurd k; only = λ e k. inl k }
   edges-law u (v ∷ l) qs f nd h =
@@ -130,14 +130,14 @@ module _ (rows : List ℕ) (n : ℕ) (d : Drawn rows n) (few : edgeCount (rowsGr
   table-sized : (u : ℕ) → Sized (rowOf (tableOf ps) u)
   table-sized u = sized-row (tableOf ps) u (marked-words bareRows (flatten ps) (λ i. rw (zeros-at rowWords i) (lit< tt)))
 
-  record RowsAdded (us : List ℕ) (qs : List Link) (flat : List ℕ) : Type 0 where
-    pub out : List Link
+  record RowsAdded (us : List ℕ) (qs : List Path) (flat : List ℕ) : Type 0 where
+    pub out : List Path
     pub same : flat ≡ flatten out
     pub full : Full out
     pub kept : (e : ℕ × ℕ) → In e (usedEdges qs) → In e (usedEdges out)
     pub all : (u v : ℕ) → In u us → u < v → Adj g u v → In (edge u v) (usedEdges out)
 
-  rows-law : (us : List ℕ) (qs : List Link) → Full qs → NoDup us → ((e : ℕ × ℕ) → In e (usedEdges ps) → In e (usedEdges qs))
+  rows-law : (us : List ℕ) (qs : List Path) → Full qs → NoDup us → ((e : ℕ × ℕ) → In e (usedEdges ps) → In e (usedEdges qs))
       → ((u v : ℕ) → In u us → u < v → In (edge u v) (usedEdges qs) → In (edge u v) (usedEdges ps)) → RowsAdded us qs (addRows rows (tableOf ps) us (flatten qs))
   unfolding addRows
   rows-law [] qs f nd old fresh = record { out = qs; same = refl; full = f; kept = λ e k. k; all = λ u v k. absurd k }
@@ -183,26 +183,26 @@ module _ (rows : List ℕ) (n : ℕ) (d : Drawn rows n) (few : edgeCount (rowsGr
           (on-minus (rowOf rows u) (rowOf (tableOf ps) u) row-sized (table-sized u) v (on-row rows u v k) (λ o. h (row-on (tableOf ps) u v o))) (omega arith))
 
 -- EVERY EDGE IS USED THEN.
-pub finish-law : (rows : List ℕ) (n : ℕ) → Drawn rows n → (ps : List Link) → 6 ≤ length ps → Recorded (Adj (rowsGraph n rows)) (newestFirst ps)
+pub finish-law : (rows : List ℕ) (n : ℕ) → Drawn rows n → (ps : List Path) → 6 ≤ length ps → Recorded (Adj (rowsGraph n rows)) (newestFirst ps)
     → ((z : ℕ) → z < n → In z (branchVertices (newestFirst ps))) → edgeCount (rowsGraph n rows) ≤ maxEdges → FinishedWith rows n ps
 unfolding finish
 finish-law rows n d ps six val branch few =
     let r = rows-law rows n d few ps (below n) ps (record { first = refl; six = six; recorded = val; branch = branch }) (nodup-below n) (λ e h. h) (λ u v h lt k. k) in
     record { qs = r .out; same = r .same; first = r .full .first; six = r .full .six; recorded = r .full .recorded; finished = record { all-branch = r .full .branch; used = λ u v k. used (r .out) (r .all) u v k } }
   where
-    used : (qs : List Link) → ((u v : ℕ) → In u (below n) → u < v → Adj (rowsGraph n rows) u v → In (edge u v) (usedEdges qs)) → (u v : ℕ) → Adj (rowsGraph n rows) u v → (M : Link) × In M (newestFirst qs) × Neighbours M u v
+    used : (qs : List Path) → ((u v : ℕ) → In u (below n) → u < v → Adj (rowsGraph n rows) u v → In (edge u v) (usedEdges qs)) → (u v : ℕ) → Adj (rowsGraph n rows) u v → (M : Path) × In M (newestFirst qs) × Neighbours M u v
     used qs f u v k = on (both (below? u v))
       where
         both : Dec (u < v) → In (edge u v) (usedEdges qs)
         both (yes h) = f u v (below-in n u (d .simple .low u v k)) h k
         both (no h) = rw (edge-comm u v) (f v u (below-in n v (edge-high (rowsGraph n rows) (d .simple) u v k)) (omega (arith, edge-differ (rowsGraph n rows) (d .simple) u v k)) (d .simple .symmetric u v k))
 
-        on : In (edge u v) (usedEdges qs) → (M : Link) × In M (newestFirst qs) × Neighbours M u v
+        on : In (edge u v) (usedEdges qs) → (M : Path) × In M (newestFirst qs) × Neighbours M u v
         on h =
             let m = used-in qs (edge u v) h in
             let c = path-consecutive (m .0) (edge u v) (m .2) in
             (m .0, in-newest qs (m .0) (m .1), near (m .0) (c .0) (c .1) (c .2) (edge-same u v (c .0) (c .1) (c .3)))
           where
-            near : (M : Link) (x y : ℕ) → Consecutive M x y → ((u ≡ x) × (v ≡ y)) ⊎ ((u ≡ y) × (v ≡ x)) → Neighbours M u v
+            near : (M : Path) (x y : ℕ) → Consecutive M x y → ((u ≡ x) × (v ≡ y)) ⊎ ((u ≡ y) × (v ≡ x)) → Neighbours M u v
             near M x y c (inl e) = inl (rw (e .0, e .1) c)
             near M x y c (inr e) = inr (rw (e .0, e .1) c)

@@ -9,7 +9,7 @@ use Rattle.vertexset.specs.Set.{next, capacity}
 use Rattle.vertexset.specs.declared.VertexSet.{VertexSet}
 use Rattle.connectivity.specs.Lists.{In, Ascending}
 use Rattle.connectivity.specs.Graph.{Graph, Adj, Simple}
-use Rattle.connectivity.specs.Path.{Link, vertices, edge, usedEdges}
+use Rattle.connectivity.specs.Path.{Path, vertices, edge, usedEdges}
 use Rattle.connectivity.specs.Build.{four, endPairs, sixPairs}
 use Rattle.connectivity.proofs.Lists.{fewer}
 use Rattle.connectivity.proofs.Start.{StartPaths, Subdivision, theFour, start-differ}
@@ -23,11 +23,11 @@ use Rattle.construction.proofs.SetLaws.{next-on, next-first, members-in
 use Rattle.construction.proofs.LinksIn.{Linked, linked}
 
 -- paths in one list, with room for more: k paths, none longer than a closed path through every vertex
-pub record Room (flat : List ℕ) (ms : List Link) (k : ℕ) : Type 0 where
+pub record Room (flat : List ℕ) (ms : List Path) (k : ℕ) : Type 0 where
   pub same : flat ≡ flatten ms
   pub short : length (flatten ms) ≤ k * (capacity + 3)
 
-pub add-room : (flat path : List ℕ) (ms : List Link) (k : ℕ) (M : Link) → Room flat ms k → k ≤ 8 → path ≡ vertices M → length (vertices M) ≤ capacity + 2 → Room (addPath flat path) (ms ++ (M ∷ [])) (suc k)
+pub add-room : (flat path : List ℕ) (ms : List Path) (k : ℕ) (M : Path) → Room flat ms k → k ≤ 8 → path ≡ vertices M → length (vertices M) ≤ capacity + 2 → Room (addPath flat path) (ms ++ (M ∷ [])) (suc k)
 add-room flat path ms k M r few e short = record {
   same = (λ i. addPath (r .same i) (e i)) ∙ added-room pathSpace (flatten ms) (stop ∷ vertices M) (omega (arith, r .short)) ∙ sym more;
   short = omega (arith, r .short, ap length more, length-append (flatten ms) (stop ∷ vertices M));
@@ -99,7 +99,7 @@ four-order set sized = go (members set) refl (members-ascending set)
         above x h = four-above a b c d x (up .0) (up .1 .0) (up .1 .1 .0) (subst (λ (k : List ℕ). In x k) e (in-members set x sized h))
 
 -- the four of a start are those of its pairs
-four-same : {E : ℕ → ℕ → Type 0} (ms : List Link) (x : Subdivision E ms) (a b c d : ℕ) → endPairs ms ≡ sixPairs a b c d → four a b c d ≡ theFour x
+four-same : {E : ℕ → ℕ → Type 0} (ms : List Path) (x : Subdivision E ms) (a b c d : ℕ) → endPairs ms ≡ sixPairs a b c d → four a b c d ≡ theFour x
 four-same ms x a b c d e = λ i. four (at 0 (λ (p : ℕ × ℕ). p .0) i) (at 0 (λ (p : ℕ × ℕ). p .1) i) (at 5 (λ (p : ℕ × ℕ). p .0) i) (at 5 (λ (p : ℕ × ℕ). p .1) i)
   where
     at : (k : ℕ) (f : ℕ × ℕ → ℕ) → f (getD (sixPairs a b c d) k (0, 0)) ≡ f (getD (sixPairs (x .p) (x .q) (x .r) (x .s)) k (0, 0))
@@ -107,12 +107,12 @@ four-same ms x a b c d e = λ i. four (at 0 (λ (p : ℕ × ℕ). p .0) i) (at 0
 
 -- THE START AS THE RECORD HAS IT
 pub record InOrder (g : Graph) (table : List ℕ) (set : VertexSet) : Type 0 where
-  pub ms : List Link
+  pub ms : List Path
   pub x : Subdivision (Adj g) ms
   pub same-flat : sorted table set ≡ flatten ms
   pub same-four : members set ≡ theFour x
 
-module _ (g : Graph) (p : Simple g) (table : List ℕ) (drawn : Drawn table capacity) (B : List ℕ) (four-long : length B ≡ 4) (six : List Link) (x : StartPaths (Adj g) B six) (y : StartPaths (Adj (rowsGraph capacity table)) B six)
+module _ (g : Graph) (p : Simple g) (table : List ℕ) (drawn : Drawn table capacity) (B : List ℕ) (four-long : length B ≡ 4) (six : List Path) (x : StartPaths (Adj g) B six) (y : StartPaths (Adj (rowsGraph capacity table)) B six)
     (only : (u v : ℕ) → Adj (rowsGraph capacity table) u v → In (edge u v) (usedEdges six))
     (set : VertexSet) (sized : Sized set) (into : (w : ℕ) → In w B → On set w) (out : (w : ℕ) → On set w → In w B) where
   four-members : length (members set) ≡ 4
@@ -123,8 +123,8 @@ module _ (g : Graph) (p : Simple g) (table : List ℕ) (drawn : Drawn table capa
 
   -- the links between the four, in order
   module _ (f : Four set) where
-    abbrev Link′ : ℕ → ℕ → Type 0
-    Link′ u v = Linked six table set u v
+    abbrev Path′ : ℕ → ℕ → Type 0
+    Path′ u v = Linked six table set u v
 
     in-B : (w : ℕ) → In w (four (f .a) (f .b) (f .c) (f .d)) → In w B
     in-B w h = out w (members-in set w (subst (λ (k : List ℕ). In w k) (sym (f .all)) h))
@@ -137,11 +137,11 @@ module _ (g : Graph) (p : Simple g) (table : List ℕ) (drawn : Drawn table capa
         let s = ap (nextAfter set) r ∙ f .fourth in
         λ i. sixLinks table set (f .first i) (q i) (r i) (s i)
 
-    module _ (m1 : Link′ (f .a) (f .b)) (m2 : Link′ (f .a) (f .c)) (m3 : Link′ (f .a) (f .d)) (m4 : Link′ (f .b) (f .c)) (m5 : Link′ (f .b) (f .d)) (m6 : Link′ (f .c) (f .d)) where
-      abbrev six′ : List Link
+    module _ (m1 : Path′ (f .a) (f .b)) (m2 : Path′ (f .a) (f .c)) (m3 : Path′ (f .a) (f .d)) (m4 : Path′ (f .b) (f .c)) (m5 : Path′ (f .b) (f .d)) (m6 : Path′ (f .c) (f .d)) where
+      abbrev six′ : List Path
       six′ = m1 .M ∷ (m2 .M ∷ (m3 .M ∷ (m4 .M ∷ (m5 .M ∷ (m6 .M ∷ [])))))
 
-      one : (M : Link) → In M six′ → OneOf six M
+      one : (M : Path) → In M six′ → OneOf six M
       one M (inl e) = rw e (m1 .one)
       one M (inr (inl e)) = rw e (m2 .one)
       one M (inr (inr (inl e))) = rw e (m3 .one)
@@ -156,7 +156,7 @@ module _ (g : Graph) (p : Simple g) (table : List ℕ) (drawn : Drawn table capa
       room : Room (sixLinks table set (f .a) (f .b) (f .c) (f .d)) six′ 6
       room = more m6 5 _ _ (more m5 4 _ _ (more m4 3 _ _ (more m3 2 _ _ (more m2 1 _ _ (more m1 0 [] [] (record { same = refl; short = omega arith }) (omega arith)) (omega arith)) (omega arith)) (omega arith)) (omega arith)) (omega arith)
         where
-          more : {u v : ℕ} (m : Link′ u v) (k : ℕ) (flat : List ℕ) (ms : List Link) → Room flat ms k → k ≤ 8 → Room (addPath flat (linkIn table set u v)) (ms ++ (m .M ∷ [])) (suc k)
+          more : {u v : ℕ} (m : Path′ u v) (k : ℕ) (flat : List ℕ) (ms : List Path) → Room flat ms k → k ≤ 8 → Room (addPath flat (linkIn table set u v)) (ms ++ (m .M ∷ [])) (suc k)
           more {u} {v} m k flat ms r few = add-room flat (linkIn table set u v) ms k (m .M) r few (m .same) (omega (arith, m .short))
 
       ordered : InOrder g table set
@@ -164,7 +164,7 @@ module _ (g : Graph) (p : Simple g) (table : List ℕ) (drawn : Drawn table capa
           let s = sorted-start g p B six x (f .a) (f .b) (f .c) (f .d) (f .ab) (f .bc) (f .cd) in-B six′ shape one in
           record { ms = six′; x = s; same-flat = sorted-as ∙ room .same; same-four = f .all ∙ four-same six′ s (f .a) (f .b) (f .c) (f .d) shape }
 
-    link-in : (u v : ℕ) → In u (four (f .a) (f .b) (f .c) (f .d)) → In v (four (f .a) (f .b) (f .c) (f .d)) → u < v → Link′ u v
+    link-in : (u v : ℕ) → In u (four (f .a) (f .b) (f .c) (f .d)) → In v (four (f .a) (f .b) (f .c) (f .d)) → u < v → Path′ u v
     link-in u v hu hv l = linked table drawn B six y only set sized into out u v (in-B u hu) (in-B v hv) (λ e. differ u v l e)
       where
         differ : (u v : ℕ) → u < v → u ≢ v

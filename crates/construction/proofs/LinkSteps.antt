@@ -13,7 +13,7 @@ use Rattle.vertexset.specs.declared.VertexSet.{VertexSet}
 use Rattle.graph.specs.Limits.{maxEdges}
 use Rattle.connectivity.specs.Lists.{In}
 use Rattle.connectivity.specs.Graph.{Adj, edgeCount}
-use Rattle.connectivity.specs.Path.{Link, link, vertices, usedEdges}
+use Rattle.connectivity.specs.Path.{Path, link, vertices, usedEdges}
 use Rattle.connectivity.proofs.Lists.{in-left, in-right, in-append, in-single, clash, bool?, fewer}
 use Rattle.connectivity.proofs.Paths.{builtVertices, branchVertices, in-built, in-branch, branch-built, inner-in, end-s, end-t, end-or-inner}
 use Rattle.connectivity.proofs.Recorded.{Extends, branch-beside}
@@ -53,7 +53,7 @@ past at p f l k h j e = omega arith
 to-end : (at p d l : ℕ) → p ≡ d → d ≡ l - at → at ≤ l → at + p ≡ l
 to-end at p d l h j e = omega arith
 
-module _ (rows : List ℕ) (n : ℕ) (ms ps : List Link) (st : State) (go : Going rows n ms ps st) where
+module _ (rows : List ℕ) (n : ℕ) (ms ps : List Path) (st : State) (go : Going rows n ms ps st) where
   not-inner : (v : ℕ) → has (minus (st .built) (st .branch) .words) v ≡ false → On (st .built) v → On (st .branch) v
   not-inner v e h = ⊎-elim (λ k. k) (λ k. absurd (clash (on-minus (st .built) (st .branch) (go .built-sized) (go .branch-sized) v h (λ j. clash j k)) e)) (bool? (has (st .branch .words) v))
 
@@ -105,10 +105,10 @@ module _ (F : List ℕ) (a : ℕ) (run : List ℕ) (b : ℕ) (rest : List ℕ) w
   behind-run = ap (λ (l : List ℕ). getD l (length upToRun + length run) 0) (sym (append-assoc upToRun run (b ∷ rest))) ∙ getD-at (upToRun ++ run) b rest 0 (length upToRun + length run) (length-append upToRun run)
 
 -- A LINK WITH INNER VERTICES, a, run, b, of which the run stands at the places from i on
-pub record LinkAt (ps : List Link) (st : State) (i : ℕ) : Type 0 where
-  pub L : Link
+pub record LinkAt (ps : List Path) (st : State) (i : ℕ) : Type 0 where
+  pub L : Path
   pub hL : In L (newestFirst ps)
-  pub K : Link
+  pub K : Path
   pub u : List ℕ
   pub v : List ℕ
   pub is : vertices L ≡ u ++ (vertices K ++ v)
@@ -132,7 +132,7 @@ last-behind [] t (c ∷ front) w back e = absurd (omega (arith, ap length e, len
 last-behind (x ∷ m) t [] w back e = let k : m ++ (t ∷ []) ≡ back = cc in inr (subst (λ (l : List ℕ). In t l) k (in-right t m (t ∷ []) (inl refl)))
 last-behind (x ∷ m) t (c ∷ front) w back e = last-behind m t front w back (cc)
 
-module _ (rows : List ℕ) (n : ℕ) (dr : Drawn rows n) (ms ps : List Link) (st : State) (go : Going rows n ms ps st) (r : InnerFirst st) where
+module _ (rows : List ℕ) (n : ℕ) (dr : Drawn rows n) (ms ps : List Path) (st : State) (go : Going rows n ms ps st) (r : InnerFirst st) where
   abbrev inner? : ℕ → Bool
   inner? = has (minus (st .built) (st .branch) .words)
 
@@ -143,7 +143,7 @@ module _ (rows : List ℕ) (n : ℕ) (dr : Drawn rows n) (ms ps : List Link) (st
   loc = locate ps (r .front) (r .w) (r .back) (sym (go .same-flat) ∙ r .is) (below-stop (r .w) (on-low (minus (st .built) (st .branch)) (r .w) (sized-minus (st .built) (st .branch) (go .built-sized) (go .branch-sized)) (r .inner)))
 
   on-record : In (loc .path) (newestFirst ps)
-  on-record = in-newest ps (loc .path) (subst (λ (k : List Link). In (loc .path) k) (sym (loc .place)) (in-right (loc .path) (loc .before) (loc .path ∷ loc .behind) (inl refl)))
+  on-record = in-newest ps (loc .path) (subst (λ (k : List Path). In (loc .path) k) (sym (loc .place)) (in-right (loc .path) (loc .before) (loc .path ∷ loc .behind) (inl refl)))
 
   inner-off : (z : ℕ) → inner? z ≡ true → ¬ In z (branchVertices (newestFirst ps))
   inner-off z h k = minus-on (st .built) (st .branch) (go .built-sized) (go .branch-sized) z h .1 (go .on-branch z k)
@@ -229,8 +229,8 @@ linkSearch rows built run a b = answered (explore rows (setOf run) (minus (minus
 pair-few : (a b : ℕ) → length (members (pair a b)) ≤ 2
 pair-few a b = fewer (members (pair a b)) (a ∷ (b ∷ [])) (members-nodup (pair a b)) (λ w h. ⊎-map (λ e. e) inl (pair-on a b w (members-in (pair a b) w h)))
 
-module _ (rows : List ℕ) (n : ℕ) (dr : Drawn rows n) (few : edgeCount (rowsGraph n rows) ≤ maxEdges) (ms ps : List Link) (st : State) (go : Going rows n ms ps st) (i : ℕ) (k : LinkAt ps st i) where
-  abbrev K : Link
+module _ (rows : List ℕ) (n : ℕ) (dr : Drawn rows n) (few : edgeCount (rowsGraph n rows) ≤ maxEdges) (ms ps : List Path) (st : State) (go : Going rows n ms ps st) (i : ℕ) (k : LinkAt ps st i) where
+  abbrev K : Path
   K = k .K
 
   abbrev seeds : VertexSet

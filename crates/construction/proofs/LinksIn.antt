@@ -9,7 +9,7 @@ use lib.ListN.{length}
 use Rattle.vertexset.specs.declared.VertexSet.{VertexSet}
 use Rattle.connectivity.specs.Lists.{In, NoDup}
 use Rattle.connectivity.specs.Graph.{Graph, Adj}
-use Rattle.connectivity.specs.Path.{Link, link, vertices, End, Along, IsPath, edge, edgesAlong, pathEdges, usedEdges}
+use Rattle.connectivity.specs.Path.{Path, link, vertices, End, Along, IsPath, edge, edgesAlong, pathEdges, usedEdges}
 use Rattle.connectivity.specs.Build.{innerVertices}
 use Rattle.connectivity.proofs.Lists.{rev, in-single, in-left, in-right, rev-in, nodup-left, at-most, clash}
 use Rattle.connectivity.proofs.Paths.{lastOf, headOf, last-end, edge-same, edge-comm, end-or-inner, inner-of, used-in}
@@ -67,40 +67,40 @@ head-in (a ∷ l) t = inl refl
 
 -- ---- paths along the links
 
-pub reversed-one : (ls : List Link) (M : Link) → OneOf ls M → OneOf ls (reversed M)
+pub reversed-one : (ls : List Path) (M : Path) → OneOf ls M → OneOf ls (reversed M)
 reversed-one ls M (L, h, inl e) = (L, h, inr (ap reversed e))
 reversed-one ls M (L, h, inr e) = (L, h, inl (ap reversed e ∙ ap (λ (l : List ℕ). link (L .s) l (L .t)) (rev-rev (L .inner))))
 
-module _ (E : ℕ → ℕ → Type 0) (esym : (u v : ℕ) → E u v → E v u) (B : List ℕ) (six : List Link) (x : StartPaths E B six) (only : (u v : ℕ) → E u v → In (edge u v) (usedEdges six)) where
-  pub one-path : (M : Link) → OneOf six M → IsPath E M
+module _ (E : ℕ → ℕ → Type 0) (esym : (u v : ℕ) → E u v → E v u) (B : List ℕ) (six : List Path) (x : StartPaths E B six) (only : (u v : ℕ) → E u v → In (edge u v) (usedEdges six)) where
+  pub one-path : (M : Path) → OneOf six M → IsPath E M
   one-path M (L, h, inl e) = rw e (start-path E B six x L h)
   one-path M (L, h, inr e) = rw e (path-reversed E esym L (start-path E B six x L h))
 
-  one-edges : (M : Link) (o : OneOf six M) (e : ℕ × ℕ) → In e (pathEdges (o .0)) → In e (pathEdges M)
+  one-edges : (M : Path) (o : OneOf six M) (e : ℕ × ℕ) → In e (pathEdges (o .0)) → In e (pathEdges M)
   one-edges M (L, h, inl i) e k = rw i k
   one-edges M (L, h, inr i) e k = rw i (edges-rev (L .s) (L .inner) (L .t) e k)
 
-  one-inner : (M : Link) (o : OneOf six M) (w : ℕ) → In w (M .inner) → In w (o .0 .inner)
+  one-inner : (M : Path) (o : OneOf six M) (w : ℕ) → In w (M .inner) → In w (o .0 .inner)
   one-inner M (L, h, inl i) w k = rw i at k
   one-inner M (L, h, inr i) w k = rev-in w (L .inner) (rw i at k)
 
-  one-end : (M : Link) → OneOf six M → In (M .t) B
+  one-end : (M : Path) → OneOf six M → In (M .t) B
   one-end M (L, h, inl i) = rw i (end-start E B six x L h (L .t) (inr refl))
   one-end M (L, h, inr i) = rw i (end-start E B six x L h (L .s) (inl refl))
 
-  one-clear : (M : Link) → OneOf six M → (w : ℕ) → In w (M .inner) → ¬ In w B
+  one-clear : (M : Path) → OneOf six M → (w : ℕ) → In w (M .inner) → ¬ In w B
   one-clear M o w k = clear-start E B six x (o .0) (o .1) w (one-inner M o w k)
 
   -- an edge at an inner vertex of a link is an edge of the link
-  edge-inner : (M : Link) → OneOf six M → (w y : ℕ) → In w (M .inner) → E w y → In (edge w y) (pathEdges M)
+  edge-inner : (M : Path) → OneOf six M → (w y : ℕ) → In w (M .inner) → E w y → In (edge w y) (pathEdges M)
   edge-inner M o w y k e =
       let r = used-in six (edge w y) (only w y e) in
       let i = inner-of (r .0) w (edge-left (r .0 .s) (r .0 .inner) (r .0 .t) w y (r .2)) (λ j. one-clear M o w k (end-start E B six x (r .0) (r .1) w j)) in
       let same : r .0 ≡ o .0 = inner-sole six (nodup-left (innerVertices six) B (x .nodup)) (r .0) (o .0) (r .1) (o .1) w i (one-inner M o w k) in
-      one-edges M o (edge w y) (subst (λ (L : Link). In (edge w y) (pathEdges L)) same (r .2))
+      one-edges M o (edge w y) (subst (λ (L : Path). In (edge w y) (pathEdges L)) same (r .2))
 
   -- a path that has begun on a link goes on along it
-  follow : (M : Link) → OneOf six M → (u m l : List ℕ) (t v : ℕ) → M .inner ≡ u ++ m → v ≡ lastOf (M .s) u → headOf l t ≡ headOf m (M .t)
+  follow : (M : Path) → OneOf six M → (u m l : List ℕ) (t v : ℕ) → M .inner ≡ u ++ m → v ≡ lastOf (M .s) u → headOf l t ≡ headOf m (M .t)
       → NoDup (v ∷ (l ++ (t ∷ []))) → Along E v l t → ((w : ℕ) → In w l → ¬ In w B) → In t B → (l ≡ m) × (t ≡ M .t)
   follow M o u [] [] t v cut e h nd al off ht = (refl, h)
   follow M o u [] (y ∷ l) t v cut e h nd al off ht = absurd (off y (inl refl) (rw h (one-end M o)))
@@ -116,19 +116,19 @@ module _ (E : ℕ → ℕ → Type 0) (esym : (u v : ℕ) → E u v → E v u) (
           (subst (λ (k : List ℕ). In (edge b (headOf l t)) (edgesAlong (M .s) k (M .t))) cut (edge-inner M o b (headOf l t) here (subst (λ (k : ℕ). E k (headOf l t)) h (along-first E y l t (al .1)))))
 
   -- A PATH BETWEEN BRANCH VERTICES, WITH NONE INSIDE, IS ONE OF THE LINKS.
-  pub path-one : (F : Link) → IsPath E F → In (F .s) B → In (F .t) B → ((w : ℕ) → In w (F .inner) → ¬ In w B) → OneOf six F
+  pub path-one : (F : Path) → IsPath E F → In (F .s) B → In (F .t) B → ((w : ℕ) → In w (F .inner) → ¬ In w B) → OneOf six F
   path-one F p hs ht off =
       let y = headOf (F .inner) (F .t) in
       let r = used-in six (edge (F .s) y) (only (F .s) y (along-first E (F .s) (F .inner) (F .t) (p .along))) in
       begin (r .0) (r .1) (r .2) (end-or-inner (r .0) (F .s) (edge-left (r .0 .s) (r .0 .inner) (r .0 .t) (F .s) y (r .2)))
     where
-      all : (M : Link) → OneOf six M → F .s ≡ M .s → In (edge (F .s) (headOf (F .inner) (F .t))) (pathEdges M) → OneOf six F
+      all : (M : Path) → OneOf six M → F .s ≡ M .s → In (edge (F .s) (headOf (F .inner) (F .t))) (pathEdges M) → OneOf six F
       all M o e k =
           let h = first-edge (M .s) (M .inner) (M .t) (headOf (F .inner) (F .t)) (one-path M o .nodup) (subst (λ (v : ℕ). In (edge v (headOf (F .inner) (F .t))) (pathEdges M)) e k) in
           let r = follow M o [] (M .inner) (F .inner) (F .t) (F .s) refl e h (p .nodup) (p .along) off ht in
-          subst (λ (L : Link). OneOf six L) (sym (λ i. link (e i) (r .0 i) (r .1 i))) o
+          subst (λ (L : Path). OneOf six L) (sym (λ i. link (e i) (r .0 i) (r .1 i))) o
 
-      begin : (L : Link) → In L six → In (edge (F .s) (headOf (F .inner) (F .t))) (pathEdges L) → End (F .s) L ⊎ In (F .s) (L .inner) → OneOf six F
+      begin : (L : Path) → In L six → In (edge (F .s) (headOf (F .inner) (F .t))) (pathEdges L) → End (F .s) L ⊎ In (F .s) (L .inner) → OneOf six F
       begin L h k (inl (inl e)) = all L (L, h, inl refl) e k
       begin L h k (inl (inr e)) = all (reversed L) (L, h, inr refl) e (edges-rev (L .s) (L .inner) (L .t) (edge (F .s) (headOf (F .inner) (F .t))) k)
       begin L h k (inr i) = absurd (clear-start E B six x L h (F .s) i hs)
@@ -139,15 +139,15 @@ walk g S G R c s [] t h al off nt = c .closed s t h al nt
 walk g S G R c s (a ∷ l) t h al off nt = walk g S G R c a l t (c .closed s a h (al .0) (off a (inl refl))) (al .1) (λ z k. off z (inr k)) nt
 
 -- the link from u to w
-pub record Linked (six : List Link) (table : List ℕ) (set : VertexSet) (u w : ℕ) : Type 0 where
-  pub M : Link
+pub record Linked (six : List Path) (table : List ℕ) (set : VertexSet) (u w : ℕ) : Type 0 where
+  pub M : Path
   pub from : M .s ≡ u
   pub upto : M .t ≡ w
   pub one : OneOf six M
   pub same : linkIn table set u w ≡ vertices M
   pub short : length (vertices M) ≤ capacity
 
-module _ (table : List ℕ) (d : Drawn table capacity) (B : List ℕ) (six : List Link) (x : StartPaths (Adj (rowsGraph capacity table)) B six)
+module _ (table : List ℕ) (d : Drawn table capacity) (B : List ℕ) (six : List Path) (x : StartPaths (Adj (rowsGraph capacity table)) B six)
     (only : (u v : ℕ) → Adj (rowsGraph capacity table) u v → In (edge u v) (usedEdges six))
     (set : VertexSet) (sized : Sized set) (into : (w : ℕ) → In w B → On set w) (out : (w : ℕ) → On set w → In w B) where
   module _ (u w : ℕ) (hu : In u B) (hw : In w B) (ne : u ≢ w) where

@@ -12,7 +12,7 @@ use Rattle.record.specs.Number.{numberBytes, listBytes}
 use Rattle.record.proofs.Write.{one-byte, few-bytes}
 use Rattle.certificates.specs.Encoding.{sideBytes, pathBytes}
 use Rattle.connectivity.specs.Lists.{In}
-use Rattle.connectivity.specs.Path.{Link, vertices}
+use Rattle.connectivity.specs.Path.{Path, vertices}
 use Rattle.connectivity.proofs.Lists.{in-left, in-right, in-append}
 use Rattle.connectivity.proofs.Paths.{builtVertices}
 use Rattle.construction.specs.Sets.{stop}
@@ -20,7 +20,7 @@ use Rattle.construction.specs.Certificate.{lengthOn, lengthened, vertexB
 use Rattle.construction.proofs.Basics.{flatten}
 use Rattle.vertexset.specs.Set.{capacity}
 
-abbrev pub pathNumbers : List Link → List ℕ
+abbrev pub pathNumbers : List Path → List ℕ
 pathNumbers [] = []
 pathNumbers (P ∷ ps) = length (vertices P) ∷ (vertices P ++ pathNumbers ps)
 
@@ -37,7 +37,7 @@ lengthened-behind (v ∷ l) m low =
     (ap (λ (p : List ℕ × ℕ). p .0) e ∙ ap (λ (k : List ℕ). v ∷ k) (r .0), ap (λ (p : List ℕ × ℕ). p .1) e ∙ omega (arith, r .1))
 
 -- PATH BY PATH
-flat-numbers : (ps : List Link) → ((w : ℕ) → In w (builtVertices ps) → w < capacity) → (lengthened (flatten ps) .0 ≡ pathNumbers ps) × (lengthened (flatten ps) .1 ≡ 0)
+flat-numbers : (ps : List Path) → ((w : ℕ) → In w (builtVertices ps) → w < capacity) → (lengthened (flatten ps) .0 ≡ pathNumbers ps) × (lengthened (flatten ps) .1 ≡ 0)
 unfolding lengthened
 flat-numbers [] low = (refl, refl)
 flat-numbers (P ∷ ps) low =
@@ -46,15 +46,15 @@ flat-numbers (P ∷ ps) low =
     let k : lengthened (vertices P ++ flatten ps) .1 ≡ length (vertices P) = omega (arith, r .1, s .1) in
     ((λ i. k i ∷ (s .0 ∙ ap (λ (m : List ℕ). vertices P ++ m) (r .0)) i), refl)
 
-pub lengthened-paths : (ps : List Link) → ((w : ℕ) → In w (builtVertices ps) → w < capacity) → lengthened (flatten ps) .0 ≡ pathNumbers ps
+pub lengthened-paths : (ps : List Path) → ((w : ℕ) → In w (builtVertices ps) → w < capacity) → lengthened (flatten ps) .0 ≡ pathNumbers ps
 lengthened-paths ps low = flat-numbers ps low .0
 
-pub length-numbers : (ps : List Link) → length (pathNumbers ps) ≡ length (flatten ps)
+pub length-numbers : (ps : List Path) → length (pathNumbers ps) ≡ length (flatten ps)
 length-numbers [] = refl
 length-numbers (P ∷ ps) = let ih = length-numbers ps in omega (arith, length-append (vertices P) (pathNumbers ps), length-append (vertices P) (flatten ps))
 
 -- a number of paths is a vertex or a length
-pub path-number : (ps : List Link) (w : ℕ) → In w (pathNumbers ps) → In w (builtVertices ps) ⊎ ((P : Link) × In P ps × (w ≡ length (vertices P)))
+pub path-number : (ps : List Path) (w : ℕ) → In w (pathNumbers ps) → In w (builtVertices ps) ⊎ ((P : Path) × In P ps × (w ≡ length (vertices P)))
 path-number [] w h = absurd h
 path-number (P ∷ ps) w (inl e) = inr (P, inl refl, e)
 path-number (P ∷ ps) w (inr h) = ⊎-elim (λ k. inl (in-left w (vertices P) (builtVertices ps) k)) (λ k. ⊎-map (in-right w (vertices P) (builtVertices ps)) (λ r. (r .0, inr (r .1), r .2)) (path-number ps w k)) (in-append w (vertices P) (pathNumbers ps) h)
@@ -76,7 +76,7 @@ bytes-none f = refl
 pub side-bytes : (l : List ℕ) → listBytes numberBytes (length l ∷ l) ≡ sideBytes l
 side-bytes l = bytes-first numberBytes (length l) l
 
-pub path-bytes : (ps : List Link) → listBytes numberBytes (pathNumbers ps) ≡ listBytes pathBytes ps
+pub path-bytes : (ps : List Path) → listBytes numberBytes (pathNumbers ps) ≡ listBytes pathBytes ps
 unfolding listBytes
 path-bytes [] = refl
 path-bytes (P ∷ ps) =

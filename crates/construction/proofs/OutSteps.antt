@@ -15,7 +15,7 @@ use Rattle.graph.specs.Limits.{maxEdges}
 use Rattle.graph.specs.Rows.{adjacentIn, rowsGraph}
 use Rattle.connectivity.specs.Lists.{In, NoDup}
 use Rattle.connectivity.specs.Graph.{Adj, edgeCount}
-use Rattle.connectivity.specs.Path.{Link, link, vertices, Along, IsPath, usedEdges}
+use Rattle.connectivity.specs.Path.{Path, link, vertices, Along, IsPath, usedEdges}
 use Rattle.connectivity.proofs.Lists.{in-split, clash, bool?, rev, rev-in, in-rev, nodup-rev, length-rev}
 use Rattle.connectivity.proofs.Paths.{SamePair, Consecutive, Neighbours, consecutive-edge, builtVertices, branchVertices, branch-built, nodup-inner, ends-differ, along-rev, inner-in, end-or-inner}
 use Rattle.connectivity.proofs.Recorded.{Extends, recorded-path, branch-beside}
@@ -76,12 +76,12 @@ same-most : (l : ℕ) → l ≤ l
 same-most l = omega arith
 
 -- what stands behind a vertex that is not the last of its path
-right-head : (right : List ℕ) (behind : List Link) (b : ℕ) (back : List ℕ) → b ∷ back ≡ right ++ flatten behind → b ≢ stop → (r : List ℕ) × (right ≡ b ∷ r)
+right-head : (right : List ℕ) (behind : List Path) (b : ℕ) (back : List ℕ) → b ∷ back ≡ right ++ flatten behind → b ≢ stop → (r : List ℕ) × (right ≡ b ∷ r)
 right-head [] [] b back e n = absurd (omega (arith, ap length e))
 right-head [] (P ∷ behind) b back e n = absurd (n (cc))
 right-head (c ∷ r) behind b back e n = let h : c ≡ b = cc in (r, ap (λ (k : ℕ). k ∷ r) h)
 
-module _ (rows : List ℕ) (n : ℕ) (dr : Drawn rows n) (few : edgeCount (rowsGraph n rows) ≤ maxEdges) (ms ps : List Link) (st : State) (go : Going rows n ms ps st) (all-branch : (w : ℕ) → On (st .built) w → On (st .branch) w) where
+module _ (rows : List ℕ) (n : ℕ) (dr : Drawn rows n) (few : edgeCount (rowsGraph n rows) ≤ maxEdges) (ms ps : List Path) (st : State) (go : Going rows n ms ps st) (all-branch : (w : ℕ) → On (st .built) w → On (st .branch) w) where
   abbrev Step : State → Type 0
   Step s = Stepped rows n ms (length (usedEdges (newestFirst ps))) s
 
@@ -125,7 +125,7 @@ module _ (rows : List ℕ) (n : ℕ) (dr : Drawn rows n) (few : edgeCount (rowsG
       between-there = subst (λ (z : ℕ). Between rows n (p .a) (p .b) q (turned (listed x q y) z)) (sym a-there) (between rows n dr x q y path some (p .a) (p .b) (p .same))
 
       go-there : Going rows n ms (loc .before ++ (loc .path ∷ loc .behind)) st
-      go-there = subst (λ (l : List Link). Going rows n ms l st) (loc .place) go
+      go-there = subst (λ (l : List Path). Going rows n ms l st) (loc .place) go
 
       cut-there : vertices (loc .path) ≡ loc .left ++ (p .a ∷ (p .b ∷ behind .0))
       cut-there = loc .cut ∙ ap (λ (l : List ℕ). loc .left ++ (p .a ∷ l)) (behind .1)
@@ -144,11 +144,11 @@ module _ (rows : List ℕ) (n : ℕ) (dr : Drawn rows n) (few : edgeCount (rowsG
       in-listed w h = inner-in w (reversed (link x q y)) (in-rev w q (between-there .into w h))
 
       put-step : Step (reroute st (listed x q y) (pairPlace x y (st .flat)))
-      put-step = subst (λ (l : List Link). Stepped rows n ms (length (usedEdges (newestFirst l))) (reroute st (listed x q y) (pairPlace x y (st .flat)))) (sym (loc .place))
+      put-step = subst (λ (l : List Path). Stepped rows n ms (length (usedEdges (newestFirst l))) (reroute st (listed x q y) (pairPlace x y (st .flat)))) (sym (loc .place))
           (rerouted-step rows n dr few ms (loc .before) (loc .path) (loc .behind) st go-there (loc .left) (p .a) (p .b) (behind .0) cut-there put (between-there .along) (between-there .nodup) put-new (pairPlace x y (st .flat) + 1) up-to-a all-branch (listed x q y) listed-in in-listed (between-there .some))
 
     abbrev NotBeside : Type 0
-    NotBeside = (M : Link) → In M (newestFirst ps) → ¬ Neighbours M x y
+    NotBeside = (M : Path) → In M (newestFirst ps) → ¬ Neighbours M x y
 
     -- no path has them side by side where the list does not
     none-beside : pairPlace x y (st .flat) ≡ length (st .flat) → NotBeside
@@ -157,7 +157,7 @@ module _ (rows : List ℕ) (n : ℕ) (dr : Drawn rows n) (few : edgeCount (rowsG
         off : (a b : ℕ) → Consecutive M a b → SamePair a b x y → ⊥
         off a b c s = at (in-split M ps (newest-in ps M h)) (consecutive-split M a b c)
           where
-            at : ((A : List Link) × (B : List Link) × (ps ≡ A ++ (M ∷ B))) → ((l : List ℕ) × (r : List ℕ) × (vertices M ≡ l ++ (a ∷ (b ∷ r)))) → ⊥
+            at : ((A : List Path) × (B : List Path) × (ps ≡ A ++ (M ∷ B))) → ((l : List ℕ) × (r : List ℕ) × (vertices M ≡ l ++ (a ∷ (b ∷ r)))) → ⊥
             at (A, B, e) (l, r, k) =
                 let f : st .flat ≡ (flatten A ++ (stop ∷ l)) ++ (a ∷ (b ∷ (r ++ flatten B))) = go .same-flat ∙ ap flatten e ∙ flat-place A M B ∙ ap (λ (j : List ℕ). flatten A ++ (stop ∷ (j ++ flatten B))) k ∙ simp append-assoc in
                 no-place (pairPlace x y (st .flat)) (length (st .flat)) (subst (λ (j : List ℕ). pairPlace x y j < length j) (sym f) (pair-low x y (flatten A ++ (stop ∷ l)) a b (r ++ flatten B) s)) none

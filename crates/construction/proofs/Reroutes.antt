@@ -11,7 +11,7 @@ use borrow.Author.Tests.{le-leb, eq-eqb, ne-eqb}
 use Rattle.graph.specs.Limits.{maxEdges}
 use Rattle.connectivity.specs.Lists.{In, NoDup}
 use Rattle.connectivity.specs.Graph.{Adj, edgeCount}
-use Rattle.connectivity.specs.Path.{Link, vertices, Along, usedEdges}
+use Rattle.connectivity.specs.Path.{Path, vertices, Along, usedEdges}
 use Rattle.connectivity.proofs.Lists.{in-left, in-right, rev}
 use Rattle.connectivity.proofs.Order.{in-insert, insert-in}
 use Rattle.connectivity.proofs.Paths.{builtVertices, branchVertices}
@@ -51,7 +51,7 @@ put-in X q Y k e h =
 put-length : (X q Y : List ℕ) → length (X ++ (q ++ Y)) ≡ length (X ++ Y) + length q
 put-length X q Y = omega (arith, length-append X (q ++ Y), length-append q Y, length-append X Y)
 
-length-kept : (before : List Link) (L M : Link) (behind : List Link) → length (before ++ (L ∷ behind)) ≡ length (before ++ (M ∷ behind))
+length-kept : (before : List Path) (L M : Path) (behind : List Path) → length (before ++ (L ∷ behind)) ≡ length (before ++ (M ∷ behind))
 length-kept before L M behind = length-append before (L ∷ behind) ∙ sym (length-append before (M ∷ behind))
 
 rises : (u w q : ℕ) → w ≡ u + q → 0 < q → u < w
@@ -60,7 +60,7 @@ rises u w q e h = omega arith
 up-to : (k x a : ℕ) → x ≡ k → k ≤ x + a
 up-to k x a e = omega arith
 
-module _ (rows : List ℕ) (n : ℕ) (dr : Drawn rows n) (few : edgeCount (rowsGraph n rows) ≤ maxEdges) (ms before : List Link) (L : Link) (behind : List Link) (st : State)
+module _ (rows : List ℕ) (n : ℕ) (dr : Drawn rows n) (few : edgeCount (rowsGraph n rows) ≤ maxEdges) (ms before : List Path) (L : Path) (behind : List Path) (st : State)
     (go : Going rows n ms (before ++ (L ∷ behind)) st) (front : List ℕ) (a b : ℕ) (back : List ℕ) (cut : vertices L ≡ front ++ (a ∷ (b ∷ back)))
     (q : List ℕ) (along : Along (Adj (rowsGraph n rows)) a q b) (nodup : NoDup q) (new : (w : ℕ) → In w q → ¬ In w (builtVertices (newestFirst (before ++ (L ∷ behind))))) where
   neighbours : ConsecutiveAt L front a b back
@@ -70,28 +70,28 @@ module _ (rows : List ℕ) (n : ℕ) (dr : Drawn rows n) (few : edgeCount (rowsG
   at-place = placed before behind
 
   -- the path with q in it, and all paths
-  abbrev filledPath : Link
+  abbrev filledPath : Path
   filledPath = fill L (neighbours .consecutive .u) q (neighbours .consecutive .v)
 
-  abbrev filledPaths : List Link
+  abbrev filledPaths : List Path
   filledPaths = before ++ (filledPath ∷ behind)
 
   old-record : Recorded (Adj (rowsGraph n rows)) (at-place .newer ++ (L ∷ at-place .older))
-  old-record = subst (λ (k : List Link). Recorded (Adj (rowsGraph n rows)) k) (at-place .at L) (go .recorded)
+  old-record = subst (λ (k : List Path). Recorded (Adj (rowsGraph n rows)) k) (at-place .at L) (go .recorded)
 
   off-record : (w : ℕ) → In w q → ¬ In w (builtVertices (at-place .newer ++ (L ∷ at-place .older)))
-  off-record w h k = new w h (subst (λ (l : List Link). In w (builtVertices l)) (sym (at-place .at L)) k)
+  off-record w h k = new w h (subst (λ (l : List Path). In w (builtVertices l)) (sym (at-place .at L)) k)
 
   filled-record : Recorded (Adj (rowsGraph n rows)) (newestFirst filledPaths)
-  filled-record = subst (λ (k : List Link). Recorded (Adj (rowsGraph n rows)) k) (sym (at-place .at filledPath))
+  filled-record = subst (λ (k : List Path). Recorded (Adj (rowsGraph n rows)) k) (sym (at-place .at filledPath))
       (reroute (Adj (rowsGraph n rows)) (at-place .newer) L (at-place .older) old-record a b (neighbours .consecutive) q along nodup off-record)
 
   filled-branch : branchVertices (newestFirst filledPaths) ≡ branchVertices (newestFirst (before ++ (L ∷ behind)))
   filled-branch = ap branchVertices (at-place .at filledPath) ∙ reroute-branch (Adj (rowsGraph n rows)) (at-place .newer) L (at-place .older) old-record a b (neighbours .consecutive) q along nodup off-record ∙ ap branchVertices (sym (at-place .at L))
 
   filled-longer : length (usedEdges (newestFirst filledPaths)) ≡ length (usedEdges (newestFirst (before ++ (L ∷ behind)))) + length q
-  filled-longer = ap (λ (k : List Link). length (usedEdges k)) (at-place .at filledPath) ∙ reroute-longer (Adj (rowsGraph n rows)) (at-place .newer) L (at-place .older) old-record a b (neighbours .consecutive) q along nodup off-record
-      ∙ ap (λ (k : List Link). length (usedEdges k) + length q) (sym (at-place .at L))
+  filled-longer = ap (λ (k : List Path). length (usedEdges k)) (at-place .at filledPath) ∙ reroute-longer (Adj (rowsGraph n rows)) (at-place .newer) L (at-place .older) old-record a b (neighbours .consecutive) q along nodup off-record
+      ∙ ap (λ (k : List Path). length (usedEdges k) + length q) (sym (at-place .at L))
 
   -- the list, up to a and from b on
   abbrev upToA : List ℕ

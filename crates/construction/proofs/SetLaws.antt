@@ -14,18 +14,19 @@ use lib.ListN.{length, getD, set, replicate}
 use lib.Seq.{set-out}
 use borrow.Author.Tests.{eqb-true, eq-eqb, ltb-true, lt-ltb, le-leb}
 use Rattle.record.specs.Read.{folded}
-use Rattle.vertexset.specs.Set.{has, with, wordCount, emptySet, inserted, zip, less, next, count, tally, capacity}
+use Rattle.vertexset.specs.Set.{has, wordCount, emptySet, inserted, zip, less, next, count, tally, capacity}
 use Rattle.vertexset.specs.declared.VertexSet.{VertexSet}
 use Rattle.vertexset.proofs.Laws as laws
 use Rattle.vertexset.proofs.Laws.{Words}
 use Rattle.graph.specs.Rows.{rowOf, wordsFrom, adjacentIn}
 use Rattle.graph.proofs.Rows.{row-adjacent, length-words}
 use Rattle.connectivity.specs.Lists.{In, NoDup, Ascending, select, upFrom, below}
-use Rattle.connectivity.specs.Path.{Link, vertices}
+use Rattle.connectivity.specs.Path.{Path, vertices}
 use Rattle.connectivity.proofs.Lists.{clash, bool?, or-true, either, below?, in-below, below-in, select-in, in-select, select-nodup, rev}
 use Rattle.construction.specs.Sets.{stop, plus, minus, common, single, pair, withAll, setOf, membersFrom, members, least, empty, added, reversed, lastOf}
 use Rattle.construction.specs.Certificate.{fullSet}
 use Rattle.construction.proofs.Basics.{Sized, On, flatten}
+use Rattle.certificates.specs.Tests.{with}
 
 -- ---- sets of full size
 
@@ -367,7 +368,7 @@ last-snoc [] v = refl
 last-snoc (a ∷ []) v = refl
 last-snoc (a ∷ (b ∷ l)) v = last-snoc (b ∷ l) v
 
-pub flatten-append : (ps qs : List Link) → flatten (ps ++ qs) ≡ flatten ps ++ flatten qs
+pub flatten-append : (ps qs : List Path) → flatten (ps ++ qs) ≡ flatten ps ++ flatten qs
 flatten-append [] qs = refl
 flatten-append (P ∷ ps) qs =
     ap (λ (r : List ℕ). stop ∷ (vertices P ++ r)) (flatten-append ps qs) ∙ ap (λ (r : List ℕ). stop ∷ r) (sym (append-assoc (vertices P) (flatten ps) (flatten qs)))

@@ -14,7 +14,7 @@ use Rattle.vertexset.specs.declared.VertexSet.{VertexSet}
 use Rattle.graph.specs.Rows.{rowOf, bareRows, rowsGraph}
 use Rattle.connectivity.specs.Lists.{In}
 use Rattle.connectivity.specs.Graph.{Graph, Adj}
-use Rattle.connectivity.specs.Path.{Link, link, vertices, IsPath}
+use Rattle.connectivity.specs.Path.{Path, link, vertices, IsPath}
 use Rattle.connectivity.specs.Build.{four}
 use Rattle.connectivity.proofs.Lists.{rev, rev-in, in-rev, in-append, in-left, in-single, fewer, beside}
 use Rattle.connectivity.proofs.Paths.{end-or-inner, end-s, end-t, ends-differ}
@@ -36,7 +36,7 @@ use Rattle.construction.proofs.ThreePaths.{Crossed, whole-room, crossed
 -- A START: its six links in one list, and its four branch vertices
 pub record StartedAs (rows : List ℕ) (n : ℕ) (b : Begun) : Type 0 where
   pub not-cut : isCut (b .cutBy) ≡ false
-  pub ms : List Link
+  pub ms : List Path
   pub x : Subdivision (Adj (rowsGraph n rows)) ms
   pub same-flat : b .flat ≡ flatten ms
   pub same-four : members (b .four) ≡ theFour x
@@ -88,7 +88,7 @@ module _ (rows : List ℕ) (n : ℕ) (d : Drawn rows n) where
   zero-low = omega (arith, d .simple .big)
 
   -- THE THREE PATHS ARE FOUND
-  module _ (P Q R : Link) (c : Crossed g P Q R) where
+  module _ (P Q R : Path) (c : Crossed g P Q R) where
     abbrev third₀ : List ℕ
     third₀ = vertices (link (Q .t) (rev (Q .s ∷ Q .inner)) 0)
 
@@ -142,7 +142,7 @@ module _ (rows : List ℕ) (n : ℕ) (d : Drawn rows n) where
 
   -- ---- a cycle through 0, given by the path P without 0
 
-  module _ (P : Link) (path-P : IsPath (Adj g) P) (ks : Adj g 0 (P .s)) (kt : Adj g 0 (P .t)) (off-P : ¬ In 0 (vertices P)) where
+  module _ (P : Path) (path-P : IsPath (Adj g) P) (ks : Adj g 0 (P .s)) (kt : Adj g 0 (P .t)) (off-P : ¬ In 0 (vertices P)) where
     abbrev around₀ : List ℕ
     around₀ = rev (vertices P) ++ (0 ∷ [])
 
@@ -159,7 +159,7 @@ module _ (rows : List ℕ) (n : ℕ) (d : Drawn rows n) where
     not-zero w h e = off-P (rw e at h)
 
     -- A THIRD PATH IS FOUND: from inside it across to the cycle
-    module _ (Q : Link) (path-Q : IsPath (Adj g) Q) (kQ : Adj g 0 (Q .s)) (off-Q : ¬ In 0 (Q .s ∷ Q .inner)) (apart : (w : ℕ) → In w (Q .s ∷ Q .inner) → ¬ In w (vertices P)) (meets : In (Q .t) (vertices P)) where
+    module _ (Q : Path) (path-Q : IsPath (Adj g) Q) (kQ : Adj g 0 (Q .s)) (off-Q : ¬ In 0 (Q .s ∷ Q .inner)) (apart : (w : ℕ) → In w (Q .s ∷ Q .inner) → ¬ In w (vertices P)) (meets : In (Q .t) (vertices P)) where
       abbrev third₁ : List ℕ
       third₁ = vertices (link (Q .t) (rev (Q .s ∷ Q .inner)) 0)
 
@@ -217,7 +217,7 @@ module _ (rows : List ℕ) (n : ℕ) (d : Drawn rows n) where
       met-across : Met rows n inside others ends → BegunLaw rows n (startOn around₀ third₁ (route (explore rows inside others ends) ++ []))
       met-across m = inl (subst (λ (l : List ℕ). StartedAs rows n (startOn around₀ third₁ l)) (sym (append-nil _ ∙ m .same ∙ rev-vertices R)) (started P Q R c))
         where
-          R : Link
+          R : Path
           R = m .found .path
 
           c : Crossed g P Q R
@@ -322,7 +322,7 @@ module _ (rows : List ℕ) (n : ℕ) (d : Drawn rows n) where
       met-third m = subst (λ (l : List ℕ). BegunLaw rows n (then-across l)) (sym (ap (λ (l : List ℕ). l ++ (0 ∷ [])) (m .same ∙ rev-end (Q .s ∷ Q .inner) (Q .t))))
           (across-law Q (m .found .is-path) (rw from kz) far off (rest-on (Q .t) (m .found .goal)))
         where
-          Q : Link
+          Q : Path
           Q = m .found .path
 
           from : Q .s ≡ z

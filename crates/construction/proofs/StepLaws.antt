@@ -12,7 +12,7 @@ use Rattle.vertexset.specs.declared.VertexSet.{VertexSet}
 use Rattle.graph.specs.Limits.{maxEdges}
 use Rattle.connectivity.specs.Lists.{In}
 use Rattle.connectivity.specs.Graph.{Adj, edgeCount}
-use Rattle.connectivity.specs.Path.{Link, vertices, pathEdges, usedEdges}
+use Rattle.connectivity.specs.Path.{Path, vertices, pathEdges, usedEdges}
 use Rattle.connectivity.specs.Build.{endPairs}
 use Rattle.connectivity.proofs.Lists.{in-left, in-right, in-append}
 use Rattle.connectivity.proofs.Paths.{builtVertices, branchVertices, length-path, end-t}
@@ -31,7 +31,7 @@ use Rattle.construction.proofs.Flat.{newestFirst, newest-snoc, newest-b
 
 -- WHAT EVERY STEP KEEPS: the list holds a record of whole paths with the ends of the start, the sets hold its branch vertices and all
 -- its vertices, and no inner vertex stands before the place `at`.
-pub record Going (rows : List ℕ) (n : ℕ) (ms ps : List Link) (st : State) : Type 0 where
+pub record Going (rows : List ℕ) (n : ℕ) (ms ps : List Path) (st : State) : Type 0 where
   pub recorded : Recorded (Adj (rowsGraph n rows)) (newestFirst ps)
   pub six : 6 ≤ length ps
   pub ends : endPairs (take 6 ps) ≡ endPairs ms
@@ -47,9 +47,9 @@ pub record Going (rows : List ℕ) (n : ℕ) (ms ps : List Link) (st : State) : 
   pub goes-on : st .going ≡ true
 
 -- the build is done: every vertex is a branch vertex
-pub record Completed (rows : List ℕ) (n : ℕ) (ms : List Link) (st : State) : Type 0 where
+pub record Completed (rows : List ℕ) (n : ℕ) (ms : List Path) (st : State) : Type 0 where
   pub not-cut : isCut (st .cutBy) ≡ false
-  pub ps : List Link
+  pub ps : List Path
   pub same-flat : st .flat ≡ flatten ps
   pub six : 6 ≤ length ps
   pub recorded : Recorded (Adj (rowsGraph n rows)) (newestFirst ps)
@@ -57,8 +57,8 @@ pub record Completed (rows : List ℕ) (n : ℕ) (ms : List Link) (st : State) :
   pub all-branch : (w : ℕ) → w < n → In w (branchVertices (newestFirst ps))
 
 -- WHAT A STEP DOES to a build that uses so many edges: it uses more, or it is done, or at most two vertices cut the graph.
-pub data Stepped (rows : List ℕ) (n : ℕ) (ms : List Link) (used : ℕ) (st : State) : Type 0 where
-  goes : (ps : List Link) → Going rows n ms ps st → used < length (usedEdges (newestFirst ps)) → Stepped rows n ms used st
+pub data Stepped (rows : List ℕ) (n : ℕ) (ms : List Path) (used : ℕ) (st : State) : Type 0 where
+  goes : (ps : List Path) → Going rows n ms ps st → used < length (usedEdges (newestFirst ps)) → Stepped rows n ms used st
   ends : st .going ≡ false → Completed rows n ms st → Stepped rows n ms used st
   cuts : st .going ≡ false → IsCut rows n (st .cutBy) → Stepped rows n ms used st
 
@@ -78,7 +78,7 @@ longer-of u p s i h k = omega arith
 pub take-in : (w i : ℕ) (l : List ℕ) → In w (take i l) → In w l
 take-in w i l h = subst (λ (k : List ℕ). In w k) (take-append-drop i l) (in-left w (take i l) (drop i l) h)
 
-module _ (rows : List ℕ) (n : ℕ) (dr : Drawn rows n) (ms ps : List Link) (st : State) (go : Going rows n ms ps st) where
+module _ (rows : List ℕ) (n : ℕ) (dr : Drawn rows n) (ms ps : List Path) (st : State) (go : Going rows n ms ps st) where
   pub vertex-low : (w : ℕ) → In w (builtVertices (newestFirst ps)) → w < n
   vertex-low w h = built-low (rowsGraph n rows) (dr .simple) (newestFirst ps) (go .recorded) w h
 
@@ -91,13 +91,13 @@ module _ (rows : List ℕ) (n : ℕ) (dr : Drawn rows n) (ms ps : List Link) (st
 
 module _ (rows : List ℕ) (n : ℕ) (dr : Drawn rows n) (few : edgeCount (rowsGraph n rows) ≤ maxEdges) where
   -- the paths of a record have room
-  pub room : (ps : List Link) → Recorded (Adj (rowsGraph n rows)) (newestFirst ps) → length (flatten ps) ≤ pathSpace
+  pub room : (ps : List Path) → Recorded (Adj (rowsGraph n rows)) (newestFirst ps) → length (flatten ps) ≤ pathSpace
   room ps val = room-of (length (flatten ps)) (length (usedEdges (newestFirst ps))) (edgeCount (rowsGraph n rows)) (flat-most ps) (recorded-most (rowsGraph n rows) (dr .simple) (newestFirst ps) val) few
 
   -- A PATH IS APPENDED.
-  module _ (ms ps : List Link) (st : State) (go : Going rows n ms ps st) (P : Link) (ext : Extends (Adj (rowsGraph n rows)) (newestFirst ps) P) where
+  module _ (ms ps : List Path) (st : State) (go : Going rows n ms ps st) (P : Path) (ext : Extends (Adj (rowsGraph n rows)) (newestFirst ps) P) where
     longer-record : Recorded (Adj (rowsGraph n rows)) (newestFirst (ps ++ (P ∷ [])))
-    longer-record = subst (λ (k : List Link). Recorded (Adj (rowsGraph n rows)) k) (sym (newest-snoc ps P (go .six))) (inr (ext, go .recorded))
+    longer-record = subst (λ (k : List Path). Recorded (Adj (rowsGraph n rows)) k) (sym (newest-snoc ps P (go .six))) (inr (ext, go .recorded))
 
     longer-flat : st .flat ++ (stop ∷ vertices P) ≡ flatten (ps ++ (P ∷ []))
     longer-flat = ap (λ (k : List ℕ). k ++ (stop ∷ vertices P)) (go .same-flat) ∙ ap (λ (k : List ℕ). flatten ps ++ (stop ∷ k)) (sym (append-nil (vertices P))) ∙ sym (flatten-append ps (P ∷ []))
@@ -135,7 +135,7 @@ module _ (rows : List ℕ) (n : ℕ) (dr : Drawn rows n) (few : edgeCount (rowsG
     on-more w h k = on-all (st .built) (vertices P) w (go .built-sized) k (⊎-map (λ j. go .on-built w j k) (λ j. ⊎-elim (λ e. absurd (below-stop w k e)) (λ i. i) j) (in-append w (st .flat) (stop ∷ vertices P) h))
 
     used-longer : length (usedEdges (newestFirst ps)) < length (usedEdges (newestFirst (ps ++ (P ∷ []))))
-    used-longer = longer-of (length (usedEdges (newestFirst ps))) (length (pathEdges P)) (length (usedEdges (newestFirst (ps ++ (P ∷ []))))) (length (P .inner)) (ap (λ (k : List Link). length (usedEdges k)) (newest-snoc ps P (go .six)) ∙ length-append (pathEdges P) (usedEdges (newestFirst ps))) (length-path P)
+    used-longer = longer-of (length (usedEdges (newestFirst ps))) (length (pathEdges P)) (length (usedEdges (newestFirst (ps ++ (P ∷ []))))) (length (P .inner)) (ap (λ (k : List Path). length (usedEdges k)) (newest-snoc ps P (go .six)) ∙ length-append (pathEdges P) (usedEdges (newestFirst ps))) (length-path P)
 
     module _ (i : ℕ) (fit : i ≤ length (st .flat)) (seen : (w : ℕ) → In w (take i (st .flat)) → On (st .built) w → On (st .branch) w) where
       still-seen : (w : ℕ) → In w (take i (addPath (st .flat) (vertices P))) → On (withAll (st .built) (vertices P)) w → On withEnds w
@@ -151,8 +151,8 @@ module _ (rows : List ℕ) (n : ℕ) (dr : Drawn rows n) (few : edgeCount (rowsG
         same-flat = path-added ∙ longer-flat;
         branch-sized = sized-inserted (inserted (st .branch) (P .s)) (lastOf (vertices P)) one-sized;
         built-sized = sized-all (st .built) (vertices P) (go .built-sized);
-        branch-on = λ w h. subst (λ (k : List Link). In w (branchVertices k)) (sym (newest-snoc ps P (go .six))) (ends-on w h);
-        on-branch = λ w h. on-ends w (subst (λ (k : List Link). In w (branchVertices k)) (newest-snoc ps P (go .six)) h);
+        branch-on = λ w h. subst (λ (k : List Path). In w (branchVertices k)) (sym (newest-snoc ps P (go .six))) (ends-on w h);
+        on-branch = λ w h. on-ends w (subst (λ (k : List Path). In w (branchVertices k)) (newest-snoc ps P (go .six)) h);
         built-on = λ w h. subst (λ (k : List ℕ). In w k) (sym path-added) (more-on w h);
         on-built = λ w h k. on-more w (subst (λ (k : List ℕ). In w k) path-added h) k;
         fits = subst (λ (k : ℕ). i ≤ k) (sym (ap length path-added ∙ length-append (st .flat) (stop ∷ vertices P))) (more-of i (length (st .flat)) (length (stop ∷ vertices P)) fit);

@@ -17,7 +17,7 @@ use Rattle.graph.specs.Rows.{adjacentIn, rowWords, bareRows, joined, joinedRows
 use Rattle.reading.proofs.Adjacency.{has-both, same-bit}
 use Rattle.connectivity.specs.Lists.{In}
 use Rattle.connectivity.specs.Graph.{isPair}
-use Rattle.connectivity.specs.Path.{Link, edge, edgesAlong, usedEdges}
+use Rattle.connectivity.specs.Path.{Path, edge, edgesAlong, usedEdges}
 use Rattle.connectivity.proofs.Lists.{clash, or-true, true-or, and-true, in-append, in-left, in-right, in-single}
 use Rattle.connectivity.proofs.Paths.{SamePair, edge-same, edge-comm}
 use Rattle.construction.specs.Start.{marked}
@@ -153,7 +153,7 @@ law-marked flat u v hu hv h = rw (lt-ltb u capacity hu, lt-ltb v capacity hv) (i
 same-edge : (x y a b : ℕ) → (x ≡ a) × (y ≡ b) → edge x y ≡ edge a b
 same-edge x y a b e = rw (e .0, e .1)
 
-beside-path : (s : ℕ) (l : List ℕ) (t : ℕ) (ps : List Link) (x y : ℕ) → y < capacity → Beside (s ∷ ((l ++ (t ∷ [])) ++ flatten ps)) x y → In (edge x y) (edgesAlong s l t) ⊎ Beside (flatten ps) x y
+beside-path : (s : ℕ) (l : List ℕ) (t : ℕ) (ps : List Path) (x y : ℕ) → y < capacity → Beside (s ∷ ((l ++ (t ∷ [])) ++ flatten ps)) x y → In (edge x y) (edgesAlong s l t) ⊎ Beside (flatten ps) x y
 beside-path s [] t [] x y hy (inl e) = inl (inl (same-edge x y s t e))
 beside-path s [] t [] x y hy (inr h) = absurd h
 beside-path s [] t (P ∷ ps) x y hy (inl e) = inl (inl (same-edge x y s t e))
@@ -162,7 +162,7 @@ beside-path s [] t (P ∷ ps) x y hy (inr (inr h)) = inr h
 beside-path s (a ∷ l) t ps x y hy (inl e) = inl (inl (same-edge x y s a e))
 beside-path s (a ∷ l) t ps x y hy (inr h) = ⊎-map inr (λ k. k) (beside-path a l t ps x y hy h)
 
-beside-used : (ps : List Link) (x y : ℕ) → x < capacity → y < capacity → Beside (flatten ps) x y → In (edge x y) (usedEdges ps)
+beside-used : (ps : List Path) (x y : ℕ) → x < capacity → y < capacity → Beside (flatten ps) x y → In (edge x y) (usedEdges ps)
 beside-used [] x y hx hy h = absurd h
 beside-used (P ∷ ps) x y hx hy (inl e) = absurd (omega (arith, e .0))
 beside-used (P ∷ ps) x y hx hy (inr h) = ⊎-elim (in-left (edge x y) (edgesAlong (P .s) (P .inner) (P .t)) (usedEdges ps)) (λ k. in-right (edge x y) (edgesAlong (P .s) (P .inner) (P .t)) (usedEdges ps) (beside-used ps x y hx hy k))
@@ -179,31 +179,31 @@ path-beside s [] t m x y h = here-both s t m x y (in-single (edge x y) (edge s t
 path-beside s (a ∷ l) t m x y (inl e) = here-both s a ((l ++ (t ∷ [])) ++ m) x y e
 path-beside s (a ∷ l) t m x y (inr h) = ⊎-map inr inr (path-beside a l t m x y h)
 
-beside-behind : (s : ℕ) (l : List ℕ) (t : ℕ) (ps : List Link) (x y : ℕ) → Beside (flatten ps) x y → Beside (s ∷ ((l ++ (t ∷ [])) ++ flatten ps)) x y
+beside-behind : (s : ℕ) (l : List ℕ) (t : ℕ) (ps : List Path) (x y : ℕ) → Beside (flatten ps) x y → Beside (s ∷ ((l ++ (t ∷ [])) ++ flatten ps)) x y
 beside-behind s [] t [] x y h = absurd h
 beside-behind s [] t (P ∷ ps) x y h = inr (inr h)
 beside-behind s (a ∷ l) t ps x y h = inr (beside-behind a l t ps x y h)
 
-used-beside : (ps : List Link) (x y : ℕ) → In (edge x y) (usedEdges ps) → BesideBoth (flatten ps) x y
+used-beside : (ps : List Path) (x y : ℕ) → In (edge x y) (usedEdges ps) → BesideBoth (flatten ps) x y
 used-beside [] x y h = absurd h
 used-beside (P ∷ ps) x y h = ⊎-elim (λ k. ⊎-map inr inr (path-beside (P .s) (P .inner) (P .t) (flatten ps) x y k))
     (λ k. ⊎-map (λ j. inr (beside-behind (P .s) (P .inner) (P .t) ps x y j)) (λ j. inr (beside-behind (P .s) (P .inner) (P .t) ps y x j)) (used-beside ps x y k))
     (in-append (edge x y) (edgesAlong (P .s) (P .inner) (P .t)) (usedEdges ps) h)
 
 -- THE TABLE OF PATHS HOLDS THE EDGES THAT THEY USE.
-abbrev pub tableOf : List Link → List ℕ
+abbrev pub tableOf : List Path → List ℕ
 tableOf ps = marked bareRows (flatten ps)
 
-pub table-used : (ps : List Link) (u v : ℕ) → adjacentIn (tableOf ps) u v ≡ true → (u < capacity) × (v < capacity) × In (edge u v) (usedEdges ps)
+pub table-used : (ps : List Path) (u v : ℕ) → adjacentIn (tableOf ps) u v ≡ true → (u < capacity) × (v < capacity) × In (edge u v) (usedEdges ps)
 table-used ps u v h =
     let r = marked-law (flatten ps) u v h in
     (r .0, r .1, ⊎-elim (beside-used ps u v (r .0) (r .1)) (λ k. subst (λ (e : ℕ × ℕ). In e (usedEdges ps)) (edge-comm v u) (beside-used ps v u (r .1) (r .0) k)) (r .2))
 
-pub used-table : (ps : List Link) (u v : ℕ) → u < capacity → v < capacity → In (edge u v) (usedEdges ps) → adjacentIn (tableOf ps) u v ≡ true
+pub used-table : (ps : List Path) (u v : ℕ) → u < capacity → v < capacity → In (edge u v) (usedEdges ps) → adjacentIn (tableOf ps) u v ≡ true
 used-table ps u v hu hv h = law-marked (flatten ps) u v hu hv (used-beside ps u v h)
 
 -- it draws a graph, where no path has a vertex twice in a row
-pub table-drawn : (ps : List Link) → ((u : ℕ) → ¬ In (edge u u) (usedEdges ps)) → Drawn (tableOf ps) capacity
+pub table-drawn : (ps : List Path) → ((u : ℕ) → ¬ In (edge u u) (usedEdges ps)) → Drawn (tableOf ps) capacity
 table-drawn ps differ = record {
   words = marked-words bareRows (flatten ps) (λ i. rw (zeros-at rowWords i) (lit< tt));
   size = marked-size bareRows (flatten ps) (length-replicate {A = ℕ} rowWords 0);

@@ -8,7 +8,7 @@ use lib.ListN.{length, length-append}
 use Rattle.vertexset.specs.declared.VertexSet.{VertexSet}
 use Rattle.connectivity.specs.Lists.{In, NoDup}
 use Rattle.connectivity.specs.Graph.{Graph, Adj, Simple}
-use Rattle.connectivity.specs.Path.{Link, link, vertices, Along, IsPath, edge, edgesAlong, pathEdges, usedEdges}
+use Rattle.connectivity.specs.Path.{Path, link, vertices, Along, IsPath, edge, edgesAlong, pathEdges, usedEdges}
 use Rattle.connectivity.specs.Build.{four}
 use Rattle.connectivity.proofs.Lists.{rev, length-rev, in-left, in-right, in-append, in-single, in-split, in-swap, in-rev, rev-in, nodup-right, nodup-append, nodup-swap, nodup-under, at-most}
 use Rattle.connectivity.proofs.Paths.{edge-same, nodup-inner, used-in, in-used}
@@ -42,23 +42,23 @@ module _ (E : ℕ → ℕ → Type 0) where
 
 -- ---- three links between a and b, and a path R from inside the first to inside the second
 
-abbrev pub fourPaths : ℕ → ℕ → List ℕ → List ℕ → List ℕ → Link → List Link
+abbrev pub fourPaths : ℕ → ℕ → List ℕ → List ℕ → List ℕ → Path → List Path
 fourPaths a b p q r R = link a p b ∷ (link a q b ∷ (link a r b ∷ (R ∷ [])))
 
 -- an edge of theirs is an edge of the six links
 cut-edges : (a b : ℕ) (p₁ : List ℕ) (s : ℕ) (p₂ q₁ : List ℕ) (t : ℕ) (q₂ r l : List ℕ) (e : ℕ × ℕ) → In e (usedEdges (fourPaths a b (p₁ ++ (s ∷ p₂)) (q₁ ++ (t ∷ q₂)) r (link s l t))) → In e (usedEdges (sixBetween a b p₁ s p₂ q₁ t q₂ r l))
 cut-edges a b p₁ s p₂ q₁ t q₂ r l e h = let m = used-in (fourPaths a b (p₁ ++ (s ∷ p₂)) (q₁ ++ (t ∷ q₂)) r (link s l t)) e h in go (m .0) (m .1) (m .2)
   where
-    six : List Link
+    six : List Path
     six = sixBetween a b p₁ s p₂ q₁ t q₂ r l
 
-    on : (M : Link) → In M six → In e (pathEdges M) → In e (usedEdges six)
+    on : (M : Path) → In M six → In e (pathEdges M) → In e (usedEdges six)
     on M = in-used six e M
 
     halves : (u : List ℕ) (x : ℕ) (v : List ℕ) → In (link a u x) six → In (link x v b) six → In e (edgesAlong a (u ++ (x ∷ v)) b) → In e (usedEdges six)
     halves u x v hu hv k = ⊎-elim (on (link a u x) hu) (on (link x v b) hv) (in-append e (edgesAlong a u x) (edgesAlong x v b) (subst (λ (m : List (ℕ × ℕ)). In e m) (edges-cut a u x v b) k))
 
-    go : (M : Link) → In M (fourPaths a b (p₁ ++ (s ∷ p₂)) (q₁ ++ (t ∷ q₂)) r (link s l t)) → In e (pathEdges M) → In e (usedEdges six)
+    go : (M : Path) → In M (fourPaths a b (p₁ ++ (s ∷ p₂)) (q₁ ++ (t ∷ q₂)) r (link s l t)) → In e (pathEdges M) → In e (usedEdges six)
     go M (inl i) k = halves p₁ s p₂ (inl refl) (inr (inr (inr (inr (inl refl))))) (rw i at k)
     go M (inr (inl i)) k = halves q₁ t q₂ (inr (inl refl)) (inr (inr (inr (inr (inr (inl refl)))))) (rw i at k)
     go M (inr (inr (inl i))) k = on (link a r b) (inr (inr (inl refl))) (rw i at k)
@@ -66,11 +66,11 @@ cut-edges a b p₁ s p₂ q₁ t q₂ r l e h = let m = used-in (fourPaths a b (
     go M (inr (inr (inr (inr h)))) k = absurd h
 
 -- THE SIX LINKS, IN ORDER, where a table holds the edges of these paths and no other
-module _ (g : Graph) (simple : Simple g) (table : List ℕ) (drawn : Drawn table capacity) (a b : ℕ) (R : Link) (set : VertexSet) (sized : Sized set)
+module _ (g : Graph) (simple : Simple g) (table : List ℕ) (drawn : Drawn table capacity) (a b : ℕ) (R : Path) (set : VertexSet) (sized : Sized set)
     (into : (w : ℕ) → In w (four a (R .s) (R .t) b) → On set w) (out : (w : ℕ) → On set w → In w (four a (R .s) (R .t) b)) where
   pub crossing : (p q r : List ℕ)
-      → ((M : Link) → In M (fourPaths a b p q r R) → Along (Adj g) (M .s) (M .inner) (M .t))
-      → ((M : Link) → In M (fourPaths a b p q r R) → Along (Adj (rowsGraph capacity table)) (M .s) (M .inner) (M .t))
+      → ((M : Path) → In M (fourPaths a b p q r R) → Along (Adj g) (M .s) (M .inner) (M .t))
+      → ((M : Path) → In M (fourPaths a b p q r R) → Along (Adj (rowsGraph capacity table)) (M .s) (M .inner) (M .t))
       → ((u v : ℕ) → Adj (rowsGraph capacity table) u v → In (edge u v) (usedEdges (fourPaths a b p q r R)))
       → NoDup (R .inner ++ (p ++ (q ++ (r ++ (a ∷ (b ∷ [])))))) → In (R .s) p → In (R .t) q → InOrder g table set
   crossing p q r along along′ only nd hs ht = go (in-split (R .s) p hs) (in-split (R .t) q ht)
@@ -79,12 +79,12 @@ module _ (g : Graph) (simple : Simple g) (table : List ℕ) (drawn : Drawn table
       go (p₁, p₂, ep) (q₁, q₂, eq) = in-order g simple table drawn (four a (R .s) (R .t) b) refl (sixBetween a b p₁ (R .s) p₂ q₁ (R .t) q₂ r (R .inner)) (paths (Adj g) along) (paths (Adj (rowsGraph capacity table)) along′)
           (λ u v k. cut-edges a b p₁ (R .s) p₂ q₁ (R .t) q₂ r (R .inner) (edge u v) (rw (ep, eq) at (only u v k))) set sized into out
         where
-          paths : (E : ℕ → ℕ → Type 0) → ((M : Link) → In M (fourPaths a b p q r R) → Along E (M .s) (M .inner) (M .t)) → StartPaths E (four a (R .s) (R .t) b) (sixBetween a b p₁ (R .s) p₂ q₁ (R .t) q₂ r (R .inner))
+          paths : (E : ℕ → ℕ → Type 0) → ((M : Path) → In M (fourPaths a b p q r R) → Along E (M .s) (M .inner) (M .t)) → StartPaths E (four a (R .s) (R .t) b) (sixBetween a b p₁ (R .s) p₂ q₁ (R .t) q₂ r (R .inner))
           paths E f = six-paths E a b p₁ (R .s) p₂ q₁ (R .t) q₂ r (R .inner) (rw ep at (f (link a p b) (inl refl))) (rw eq at (f (link a q b) (inr (inl refl)))) (f (link a r b) (inr (inr (inl refl)))) (f R (inr (inr (inr (inl refl))))) (rw (ep, eq) at nd)
 
 -- ---- the three paths
 
-abbrev pub wholePaths : Link → Link → Link → List Link
+abbrev pub wholePaths : Path → Path → Path → List Path
 wholePaths P Q R = link 0 (rev (vertices P)) 0 ∷ (link (Q .t) (rev (Q .s ∷ Q .inner)) 0 ∷ (reversed R ∷ []))
 
 swap-in : {A : Type 0} (M x y z : A) (l : List A) → In M (x ∷ (y ∷ (z ∷ l))) → In M (x ∷ (z ∷ (y ∷ l)))
@@ -100,7 +100,7 @@ wrapped-short : (a : ℕ) (l : List ℕ) (c : ℕ) → length l ≤ capacity →
 wrapped-short a l c h = omega (arith, length-append (rev l) (c ∷ []), length-rev l)
 
 -- THREE PATHS: a cycle through 0, given by the path P without 0; a third path, over Q; the path R across.
-pub record Crossed (g : Graph) (P Q R : Link) : Type 0 where
+pub record Crossed (g : Graph) (P Q R : Path) : Type 0 where
   pub path-P : IsPath (Adj g) P
   pub ks : Adj g 0 (P .s)
   pub kt : Adj g 0 (P .t)
@@ -116,8 +116,8 @@ pub record Crossed (g : Graph) (P Q R : Link) : Type 0 where
   pub differ : R .t ≢ Q .t
   pub off-R : (w : ℕ) → In w (R .inner) → (¬ In w (Q .s ∷ Q .inner)) × (¬ In w (vertices P)) × (w ≢ 0)
 
-module _ (g : Graph) (simple : Simple g) (fits : g .n ≤ capacity) (P Q R : Link) (c : Crossed g P Q R) where
-  path-short : (L : Link) → IsPath (Adj g) L → length (vertices L) ≤ capacity
+module _ (g : Graph) (simple : Simple g) (fits : g .n ≤ capacity) (P Q R : Path) (c : Crossed g P Q R) where
+  path-short : (L : Path) → IsPath (Adj g) L → length (vertices L) ≤ capacity
   path-short L p = omega (arith, at-most (g .n) (vertices L) (p .nodup) (path-low g simple L p))
 
   pub whole-room : Room (threePaths (rev (vertices P) ++ (0 ∷ [])) (vertices (link (Q .t) (rev (Q .s ∷ Q .inner)) 0)) (vertices (reversed R))) (wholePaths P Q R) 3
@@ -129,21 +129,21 @@ module _ (g : Graph) (simple : Simple g) (fits : g .n ≤ capacity) (P Q R : Lin
     abbrev p : List ℕ
     p = Q .s ∷ Q .inner
 
-    abbrev arcs : List Link
+    abbrev arcs : List Path
     arcs = fourPaths 0 (Q .t) p u (rev v) R
 
     -- they use the same edges
     down : (e : ℕ × ℕ) → In e (usedEdges (wholePaths P Q R)) → In e (usedEdges arcs)
     down e h = let m = used-in (wholePaths P Q R) e h in go (m .0) (m .1) (m .2)
       where
-        on : (M : Link) → In M arcs → In e (pathEdges M) → In e (usedEdges arcs)
+        on : (M : Path) → In M arcs → In e (pathEdges M) → In e (usedEdges arcs)
         on M = in-used arcs e M
 
         round : In e (edgesAlong 0 (vertices P) 0) → In e (usedEdges arcs)
         round k = ⊎-elim (on (link 0 u (Q .t)) (inr (inl refl))) (λ j. on (link 0 (rev v) (Q .t)) (inr (inr (inl refl))) (edges-rev (Q .t) v 0 e j))
             (in-append e (edgesAlong 0 u (Q .t)) (edgesAlong (Q .t) v 0) (subst (λ (m : List (ℕ × ℕ)). In e m) (ap (λ (l : List ℕ). edgesAlong 0 l 0) cut ∙ edges-cut 0 u (Q .t) v 0) k))
 
-        go : (M : Link) → In M (wholePaths P Q R) → In e (pathEdges M) → In e (usedEdges arcs)
+        go : (M : Path) → In M (wholePaths P Q R) → In e (pathEdges M) → In e (usedEdges arcs)
         go M (inl i) k = round (edges-back 0 (vertices P) 0 e (rw i at k))
         go M (inr (inl i)) k = on (link 0 p (Q .t)) (inl refl) (edges-back 0 p (Q .t) e (rw i at k))
         go M (inr (inr (inl i))) k = on R (inr (inr (inr (inl refl)))) (edges-back (R .s) (R .inner) (R .t) e (rw i at k))
@@ -152,20 +152,20 @@ module _ (g : Graph) (simple : Simple g) (fits : g .n ≤ capacity) (P Q R : Lin
     up : (e : ℕ × ℕ) → In e (usedEdges arcs) → In e (usedEdges (wholePaths P Q R))
     up e h = let m = used-in arcs e h in go (m .0) (m .1) (m .2)
       where
-        on : (M : Link) → In M (wholePaths P Q R) → In e (pathEdges M) → In e (usedEdges (wholePaths P Q R))
+        on : (M : Path) → In M (wholePaths P Q R) → In e (pathEdges M) → In e (usedEdges (wholePaths P Q R))
         on M = in-used (wholePaths P Q R) e M
 
         round : In e (edgesAlong 0 u (Q .t) ++ edgesAlong (Q .t) v 0) → In e (usedEdges (wholePaths P Q R))
         round k = on (link 0 (rev (vertices P)) 0) (inl refl) (edges-rev 0 (vertices P) 0 e (subst (λ (m : List (ℕ × ℕ)). In e m) (sym (ap (λ (l : List ℕ). edgesAlong 0 l 0) cut ∙ edges-cut 0 u (Q .t) v 0)) k))
 
-        go : (M : Link) → In M arcs → In e (pathEdges M) → In e (usedEdges (wholePaths P Q R))
+        go : (M : Path) → In M arcs → In e (pathEdges M) → In e (usedEdges (wholePaths P Q R))
         go M (inl i) k = on (link (Q .t) (rev p) 0) (inr (inl refl)) (edges-rev 0 p (Q .t) e (rw i at k))
         go M (inr (inl i)) k = round (in-left e (edgesAlong 0 u (Q .t)) (edgesAlong (Q .t) v 0) (rw i at k))
         go M (inr (inr (inl i))) k = round (in-right e (edgesAlong 0 u (Q .t)) (edgesAlong (Q .t) v 0) (edges-back (Q .t) v 0 e (rw i at k)))
         go M (inr (inr (inr (inl i)))) k = on (reversed R) (inr (inr (inl refl))) (edges-rev (R .s) (R .inner) (R .t) e (rw i at k))
         go M (inr (inr (inr (inr h)))) k = absurd h
 
-    arc-along : (M : Link) → In M arcs → Along (Adj g) (M .s) (M .inner) (M .t)
+    arc-along : (M : Path) → In M arcs → Along (Adj g) (M .s) (M .inner) (M .t)
     arc-along M (inl i) = rw i (c .kQ, c .path-Q .along)
     arc-along M (inr (inl i)) = rw i (two-arcs (Adj g) (simple .symmetric) 0 P (c .ks) (c .path-P .along) (c .kt) (Q .t) u v cut .0)
     arc-along M (inr (inr (inl i))) = rw i (two-arcs (Adj g) (simple .symmetric) 0 P (c .ks) (c .path-P .along) (c .kt) (Q .t) u v cut .1)
@@ -188,7 +188,7 @@ module _ (g : Graph) (simple : Simple g) (fits : g .n ≤ capacity) (P Q R : Lin
     below : (w : ℕ) → w < g .n → w < capacity
     below w h = omega arith
 
-    table-along : (M : Link) → In M arcs → Along (Adj (rowsGraph capacity table)) (M .s) (M .inner) (M .t)
+    table-along : (M : Path) → In M arcs → Along (Adj (rowsGraph capacity table)) (M .s) (M .inner) (M .t)
     table-along M hM = along-of (Adj (rowsGraph capacity table)) (M .s) (M .inner) (M .t) (λ x y k.
         let h = in-used arcs (edge x y) M hM k in
         let a = arc-edge x y h in
@@ -207,13 +207,13 @@ module _ (g : Graph) (simple : Simple g) (fits : g .n ≤ capacity) (P Q R : Lin
     swapped = subst (λ (k : List ℕ). NoDup k) (append-assoc (R .inner) p (rev v ++ (u ++ (0 ∷ (Q .t ∷ []))))) (nodup-behind (R .inner ++ p) u (rev v) (0 ∷ (Q .t ∷ []))
         (subst (λ (k : List ℕ). NoDup k) (sym (append-assoc (R .inner) p (u ++ (rev v ++ (0 ∷ (Q .t ∷ [])))))) whole))
 
-    abbrev arcs′ : List Link
+    abbrev arcs′ : List Path
     arcs′ = fourPaths 0 (Q .t) p (rev v) u R
 
     only′ : (x y : ℕ) → Adj (rowsGraph capacity table) x y → In (edge x y) (usedEdges arcs′)
     only′ x y k = let m = used-in arcs (edge x y) (only x y k) in in-used arcs′ (edge x y) (m .0) (swap-in (m .0) (link 0 p (Q .t)) (link 0 u (Q .t)) (link 0 (rev v) (Q .t)) (R ∷ []) (m .1)) (m .2)
 
-    unswap : (M : Link) → In M arcs′ → In M arcs
+    unswap : (M : Path) → In M arcs′ → In M arcs
     unswap M = swap-in M (link 0 p (Q .t)) (link 0 (rev v) (Q .t)) (link 0 u (Q .t)) (R ∷ [])
 
     cut-order : (set : VertexSet) → Sized set → ((w : ℕ) → In w (four 0 (R .s) (R .t) (Q .t)) → On set w) → ((w : ℕ) → On set w → In w (four 0 (R .s) (R .t) (Q .t))) → InOrder g table set

@@ -14,7 +14,7 @@ use Rattle.vertexset.specs.declared.VertexSet.{VertexSet}
 use Rattle.vertexset.proofs.Laws.{empty-has, inserted-has, inserted-length}
 use Rattle.connectivity.specs.Lists.{member}
 use Rattle.connectivity.specs.Graph.{Graph}
-use Rattle.connectivity.specs.Path.{Link}
+use Rattle.connectivity.specs.Path.{Path}
 use Rattle.certificates.specs.Tests.{nobody, with, allBelow, earTaken}
 use Rattle.certificates.specs.Records.{vertex, ear, side, body}
 use Rattle.paths.specs.Items.{endRead, limited}
@@ -41,19 +41,19 @@ module _ (n c : ℕ) (s : List ℕ) (at : ℕ) {d next : ℕ} (e : vertex n s at
 
 module _ (g : Graph) (s : List ℕ) (at : ℕ) (low : g .n ≤ capacity) where
   -- what is left to read after each item
-  abbrev sideAfter : ℕ → ℕ → List Link → Unit {0} → Reader (List ℕ)
+  abbrev sideAfter : ℕ → ℕ → List Path → Unit {0} → Reader (List ℕ)
   sideAfter c d all u = side g (with (with nobody c) d)
 
-  abbrev allIn : List Link → Reader (Unit {0})
+  abbrev allIn : List Path → Reader (Unit {0})
   allIn all = check 28 (allBelow (g .n) (λ v. member v (folded earTaken [] all)))
 
-  abbrev earsAfter : ℕ → ℕ → Reader (List Link × (Unit {0} × List ℕ))
+  abbrev earsAfter : ℕ → ℕ → Reader (List Path × (Unit {0} × List ℕ))
   earsAfter c d = counted (number needs⟨ 9 ⟩ within 1 (g .n - 2)) (ear g) earTaken [] ▸ λ all. allIn all ▸ sideAfter c d all
 
   abbrev higher : ℕ → Reader ℕ
   higher c = vertex (g .n) needs⟨ 20 ⟩ leb (suc c)
 
-  pairAfter : (c : ℕ) → Reader (ℕ × (List Link × (Unit {0} × List ℕ)))
+  pairAfter : (c : ℕ) → Reader (ℕ × (List Path × (Unit {0} × List ℕ)))
   pairAfter c = higher c ▸ earsAfter c
 
   whole : {x : Item} → x ≡ endRead ((vertex (g .n) ▸ pairAfter) s at) → x ≡ endRead (limited (g .n) (body g 2) s at)
@@ -84,7 +84,7 @@ module _ (g : Graph) (s : List ℕ) (at : ℕ) (low : g .n ≤ capacity) where
         pub ears-all : {q p : ℕ} → allEars g k s from ≡ Refused q p → Fault q p ≡ endRead (limited (g .n) (body g 2) s at)
         ears-all l = counted-on (front-stop _ allIn (sideAfter c d) s from l)
 
-        pub ears-side : {removed : ℕ → Bool} {x : List Link × Unit {0}} {next : ℕ} → removed ≡ with (with nobody c) d → allEars g k s from ≡ Got x next
+        pub ears-side : {removed : ℕ → Bool} {x : List Path × Unit {0}} {next : ℕ} → removed ≡ with (with nobody c) d → allEars g k s from ≡ Got x next
             → endRead (limited (g .n) (side g removed) s next) ≡ endRead (limited (g .n) (body g 2) s at)
         ears-side {removed} {x} {next} r l =
             ap endRead (limited-in (g .n) next _ low) ∙ ap (λ (t : ℕ → Bool). endRead (side g t s next)) r ∙ counted-on (front-then _ allIn (sideAfter c d) s from l)

@@ -17,7 +17,7 @@ use Rattle.vertexset.proofs.Laws.{empty-has, has-union, wordwise-length}
 use Rattle.connectivity.proofs.Lists.{and-true}
 use Rattle.connectivity.specs.Lists.{member}
 use Rattle.connectivity.specs.Graph.{Graph}
-use Rattle.connectivity.specs.Path.{Link, vertices}
+use Rattle.connectivity.specs.Path.{Path, vertices}
 use Rattle.certificates.specs.Tests.{allBelow, begun, earAlong, earEnds, earNew, earTaken}
 use Rattle.certificates.specs.Records.{path, ear}
 use Rattle.paths.specs.Items.{endRead}
@@ -42,7 +42,7 @@ same-ear g B e r s at =
     ap (λ (b : Bool). earBeside g b (λ v. member v B) s at) (r .begins) ∙ ap (λ (f : ℕ → Bool). earBeside g (e .begun) f s at) (fun-ext (r .in-both))
 
 -- an ear that was read: its path, and its ends are in unless it is the first
-ear-got : (g : Graph) (B : List ℕ) (s : List ℕ) (at : ℕ) {P : Link} {next : ℕ} → ear g B s at ≡ Got P next → (path (g .n) 3 s at ≡ Got P next) × (earEnds B P ≡ true)
+ear-got : (g : Graph) (B : List ℕ) (s : List ℕ) (at : ℕ) {P : Path} {next : ℕ} → ear g B s at ≡ Got P next → (path (g .n) 3 s at ≡ Got P next) × (earEnds B P ≡ true)
 unfolding ear
 ear-got g B s at f =
     let c = needs-true (path (g .n) 3 needs⟨ 24 ⟩ earAlong g B needs⟨ 25 ⟩ earEnds B) 26 (earNew B) {s = s} {at = at} f in
@@ -58,11 +58,11 @@ member-append : (v : ℕ) (l m : List ℕ) → member v (l ++ m) ≡ (member v l
 member-append v [] m = refl
 member-append v (a ∷ l) m = rw (member-append v l m) (sym (or-assoc (eqb v a) (member v l) (member v m)))
 
-begun-taken : (B : List ℕ) (P : Link) → begun (earTaken B P) ≡ true
+begun-taken : (B : List ℕ) (P : Path) → begun (earTaken B P) ≡ true
 begun-taken [] P = refl
 begun-taken (b ∷ B) P = begun-append (P .inner) b B
 
-member-taken : (B : List ℕ) (P : Link) (v : ℕ) → earEnds B P ≡ true → member v (earTaken B P) ≡ (member v B || member v (vertices P))
+member-taken : (B : List ℕ) (P : Path) (v : ℕ) → earEnds B P ≡ true → member v (earTaken B P) ≡ (member v B || member v (vertices P))
 member-taken [] P v h = refl
 member-taken (b ∷ B) P v h =
     let t = and-true (member (P .s) (b ∷ B)) (member (P .t) (b ∷ B)) h in
@@ -77,7 +77,7 @@ member-taken (b ∷ B) P v h =
     go i false false true f k = absurd (false≢true (k refl))
     go i false false false f k = refl
 
-same-taken : (g : Graph) → g .n ≤ capacity → (B : List ℕ) (e : Ears) → Same B e → (s : List ℕ) (at : ℕ) (P : Link) (next : ℕ) → ear g B s at ≡ Got P next → Same (earTaken B P) (earsWith e P)
+same-taken : (g : Graph) → g .n ≤ capacity → (B : List ℕ) (e : Ears) → Same B e → (s : List ℕ) (at : ℕ) (P : Path) (next : ℕ) → ear g B s at ≡ Got P next → Same (earTaken B P) (earsWith e P)
 same-taken g h B e r s at P next f =
     let p = ear-got g B s at f in
     let set : VertexSet = folded inserted emptySet (vertices P) in
@@ -99,14 +99,14 @@ ears-begin g h k s from =
     rw (← many-same Same (ear g) earTaken (earLoop g .item) earsWith (same-ear g) (same-taken g h) k [] noEars same-none s from)
     (go (many (ear g) earTaken k [] s from) refl)
   where
-    tested : List Link → ℕ → Read (List Link × Unit {0})
+    tested : List Path → ℕ → Read (List Path × Unit {0})
     tested all mid = onRead (check 28 (allBelow (g .n) (λ v. member v (folded earTaken [] all))) s mid) (λ u next. Got (all, u) next)
 
-    pick : (b : Bool) (all : List Link) (mid : ℕ) → cond b (Value 0 mid) (Fault 28 mid) ≡ endRead {A = List Link × Unit {0}} (onRead (cond b (Got tt mid) (Refused 28 mid)) (λ u next. Got (all, u) next))
+    pick : (b : Bool) (all : List Path) (mid : ℕ) → cond b (Value 0 mid) (Fault 28 mid) ≡ endRead {A = List Path × Unit {0}} (onRead (cond b (Got tt mid) (Refused 28 mid)) (λ u next. Got (all, u) next))
     pick true all mid = refl
     pick false all mid = refl
 
-    go : (x : Read (List Link)) → many (ear g) earTaken k [] s from ≡ x → finish earsWith (earLoop g .ok) Fault noEars x ≡ endRead (onRead x tested)
+    go : (x : Read (List Path)) → many (ear g) earTaken k [] s from ≡ x → finish earsWith (earLoop g .ok) Fault noEars x ≡ endRead (onRead x tested)
     go (Got all next) m =
         let r = many-kept Same (ear g) earTaken (earLoop g .item) earsWith (same-ear g) (same-taken g h) k [] noEars same-none s from m in
         ap (λ (f : ℕ → Bool). cond (allBelow (g .n) f) (Value 0 next) (Fault 28 next)) (sym (fun-ext (r .in-both))) ∙ pick (allBelow (g .n) (λ v. member v (folded earTaken [] all))) all next

@@ -8,7 +8,7 @@ use Rattle.record.specs.Loop.{Loop}
 use Rattle.vertexset.specs.Set.{has, emptySet, inserted, wordwise}
 use Rattle.connectivity.specs.Lists.{member}
 use Rattle.connectivity.specs.Graph.{Graph}
-use Rattle.connectivity.specs.Path.{Link, vertices}
+use Rattle.connectivity.specs.Path.{Path, vertices}
 use Rattle.certificates.specs.Tests.{allBelow, pathAlong, pathNew, earTaken}
 use Rattle.certificates.specs.Records.{path, ear}
 use Rattle.paths.specs.declared.PathRead.{PathRead}
@@ -21,10 +21,10 @@ abbrev pub noEars : Ears
 noEars = record { set = emptySet; begun = false }
 
 -- a path taken in, by the set of its vertices
-abbrev pub earsWith : Ears → Link → Ears
+abbrev pub earsWith : Ears → Path → Ears
 earsWith e P = record { set = wordwise bitOr (e .set) (folded inserted emptySet (vertices P)); begun = true }
 
-unfoldable pub earRead : Ears → Read Link → EarRead
+unfoldable pub earRead : Ears → Read Path → EarRead
 earRead e (Got P next) = record { end = Value 0 next; ears = earsWith e P }
 earRead e (Refused r p) = record { end = Fault r p; ears = e }
 
@@ -40,7 +40,7 @@ earTested adj e p at next =
     (record { end = Fault 24 at; ears = e })
 
 -- an ear, beside a test in place of a list of the vertices that are in
-unfoldable pub earBeside : Graph → Bool → (ℕ → Bool) → Reader Link
+unfoldable pub earBeside : Graph → Bool → (ℕ → Bool) → Reader Path
 earBeside g begun old =
     path (g .n) 3
     needs⟨ 24 ⟩ (λ P. pathAlong g P && (begun || g .adj (P .t) (P .s)))
@@ -48,11 +48,11 @@ earBeside g begun old =
     needs⟨ 26 ⟩ pathNew old
 
 -- k ears, and then every vertex is in
-abbrev pub allEars : Graph → ℕ → Reader (List Link × Unit {0})
+abbrev pub allEars : Graph → ℕ → Reader (List Path × Unit {0})
 allEars g k = many (ear g) earTaken k [] ▸ λ all. check 28 (allBelow (g .n) (λ v. member v (folded earTaken [] all)))
 
 -- the loop over the ears
-abbrev pub earLoop : Graph → Loop Ears Link Ears Item
+abbrev pub earLoop : Graph → Loop Ears Path Ears Item
 earLoop g = record {
   item = λ e. earBeside g (e .begun) (has (e .set .words));
   after = earsWith;

@@ -7,7 +7,7 @@ ghost use Rattle.certifier.specs.Made.{madeFrom, filledFrom, roomAsked};
 ghost use Rattle.script.specs.Replay.{answerWord, replayOf};
 ghost use Rattle.fikzarn.specs.Words.{planRewritten, madeWord, replayWord, edition};
 use certifier::Made;
-use graph::Graph;
+use graph::GraphTable;
 use record::Answer;
 
 // Reads a whole plan record. Where it is accepted and has room, writes it again at the start of out; else out stays as it was.
@@ -78,21 +78,21 @@ pub extern "C" fn fikzarn_edition() -> u64
 pub extern "C" fn fikzarn_min_boxes() -> u64
     ensures { λ r. ⌜ r ≡ minVertices ⌝ }
 {
-    Graph::MIN_VERTICES as u64
+    GraphTable::MIN_VERTICES as u64
 }
 
 #[no_mangle]
 pub extern "C" fn fikzarn_max_boxes() -> u64
     ensures { λ r. ⌜ r ≡ maxVertices ⌝ }
 {
-    Graph::MAX_VERTICES as u64
+    GraphTable::MAX_VERTICES as u64
 }
 
 #[no_mangle]
 pub extern "C" fn fikzarn_max_cables() -> u64
     ensures { λ r. ⌜ r ≡ maxEdges ⌝ }
 {
-    Graph::MAX_EDGES as u64
+    GraphTable::MAX_EDGES as u64
 }
 
 // The bytes that a buffer for a certificate must have.

@@ -7,7 +7,7 @@ use lib.ListN.{length, getD, replicate}
 use Rattle.connectivity.specs.Graph as connectivity
 use Rattle.vertexset.specs.Set.{has, withBit, wordCount, emptySet, capacity}
 use Rattle.vertexset.specs.declared.VertexSet.{VertexSet}
-use Rattle.graph.specs.declared.Graph.{Graph}
+use Rattle.graph.specs.declared.GraphTable.{GraphTable}
 
 -- a row for each vertex that a set can hold, as long as a set
 abbrev pub rowWords : ℕ
@@ -43,5 +43,5 @@ abbrev pub rowsGraph : ℕ → List ℕ → connectivity.Graph
 rowsGraph n rows = record { n = n; adj = adjacentIn rows }
 
 -- what stands beside a refusal: a graph without vertices
-abbrev pub noGraph : Graph
+abbrev pub noGraph : GraphTable
 noGraph = record { n = 0; m = 0; rows = bareRows }

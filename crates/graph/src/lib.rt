@@ -6,13 +6,13 @@ ghost use Rattle.graph.specs.Rows.{adjacentIn, rowOf, noGraph, joinedRow
 use vertexset::VertexSet;
 
 // n vertices, m edges, and for each vertex a row of bits: the vertices adjacent to it.
-pub struct Graph {
+pub struct GraphTable {
     pub n: u16,
     pub m: u16,
-    pub rows: [u64; Graph::ROW_WORDS],
+    pub rows: [u64; GraphTable::ROW_WORDS],
 }
 
-impl Graph {
+impl GraphTable {
     pub const MIN_VERTICES: u16 = 4;
 
     pub const MAX_VERTICES: u16 = 128;
@@ -22,21 +22,21 @@ impl Graph {
     // a row is as long as a vertex set, and there is one for each vertex that a set can hold
     pub const ROW_BITS: usize = VertexSet::CAPACITY as usize;
 
-    pub const ROW_WORDS: usize = Graph::ROW_BITS * VertexSet::WORDS;
+    pub const ROW_WORDS: usize = GraphTable::ROW_BITS * VertexSet::WORDS;
 
     pub fn none() -> Self
         ensures { λ r. ⌜ r ≡ noGraph ⌝ }
     {
-        Graph {
+        GraphTable {
             n: 0,
             m: 0,
-            rows: [0u64; Graph::ROW_WORDS],
+            rows: [0u64; GraphTable::ROW_WORDS],
         }
     }
 }
 
 // Two vertices are adjacent.
-pub fn adjacent(rows: &[u64; Graph::ROW_WORDS], u: u16, v: u16) -> bool
+pub fn adjacent(rows: &[u64; GraphTable::ROW_WORDS], u: u16, v: u16) -> bool
     ensures { λ r. ⌜ r ≡ adjacentIn (now (rows .entry)) u v ⌝ }
 {
     if u < VertexSet::CAPACITY {
@@ -50,7 +50,7 @@ pub fn adjacent(rows: &[u64; Graph::ROW_WORDS], u: u16, v: u16) -> bool
 }
 
 // The vertices adjacent to a vertex.
-pub fn row(rows: &[u64; Graph::ROW_WORDS], u: u16) -> VertexSet
+pub fn row(rows: &[u64; GraphTable::ROW_WORDS], u: u16) -> VertexSet
     ensures { λ r. ⌜ r ≡ rowOf (now (rows .entry)) u ⌝ }
 {
     let mut set = VertexSet::empty();
@@ -64,7 +64,7 @@ pub fn row(rows: &[u64; Graph::ROW_WORDS], u: u16) -> VertexSet
     set
 }
 
-fn set_bit(rows: &mut [u64; Graph::ROW_WORDS], u: u16, v: u16)
+fn set_bit(rows: &mut [u64; GraphTable::ROW_WORDS], u: u16, v: u16)
     requires { ⌜ (u < capacity) × (v < capacity) ⌝ }
     ensures { λ r. ⌜ now (rows .exit) ≡ withBit (now (rows .entry)) (u * capacity + v) ⌝ }
 {
@@ -74,7 +74,7 @@ fn set_bit(rows: &mut [u64; Graph::ROW_WORDS], u: u16, v: u16)
 }
 
 // Two vertices are joined in a table of rows; a number past the vertices joins nothing.
-pub fn join(rows: &mut [u64; Graph::ROW_WORDS], u: u16, v: u16)
+pub fn join(rows: &mut [u64; GraphTable::ROW_WORDS], u: u16, v: u16)
     ensures { λ r. ⌜ now (rows .exit) ≡ joinedRows (now (rows .entry)) u v ⌝ }
 {
     if VertexSet::CAPACITY <= u {

@@ -14,7 +14,7 @@ use Rattle.record.proofs.Laws.{on-got, carry}
 use Rattle.record.proofs.Loops.{needs-true, All, many-length, many-all}
 use Rattle.vertexset.specs.Set.{capacity}
 use Rattle.record.proofs.Bounds.{within-true}
-use Rattle.connectivity.specs.Path.{Link, vertices}
+use Rattle.connectivity.specs.Path.{Path, vertices}
 use Rattle.certificates.specs.Records.{vertex, vertexList, linkOf, path}
 use Rattle.paths.specs.Paths.{pathRead, noPath}
 use Rattle.paths.specs.Code.{pathLoop, pathBegun}
@@ -73,7 +73,7 @@ module _ (n least : ℕ) (s : List ℕ) (at : ℕ) where
         go (Refused q p) m i j = refl
 
 -- the vertices of a path that was read
-pub path-low : (n least most : ℕ) (s : List ℕ) (at : ℕ) {P : Link} {next : ℕ} → 2 ≤ least → n ≤ most → path n least s at ≡ Got P next → All (λ x. x < most) (vertices P)
+pub path-low : (n least most : ℕ) (s : List ℕ) (at : ℕ) {P : Path} {next : ℕ} → 2 ≤ least → n ≤ most → path n least s at ≡ Got P next → All (λ x. x < most) (vertices P)
 unfolding path vertexList into _▹_
 path-low n least most s at two h e =
     let g = on-got (vertexList n least s at) _ e in

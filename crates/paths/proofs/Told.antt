@@ -7,7 +7,7 @@ use lib.Dec.{leb}
 use borrow.Author.Tests.{le-leb}
 use Rattle.record.specs.Read.{Read, Read.Got, Read.Refused}
 use Rattle.vertexset.specs.Set.{capacity}
-use Rattle.connectivity.specs.Path.{Link}
+use Rattle.connectivity.specs.Path.{Path}
 use Rattle.paths.specs.Items.{itemRead, endRead}
 use Rattle.paths.specs.Paths.{pathRead, pathTold}
 use Rattle.paths.specs.declared.PathRead.{PathRead}
@@ -35,8 +35,8 @@ end-fault (Got a z) d e = let y : _≡_ {A = ℕ} 0 1 = cc in absurd (omega arit
 end-fault (Refused q p) d e = cc
 
 module _ (adj : ℕ → ℕ → Bool) (old : ℕ → Bool) where
-  pub path-told : (r : Read Link) {x : PathRead} {v next : ℕ} → x .end ≡ Value v next → x ≡ pathRead adj old r
-      → (P : Link) × ((r ≡ Got P next) × (x ≡ pathTold adj old P next))
+  pub path-told : (r : Read Path) {x : PathRead} {v next : ℕ} → x .end ≡ Value v next → x ≡ pathRead adj old r
+      → (P : Path) × ((r ≡ Got P next) × (x ≡ pathTold adj old P next))
   unfolding pathRead
   path-told (Got P z) {x} {v} {next} d e =
       let f : x .end ≡ Value 0 z = ap (λ (y : PathRead). y .end) e in
@@ -46,7 +46,7 @@ module _ (adj : ℕ → ℕ → Bool) (old : ℕ → Bool) where
       let f : x .end ≡ Fault q p = ap (λ (y : PathRead). y .end) e in
       let z : _≡_ {A = ℕ} 0 1 = cc in absurd (omega arith)
 
-  pub path-fault : (r : Read Link) {x : PathRead} {q p : ℕ} → x .end ≡ Fault q p → x ≡ pathRead adj old r → r ≡ Refused q p
+  pub path-fault : (r : Read Path) {x : PathRead} {q p : ℕ} → x .end ≡ Fault q p → x ≡ pathRead adj old r → r ≡ Refused q p
   unfolding pathRead
   path-fault (Got P z) {x} d e =
       let f : x .end ≡ Value 0 z = ap (λ (y : PathRead). y .end) e in

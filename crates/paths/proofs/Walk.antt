@@ -11,12 +11,12 @@ use lib.Seq.{set-append-seam}
 use borrow.Author.Tests.{eq-eqb, ne-eqb}
 use Rattle.record.specs.Read.{folded}
 use Rattle.record.proofs.Loops.{All}
-use Rattle.vertexset.specs.Set.{has, with, emptySet, inserted, wordCount, capacity}
+use Rattle.vertexset.specs.Set.{has, emptySet, inserted, wordCount, capacity}
 use Rattle.vertexset.specs.declared.VertexSet.{VertexSet}
 use Rattle.vertexset.proofs.Laws.{empty-has, inserted-has, inserted-length}
 use Rattle.connectivity.specs.Lists.{member}
-use Rattle.connectivity.specs.Path.{Link, vertices}
-use Rattle.certificates.specs.Tests.{along, each, distinct}
+use Rattle.connectivity.specs.Path.{Path, vertices}
+use Rattle.certificates.specs.Tests.{with, along, each, distinct}
 use Rattle.certificates.specs.Records.{tailLink}
 use Rattle.paths.specs.declared.Item.the-variants.{Value}
 use Rattle.paths.specs.Paths.{listed, pathTold}
@@ -145,7 +145,7 @@ module _ (adj : ℕ → ℕ → Bool) (old : ℕ → Bool) (n len first : ℕ) w
       ap (λ (t : Walked). pathLoop adj old n len first .ok t next) (walk-all first true true (inserted emptySet first) (first ∷ []) v l (inserted-length emptySet first refl) d h q)
       ∙ same (tailLink first v l) _ _ (tail-first first v l) (tail-vertices first v l) (new-told v l i)
     where
-      same : (P : Link) {w : Bool} (z : ℕ) (vs : List ℕ) → z ≡ first → vs ≡ first ∷ v ∷ l → w ≡ (distinct (first ∷ v ∷ l) && clear old (P .inner))
+      same : (P : Path) {w : Bool} (z : ℕ) (vs : List ℕ) → z ≡ first → vs ≡ first ∷ v ∷ l → w ≡ (distinct (first ∷ v ∷ l) && clear old (P .inner))
           → pathLoop adj old n len first .ok (record {
             scan = record { last = P .t; along = along adj first (P .inner) (P .t); new = w; set = folded inserted (inserted emptySet first) (v ∷ l) };
             list = listed (first ∷ v ∷ l);

@@ -5,7 +5,7 @@ use mathlib.Core.Bool.{Bool, false}
 use lib.ListN.{length, replicate}
 use Rattle.record.specs.Read.{Read, Read.Got, Read.Refused, folded}
 use Rattle.vertexset.specs.Set.{emptySet, inserted, capacity}
-use Rattle.connectivity.specs.Path.{Link, vertices}
+use Rattle.connectivity.specs.Path.{Path, vertices}
 use Rattle.certificates.specs.Tests.{along, pathNew}
 use Rattle.paths.specs.declared.PathRead.{PathRead}
 use Rattle.paths.specs.declared.Item.the-variants.{Value, Fault}
@@ -16,7 +16,7 @@ listed l = l ++ replicate (capacity - length l) 0
 
 -- what a path tells: its ends, whether its neighbours are adjacent, whether it repeats no vertex and has only new ones inside,
 -- its vertices as a list and as a set, and where reading goes on
-abbrev pub pathTold : (ℕ → ℕ → Bool) → (ℕ → Bool) → Link → ℕ → PathRead
+abbrev pub pathTold : (ℕ → ℕ → Bool) → (ℕ → Bool) → Path → ℕ → PathRead
 pathTold adj old P next = record {
   end = Value 0 next;
   first = P .s;
@@ -40,6 +40,6 @@ noPath r p = record {
   set = emptySet;
 }
 
-unfoldable pub pathRead : (ℕ → ℕ → Bool) → (ℕ → Bool) → Read Link → PathRead
+unfoldable pub pathRead : (ℕ → ℕ → Bool) → (ℕ → Bool) → Read Path → PathRead
 pathRead adj old (Got P next) = pathTold adj old P next
 pathRead adj old (Refused r p) = noPath r p

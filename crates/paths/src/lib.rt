@@ -10,7 +10,7 @@ ghost use Rattle.certificates.specs.Records.{vertex, path};
 ghost use Rattle.paths.specs.Items.{itemRead, limited};
 ghost use Rattle.paths.specs.Paths.{pathRead, noPath};
 ghost use Rattle.paths.specs.Code.{faultPath, scanFirst, scanned, scanTold, pathLoop, pathBegun};
-use graph::Graph;
+use graph::GraphTable;
 use record::Number;
 use vertexset::VertexSet;
 
@@ -85,7 +85,7 @@ impl Scan {
     }
 
     // The next vertex taken in; the end of a path may be old, an inner vertex may not.
-    fn taken(self, rows: &[u64; Graph::ROW_WORDS], old: VertexSet, end: bool, v: u16) -> Self
+    fn taken(self, rows: &[u64; GraphTable::ROW_WORDS], old: VertexSet, end: bool, v: u16) -> Self
         ensures { λ r. ⌜ r ≡ scanned (adjacentIn (now (rows .entry))) (has (old .words)) self end v ⌝ }
     {
         let set = self.set;
@@ -151,7 +151,7 @@ fn fault_path(x: Item) -> PathRead
 // The vertices of a path after its first.
 fn read_rest(
     s: &[u8],
-    rows: &[u64; Graph::ROW_WORDS],
+    rows: &[u64; GraphTable::ROW_WORDS],
     n: u16,
     old: VertexSet,
     len: u16,
@@ -182,7 +182,7 @@ fn read_rest(
 // A path of at least as many vertices.
 fn read_path(
     s: &[u8],
-    rows: &[u64; Graph::ROW_WORDS],
+    rows: &[u64; GraphTable::ROW_WORDS],
     n: u16,
     old: VertexSet,
     least: u16,
@@ -208,7 +208,7 @@ fn read_path(
 // A path that may be a link: two vertices or more.
 pub fn read_link_path(
     s: &[u8],
-    rows: &[u64; Graph::ROW_WORDS],
+    rows: &[u64; GraphTable::ROW_WORDS],
     n: u16,
     old: VertexSet,
     at: usize,
@@ -221,7 +221,7 @@ pub fn read_link_path(
 // A path that may be an ear: three vertices or more.
 pub fn read_ear_path(
     s: &[u8],
-    rows: &[u64; Graph::ROW_WORDS],
+    rows: &[u64; GraphTable::ROW_WORDS],
     n: u16,
     old: VertexSet,
     at: usize,

@@ -7,14 +7,14 @@ use Rattle.record.specs.Read.{Read, Read.Got, Read.Refused, ended, folded}
 use Rattle.record.specs.Loop.{Loop}
 use Rattle.record.specs.declared.Answer.the-variants.{Accepted, PlanFault}
 use Rattle.graph.specs.Rows.{noGraph, bareRows, joined}
-use Rattle.graph.specs.declared.Graph.{Graph}
+use Rattle.graph.specs.declared.GraphTable.{GraphTable}
 use Rattle.reading.specs.Plan.{Plan, proper, follows, edge, plan}
 use Rattle.reading.specs.declared.Edge.{Edge}
 use Rattle.reading.specs.declared.Edge.the-variants.{Joins, Fault}
 use Rattle.reading.specs.declared.PlanRead.{PlanRead}
 
 -- the graph of a plan
-unfoldable pub graphOf : Plan → Graph
+unfoldable pub graphOf : Plan → GraphTable
 graphOf p = record { n = p .n; m = length (p .edges); rows = folded joined bareRows (p .edges) }
 
 -- a refused plan: no graph, and nothing read

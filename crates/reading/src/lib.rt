@@ -6,14 +6,14 @@ ghost use Rattle.vertexset.specs.Set.{capacity};
 ghost use Rattle.graph.specs.Rows.{bareRows};
 ghost use Rattle.reading.specs.Plan.{edge};
 ghost use Rattle.reading.specs.Code.{wholePlan, leadingPlan, edgeRead, testedEdge, edgeFault, refusedPlan, edgeLoop};
-use graph::Graph;
+use graph::GraphTable;
 use record::Answer;
 use record::Number;
 
 // An accepted plan with the place after its last edge; or the plan's fault, beside a graph without vertices.
 pub struct PlanRead {
     pub answer: Answer,
-    pub graph: Graph,
+    pub graph: GraphTable,
     pub next: usize,
 }
 
@@ -63,7 +63,7 @@ fn refused(r: u8, p: usize) -> PlanRead
 {
     PlanRead {
         answer: Answer::PlanFault(r, p),
-        graph: Graph::none(),
+        graph: GraphTable::none(),
         next: 0,
     }
 }
@@ -81,7 +81,7 @@ fn read_edges(s: &[u8], n: u16, m: u16, from: usize) -> PlanRead
     requires { ⌜ n ≤ capacity ⌝ }
     ensures { λ r. ⌜ r ≡ runs (edgeLoop n m) m (0, 0) bareRows (now (s .entry)) from ⌝ }
 {
-    let mut rows = [0u64; Graph::ROW_WORDS];
+    let mut rows = [0u64; GraphTable::ROW_WORDS];
     let mut at = from;
     let mut lower: u16 = 0;
     let mut higher: u16 = 0;
@@ -99,7 +99,7 @@ fn read_edges(s: &[u8], n: u16, m: u16, from: usize) -> PlanRead
     }
     PlanRead {
         answer: Answer::Accepted,
-        graph: Graph { n, m, rows },
+        graph: GraphTable { n, m, rows },
         next: at,
     }
 }
@@ -112,17 +112,17 @@ pub fn read_leading_plan(s: &[u8]) -> PlanRead
     let Number::Value(n, m_at) = x else {
         return refused(record::fault_number(x), record::fault_place(x));
     };
-    if n < Graph::MIN_VERTICES {
+    if n < GraphTable::MIN_VERTICES {
         return refused(3, 0);
     }
-    if Graph::MAX_VERTICES < n {
+    if GraphTable::MAX_VERTICES < n {
         return refused(3, 0);
     }
     let y = record::read_number(s, m_at);
     let Number::Value(m, at) = y else {
         return refused(record::fault_number(y), record::fault_place(y));
     };
-    if Graph::MAX_EDGES < m {
+    if GraphTable::MAX_EDGES < m {
         return refused(4, m_at);
     }
     read_edges(s, n, m, at)

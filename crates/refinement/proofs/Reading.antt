@@ -15,7 +15,7 @@ use Rattle.record.proofs.Loops.{needs-true, needs-same, many-all, many-length, 
 use Rattle.vertexset.specs.Set.{has, capacity}
 use Rattle.connectivity.specs.Lists.{In}
 use Rattle.connectivity.specs.Graph.{Graph, Adj}
-use Rattle.connectivity.specs.Path.{vertices, Along, IsPath, Link as Path}
+use Rattle.connectivity.specs.Path.{vertices, Along, IsPath, Path}
 use Rattle.connectivity.specs.Build.{BGPath, taken}
 use Rattle.connectivity.proofs.Lists.{and-true, clash}
 use Rattle.connectivity.proofs.Paths.{ends-differ}

@@ -15,7 +15,7 @@ use Rattle.vertexset.proofs.Laws.{has-empty, has-union, inserted-has, inserted-
 use Rattle.graph.specs.Rows.{adjacentIn, joinedRows}
 use Rattle.connectivity.specs.Lists.{In, NoDup, member}
 use Rattle.connectivity.specs.Graph.{Adj}
-use Rattle.connectivity.specs.Path.{vertices, End, Link as Path}
+use Rattle.connectivity.specs.Path.{vertices, End, Path}
 use Rattle.connectivity.specs.Build.{InBuild, IsBranch, BGPath, taken, takeBefore, takeAfter, splitAt as splitLinks}
 use Rattle.connectivity.proofs.Lists.{or-true, true-or, member-in, in-member}
 use Rattle.connectivity.proofs.Paths.{SamePair, inner-in, nodup-inner, ends-differ, end-s, end-t}

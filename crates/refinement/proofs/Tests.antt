@@ -7,7 +7,7 @@ use mathlib.Core.Logic.{inl, inr, ⊎-elim, ⊎-map, _↔_}
 use lib.Dec.{eqb}
 use borrow.Author.Tests.{eqb-true, eq-eqb, not-true}
 use Rattle.connectivity.specs.Lists.{In, NoDup, member}
-use Rattle.connectivity.specs.Path.{Link, vertices, End}
+use Rattle.connectivity.specs.Path.{Path, vertices, End}
 use Rattle.connectivity.specs.Build.{InBuild, IsBranch}
 use Rattle.connectivity.proofs.Lists.{and-true, or-true, true-or, bool?, clash, member-in, in-member, member-out}
 use Rattle.connectivity.proofs.Paths.{SamePair}
@@ -46,30 +46,30 @@ pair-tells u v x y = (λ e. ⊎-map (two u v x y) (two u v y x) (or-true (eqb u 
     back (inr e) = true-or (eqb u x && eqb v y) (eqb u y && eqb v x) (both-true (eq-eqb u y (e .0)) (eq-eqb v x (e .1)))
 
 -- some link passes
-pub any-link : (t : Link → Bool) (ls : List Link) → anyLink t ls ≡ true → (L : Link) × In L ls × (t L ≡ true)
+pub any-link : (t : Path → Bool) (ls : List Path) → anyLink t ls ≡ true → (L : Path) × In L ls × (t L ≡ true)
 unfolding anyLink
 any-link t [] e = absurd (clash e refl)
 any-link t (L ∷ ls) e = ⊎-elim (λ k. (L, inl refl, k)) (λ k. let r = any-link t ls k in (r .0, inr (r .1), r .2)) (or-true (t L) (anyLink t ls) e)
 
-pub link-any : (t : Link → Bool) (ls : List Link) (L : Link) → In L ls → t L ≡ true → anyLink t ls ≡ true
+pub link-any : (t : Path → Bool) (ls : List Path) (L : Path) → In L ls → t L ≡ true → anyLink t ls ≡ true
 unfolding anyLink
 link-any t [] L h e = absurd h
 link-any t (M ∷ ls) L (inl k) e = left-true (anyLink t ls) (rw k at e)
 link-any t (M ∷ ls) L (inr h) e = true-or (t M) (anyLink t ls) (link-any t ls L h e)
 
-pub built-tells : (ls : List Link) (v : ℕ) → (inBuild ls v ≡ true) ↔ InBuild v ls
+pub built-tells : (ls : List Path) (v : ℕ) → (inBuild ls v ≡ true) ↔ InBuild v ls
 built-tells ls v = (
   λ e. let r = any-link (λ L. member v (vertices L)) ls e in (r .0, r .1, member-in v (vertices (r .0)) (r .2)),
   λ r. link-any (λ L. member v (vertices L)) ls (r .0) (r .1) (in-member v (vertices (r .0)) (r .2)),
 )
 
-pub branch-tells : (ls : List Link) (v : ℕ) → (isBranch ls v ≡ true) ↔ IsBranch v ls
+pub branch-tells : (ls : List Path) (v : ℕ) → (isBranch ls v ≡ true) ↔ IsBranch v ls
 branch-tells ls v = (
   λ e. let r = any-link (λ L. eqb v (L .s) || eqb v (L .t)) ls e in (r .0, r .1, ⊎-map (eqb-true v (r .0 .s)) (eqb-true v (r .0 .t)) (or-true (eqb v (r .0 .s)) (eqb v (r .0 .t)) (r .2))),
   λ r. link-any (λ L. eqb v (L .s) || eqb v (L .t)) ls (r .0) (r .1) (end (r .0) (r .2)),
 )
   where
-    end : (L : Link) → End v L → (eqb v (L .s) || eqb v (L .t)) ≡ true
+    end : (L : Path) → End v L → (eqb v (L .s) || eqb v (L .t)) ≡ true
     end L (inl e) = left-true (eqb v (L .t)) (eq-eqb v (L .s) e)
     end L (inr e) = true-or (eqb v (L .s)) (eqb v (L .t)) (eq-eqb v (L .t) e)
 

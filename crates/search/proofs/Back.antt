@@ -12,7 +12,7 @@ use Rattle.vertexset.specs.Set.{capacity}
 use Rattle.construction.specs.Search.{back}
 use Rattle.search.specs.Arrays.{padded}
 use Rattle.search.specs.Code.{pathRoom, pathOf}
-use Rattle.search.specs.declared.Path.{Path}
+use Rattle.search.specs.declared.VertexList.{VertexList}
 use Rattle.search.proofs.Placed.{padded-set}
 
 -- ---- the list that stands in an array from a place on
@@ -29,7 +29,7 @@ module _ (items : List ℕ) (start count i : ℕ) where
 
 -- ---- the loop
 
-abbrev pub pathIn : List ℕ → ℕ → Path
+abbrev pub pathIn : List ℕ → ℕ → VertexList
 pathIn vertices count = record { vertices = vertices; count = count }
 
 -- at place i, with at most `left` vertices still to come

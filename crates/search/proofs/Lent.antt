@@ -9,7 +9,7 @@ use Rattle.construction.specs.Sets.{members}
 use Rattle.construction.specs.Search as construction
 use Rattle.construction.specs.Search.{explore, back, route}
 use Rattle.search.specs.Code.{searchSpace, pathOf, reachOf, spaceAfter, leftIn, answerIn, routeIn}
-use Rattle.search.specs.declared.Path.{Path}
+use Rattle.search.specs.declared.VertexList.{VertexList}
 use Rattle.search.specs.declared.Reach.{Reach}
 use Rattle.search.proofs.Sizes.{Sized, explore-sized}
 use Rattle.search.proofs.Spaces.{both-order, both-from}
@@ -40,7 +40,7 @@ module _ (rows space : List ℕ) (seeds goals removed : VertexSet) (size : lengt
         ap (λ (a : List ℕ). take (length (found .order)) (drop capacity a)) left-is
         ∙ both-from (first space) (second space) (first-size space size) (second-size space size) (found .order) (found .from) (sized .same) (sized .low)
 
-    pub routed : {r : Reach} {x : Path} → r ≡ answerIn space found → x ≡ pathOf (routeIn out r) → x ≡ pathOf (route found)
+    pub routed : {r : Reach} {x : VertexList} → r ≡ answerIn space found → x ≡ pathOf (routeIn out r) → x ≡ pathOf (route found)
     routed e q =
         q ∙ ap (λ (y : Reach). pathOf (routeIn out y)) (answer-is e)
         ∙ ap (λ (l : List ℕ). pathOf (found .goal ∷ back capacity l (take (length (found .order)) (drop capacity out)) (found .seeds) (found .last))) order-is

@@ -11,13 +11,13 @@ use Rattle.construction.specs.Search as construction
 use Rattle.construction.specs.Search.{back, visit}
 use Rattle.search.specs.Arrays.{padded}
 use Rattle.search.specs.declared.Reach.{Reach}
-use Rattle.search.specs.declared.Path.{Path}
+use Rattle.search.specs.declared.VertexList.{VertexList}
 
 -- a path has at most as many vertices as can be, and two more
 abbrev pub pathRoom : ℕ
 pathRoom = capacity + 2
 
-abbrev pub pathOf : List ℕ → Path
+abbrev pub pathOf : List ℕ → VertexList
 pathOf l = record { vertices = padded pathRoom l; count = length l }
 
 abbrev pub reachOf : construction.Reach → Reach

@@ -7,7 +7,7 @@ ghost use Rattle.construction.specs.Search.{explore};
 ghost use Rattle.search.specs.Arrays.{placed, placedEnd};
 ghost use Rattle.search.specs.Code.{reachOf, pathOf, routeIn, searchSpace, spaceAfter, leftIn, answerIn, reachedAfter, reachedEnd, visitsIn};
 ghost use Rattle.vertexset.specs.Set.{capacity};
-use graph::Graph;
+use graph::GraphTable;
 use vertexset::VertexSet;
 
 // What a search answers: how many vertices it reached, and how many of them are seeds; the vertices reached or removed; the goal that
@@ -29,12 +29,12 @@ impl Reach {
 }
 
 // A list of vertices.
-pub struct Path {
-    pub vertices: [u16; Path::ROOM],
+pub struct VertexList {
+    pub vertices: [u16; VertexList::ROOM],
     pub count: usize,
 }
 
-impl Path {
+impl VertexList {
     // every vertex, and two more
     pub const ROOM: usize = VertexSet::CAPACITY as usize + 2;
 }
@@ -134,7 +134,7 @@ fn put_reached(space: &mut [u16], at: usize, set: VertexSet, from: u16) -> usize
 
 // The visits, from the seeds on, which stand in the space already; to the first goal.
 fn visit<'a>(
-    rows: &'a [u64; Graph::ROW_WORDS],
+    rows: &'a [u64; GraphTable::ROW_WORDS],
     space: &'a mut [u16],
     goals: VertexSet,
     seeds: usize,
@@ -175,7 +175,7 @@ fn visit<'a>(
 // THE SEARCH. What stands in the space is not read, and only what is reached is written: nothing is cleared. In a space of another
 // size nothing is searched.
 pub fn explore<'a>(
-    rows: &'a [u64; Graph::ROW_WORDS],
+    rows: &'a [u64; GraphTable::ROW_WORDS],
     space: &'a mut [u16],
     seeds: VertexSet,
     goals: VertexSet,
@@ -214,10 +214,10 @@ pub fn entry(items: &[u16], start: usize, count: usize, i: usize) -> u16
 }
 
 // The path that was found, from its goal back to a seed, out of the space that the search left.
-pub fn route(space: &[u16], r: Reach) -> Path
+pub fn route(space: &[u16], r: Reach) -> VertexList
     ensures { λ p. ⌜ p ≡ pathOf (routeIn (now (space .entry)) r) ⌝ }
 {
-    let mut vertices = [0u16; Path::ROOM];
+    let mut vertices = [0u16; VertexList::ROOM];
     vertices[0] = r.goal;
     let mut count = 1;
     let mut i = r.last;
@@ -227,9 +227,9 @@ pub fn route(space: &[u16], r: Reach) -> Path
         vertices[count] = entry(space, 0, r.count, i);
         count += 1;
         if i < r.seeds {
-            return Path { vertices, count };
+            return VertexList { vertices, count };
         }
         i = entry(space, Reach::HALF, r.count, i) as usize;
     }
-    Path { vertices, count }
+    VertexList { vertices, count }
 }

@@ -9,9 +9,9 @@ use native.Mathlib.Decide.{ℕ-discrete}
 use lib.Dec.{ltb}
 use lib.ListN.{length}
 use borrow.Author.Tests.{ltb-true, ltb-false, not-true}
-use Rattle.vertexset.specs.Set.{has, wordCount, wordwise, less, within, next, capacity}
+use Rattle.vertexset.specs.Set.{has, wordCount, wordwise, less, subsetOf, next, capacity}
 use Rattle.vertexset.specs.declared.VertexSet.{VertexSet}
-use Rattle.vertexset.proofs.Laws.{Words, Found, within-has, has-within, next-is, has-minus, has-past, wordwise-length}
+use Rattle.vertexset.proofs.Laws.{Words, Found, subset-has, has-subset, next-is, has-minus, has-past, wordwise-length}
 use Rattle.graph.specs.Rows.{adjacentIn, rowOf, rowsGraph}
 use Rattle.graph.proofs.Rows.{row-adjacent}
 use Rattle.connectivity.proofs.Lists.{and-true, true-or, bool?, clash}
@@ -25,8 +25,8 @@ off b n = not-true b (decide-not (decide-test b) .passes n)
 
 -- ---- one vertex of the side
 
-decide-within : (xs ys : List ℕ) → length xs ≡ length ys → Words xs → Decides (within xs ys) ((x : ℕ) → x < 64 * length xs → has xs x ≡ true → has ys x ≡ true)
-decide-within xs ys l w = record { holds = λ e x i m. within-has xs ys l e x m; passes = has-within xs ys l w }
+decide-within : (xs ys : List ℕ) → length xs ≡ length ys → Words xs → Decides (subsetOf xs ys) ((x : ℕ) → x < 64 * length xs → has xs x ≡ true → has ys x ≡ true)
+decide-within xs ys l w = record { holds = λ e x i m. subset-has xs ys l e x m; passes = has-subset xs ys l w }
 
 decide-misses : (rows : List ℕ) (left : ℕ → Bool) (u : ℕ) → Decides (missesRow rows left u) ((v : ℕ) → v < capacity → ¬ ((left v ≡ true) × (adjacentIn rows u v ≡ true)))
 unfolding missesRow
@@ -34,7 +34,7 @@ decide-misses rows left u = decide-all (λ v. decide-not (decide-and (decide-tes
 
 -- the rest loses nothing by taking out a row
 pub misses-same : (rows : List ℕ) (u : ℕ) (left row : VertexSet) → length (left .words) ≡ wordCount → length (row .words) ≡ wordCount → Words (left .words) → row ≡ rowOf rows u
-    → within (left .words) (wordwise less left row .words) ≡ missesRow rows (has (left .words)) u
+    → subsetOf (left .words) (wordwise less left row .words) ≡ missesRow rows (has (left .words)) u
 misses-same rows u left row l m w e =
     let after : (v : ℕ) → has (wordwise less left row .words) v ≡ has (left .words) v && not (adjacentIn rows u v) =
     λ v. has-minus _ _ (l ∙ sym m) v ∙ ap (λ b. has (left .words) v && not b) (ap (λ (s : VertexSet). has (s .words) v) e ∙ row-adjacent rows u v) in

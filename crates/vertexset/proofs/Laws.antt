@@ -14,7 +14,7 @@ use lib.Seq.{getD-set-same, getD-set-other, ext-getD}
 use lib.Bits.{bitOr, and-le-l, xor-lt}
 use borrow.Author.Tests.{eq-eqb, ne-eqb, eqb-true, not-false}
 use Rattle.vertexset.specs.declared.VertexSet.{VertexSet}
-use Rattle.vertexset.specs.Set.{wordCount, has, with, emptySet, withBit, inserted, zip, wordwise, less, count, none, within, firstFrom, next, tally}
+use Rattle.vertexset.specs.Set.{wordCount, has, emptySet, withBit, inserted, zip, wordwise, less, count, none, subsetOf, firstFrom, next, tally}
 use Rattle.vertexset.proofs.Bit.{on, on-or, on-less, on-zero, on-pow, same-bits, tally-same, ones-tally}
 
 -- every word has 64 bits
@@ -43,9 +43,9 @@ same-word x v e = elim (ℕ-discrete x v) [
   | no n ↦ rw (ne-eqb x v n, ne-eqb (v % 64) (x % 64) (λ f. n (omega arith)))
 ]
 
-pub has-insert : (ws : List ℕ) (v : ℕ) → v < 64 * length ws → has (withBit ws v) ≡ with (has ws) v
+pub has-insert : (ws : List ℕ) (v : ℕ) → v < 64 * length ws → has (withBit ws v) ≡ (λ x. has ws x || eqb x v)
 has-insert ws v h = fun-ext at where
-  at : (x : ℕ) → has (withBit ws v) x ≡ with (has ws) v x
+  at : (x : ℕ) → has (withBit ws v) x ≡ has ws x || eqb x v
   at x = elim (ℕ-discrete (x / 64) (v / 64)) [
     | yes e ↦ rw (e, getD-set-same ws (v / 64) _ 0 (omega arith), on-or _ _ (x % 64), on-pow, same-word x v e)
     | no n ↦ rw (getD-set-other ws (v / 64) (x / 64) _ 0 n, ne-eqb x v (λ g. n (ap (λ z. z / 64) g))) (sym (or-false _))
@@ -120,11 +120,11 @@ implied : (p q : Bool) → (p ≡ true → q ≡ true) → (p && not q) ≡ fals
 implied true q h = rw (h refl)
 implied false q h = refl
 
-pub within-has : (xs ys : List ℕ) → length xs ≡ length ys → within xs ys ≡ true → (x : ℕ) → has xs x ≡ true → has ys x ≡ true
-within-has xs ys l h x m = not-false _ (rw m at (sym (has-minus xs ys l x) ∙ none-has (zip less xs ys) h x))
+pub subset-has : (xs ys : List ℕ) → length xs ≡ length ys → subsetOf xs ys ≡ true → (x : ℕ) → has xs x ≡ true → has ys x ≡ true
+subset-has xs ys l h x m = not-false _ (rw m at (sym (has-minus xs ys l x) ∙ none-has (zip less xs ys) h x))
 
-pub has-within : (xs ys : List ℕ) → length xs ≡ length ys → Words xs → ((x : ℕ) → x < 64 * length xs → has xs x ≡ true → has ys x ≡ true) → within xs ys ≡ true
-has-within xs ys l wx h =
+pub has-subset : (xs ys : List ℕ) → length xs ≡ length ys → Words xs → ((x : ℕ) → x < 64 * length xs → has xs x ≡ true → has ys x ≡ true) → subsetOf xs ys ≡ true
+has-subset xs ys l wx h =
     let small : (i : ℕ) → less (getD xs i 0) (getD ys i 0) < 2 ^ 64 = λ i. xor-lt 64 _ _ (wx i) (omega (arith, and-le-l (getD xs i 0) (getD ys i 0), wx i)) in
     has-none (zip less xs ys) (λ i. rw (getD-zip less refl xs ys l i) (small i)) (λ x k. has-minus xs ys l x ∙ implied _ _ (h x (rw length-zip at k)))
 
@@ -196,7 +196,7 @@ next-is ws v = first-is (has ws) (64 * length ws) (has-past ws) (64 * length ws 
 pub empty-has : has (emptySet .words) ≡ (λ x. false)
 empty-has = fun-ext (has-empty wordCount)
 
-pub inserted-has : (s : VertexSet) (v : ℕ) → length (s .words) ≡ wordCount → v < 64 * wordCount → has (inserted s v .words) ≡ with (has (s .words)) v
+pub inserted-has : (s : VertexSet) (v : ℕ) → length (s .words) ≡ wordCount → v < 64 * wordCount → has (inserted s v .words) ≡ (λ x. has (s .words) x || eqb x v)
 inserted-has s v l h = has-insert (s .words) v (omega arith)
 
 pub inserted-length : (s : VertexSet) (v : ℕ) → length (s .words) ≡ wordCount → length (inserted s v .words) ≡ wordCount

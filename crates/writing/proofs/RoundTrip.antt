@@ -16,7 +16,7 @@ use Rattle.reading.specs.Plan.{Plan, Allowed, EdgeAllowed, proper, follows, pla
 use Rattle.graph.specs.Limits.{minVertices, maxVertices, maxEdges}
 use Rattle.reading.specs.Code.{graphOf, wholePlan, leadingPlan}
 use Rattle.writing.specs.Write.{pairAt, edgeAt, edgesFrom, edgesOf, planOf, canWritePlan, writtenPlan, withPlan}
-use Rattle.graph.specs.declared.Graph.{Graph}
+use Rattle.graph.specs.declared.GraphTable.{GraphTable}
 use Rattle.connectivity.proofs.Lists.{and-true}
 use Rattle.record.proofs.Bounds.{within-true, true-within}
 use Rattle.reading.proofs.EdgeTests.{proper-true, follows-true}
@@ -148,12 +148,12 @@ each-of rows n h =
     let z : n * capacity ≡ suc (n * capacity - 1) = omega arith in
     rw z (each-from rows n (n * capacity - 1) 1 (0, 0) (omega arith) (omega arith))
 
-pub planned-allowed : (g : Graph) → minVertices ≤ g .n → g .n ≤ maxVertices → length (planOf g .edges) ≤ maxEdges → Allowed (planOf g)
+pub planned-allowed : (g : GraphTable) → minVertices ≤ g .n → g .n ≤ maxVertices → length (planOf g .edges) ≤ maxEdges → Allowed (planOf g)
 unfolding planOf
 planned-allowed g l m f = record { least = l; most = m; few = f; each = each-of (g .rows) (g .n) (omega arith) }
 
 -- what is written where a graph can be written
-module _ (buffer : List ℕ) (g : Graph) (e : canWritePlan buffer g ≡ true) where
+module _ (buffer : List ℕ) (g : GraphTable) (e : canWritePlan buffer g ≡ true) where
   put-first : withPlan buffer g ≡ planBytes (planOf g) ++ drop (0 + length (planBytes (planOf g))) buffer
   put-first = rw e
 
@@ -186,6 +186,6 @@ pub record-again : (s : List ℕ) → Bytes s → wholePlan s .answer ≡ Accept
     → (writtenPlan buffer (wholePlan s .graph) ≡ Next (length s)) × (withPlan buffer (wholePlan s .graph) ≡ s ++ drop (length s) buffer)
 record-again s bytes e buffer h = let t = accepted s bytes e in of-plan (t .0) (t .1) s (wholePlan s .graph) (t .2) (t .3) h
   where
-    of-plan : (p : Plan) → Allowed p → (s : List ℕ) (g : Graph) → s ≡ planBytes p → g ≡ graphOf p → length s ≤ length buffer
+    of-plan : (p : Plan) → Allowed p → (s : List ℕ) (g : GraphTable) → s ≡ planBytes p → g ≡ graphOf p → length s ≤ length buffer
         → (writtenPlan buffer g ≡ Next (length s)) × (withPlan buffer g ≡ s ++ drop (length s) buffer)
     of-plan p a s g d f h = rw (f, d) (written-again p a buffer (rw (← d) h))

@@ -15,7 +15,7 @@ use Rattle.graph.specs.Limits.{minVertices, maxVertices, maxEdges}
 use Rattle.record.specs.Read.{within}
 use Rattle.reading.specs.Plan.{edgeBytes, planBytes}
 use Rattle.writing.specs.Write.{edgesOf, planOf, edgesBytes, canWritePlan, writtenPlan, withPlan}
-use Rattle.graph.specs.declared.Graph.{Graph}
+use Rattle.graph.specs.declared.GraphTable.{GraphTable}
 use Rattle.record.proofs.Bounds.{true-within, below-within, above-within}
 use Rattle.writing.proofs.Edges.{edge-short}
 
@@ -24,7 +24,7 @@ unfolding listBytes
 edges-short [] = omega arith
 edges-short (e ∷ es) = omega (arith, length-append (edgeBytes e) (listBytes edgeBytes es), edge-short e, edges-short es)
 
-module _ (buffer : List ℕ) (g : Graph) where
+module _ (buffer : List ℕ) (g : GraphTable) where
   pub not-written : canWritePlan buffer g ≡ false → (Nothing ≡ writtenPlan buffer g) × (buffer ≡ withPlan buffer g)
   not-written e = (rw e, rw e)
 

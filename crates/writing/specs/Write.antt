@@ -11,7 +11,7 @@ use Rattle.record.specs.declared.Written.{Written}
 use Rattle.record.specs.declared.Written.the-variants.{Next, Nothing}
 use Rattle.vertexset.specs.Set.{has, capacity}
 use Rattle.graph.specs.Limits.{minVertices, maxVertices, maxEdges}
-use Rattle.graph.specs.declared.Graph.{Graph}
+use Rattle.graph.specs.declared.GraphTable.{GraphTable}
 use Rattle.reading.specs.Plan.{Plan, proper, edgeBytes, planBytes}
 use Rattle.writing.specs.declared.Size.{Size}
 
@@ -33,7 +33,7 @@ abbrev pub edgesOf : List ℕ → ℕ → List (ℕ × ℕ)
 edgesOf rows n = edgesFrom rows n (n * capacity) 0
 
 -- the plan of a graph
-unfoldable pub planOf : Graph → Plan
+unfoldable pub planOf : GraphTable → Plan
 planOf g = record { n = g .n; edges = edgesOf (g .rows) (g .n) }
 
 -- the bytes of the edges in the rows of n vertices
@@ -45,12 +45,12 @@ abbrev pub sizeOf : List (ℕ × ℕ) → Size
 sizeOf es = record { edges = length es; bytes = length (listBytes edgeBytes es) }
 
 -- the graph can be written: it is within the limits, and its record has room
-abbrev pub canWritePlan : List ℕ → Graph → Bool
+abbrev pub canWritePlan : List ℕ → GraphTable → Bool
 canWritePlan buffer g =
     within minVertices maxVertices (g .n) && (leb (length (planOf g .edges)) maxEdges && hasRoom buffer 0 (planBytes (planOf g)))
 
-abbrev pub writtenPlan : List ℕ → Graph → Written
+abbrev pub writtenPlan : List ℕ → GraphTable → Written
 writtenPlan buffer g = cond (canWritePlan buffer g) (Next (length (planBytes (planOf g)))) Nothing
 
-abbrev pub withPlan : List ℕ → Graph → List ℕ
+abbrev pub withPlan : List ℕ → GraphTable → List ℕ
 withPlan buffer g = cond (canWritePlan buffer g) (overwritten buffer 0 (planBytes (planOf g))) buffer

@@ -8,7 +8,7 @@ ghost use Rattle.vertexset.specs.Set.{capacity};
 ghost use Rattle.graph.specs.Rows.{rowWords};
 ghost use Rattle.reading.specs.Plan.{edgeBytes};
 ghost use Rattle.writing.specs.Write.{pairAt, edgeAt, edgesOf, sizeOf, edgesBytes, writtenPlan, withPlan};
-use graph::Graph;
+use graph::GraphTable;
 use record::Number;
 use record::Written;
 
@@ -28,12 +28,12 @@ fn number_length(v: u16) -> usize
 }
 
 // An edge stands at a place of the rows, lower vertex first.
-fn edge_at(rows: &[u64; Graph::ROW_WORDS], n: u16, k: usize) -> bool
+fn edge_at(rows: &[u64; GraphTable::ROW_WORDS], n: u16, k: usize) -> bool
     requires { ⌜ k < rowWords * 64 ⌝ }
     ensures { λ r. ⌜ r ≡ edgeAt (now (rows .entry)) n k ⌝ }
 {
-    let v = k % Graph::ROW_BITS;
-    if v <= k / Graph::ROW_BITS {
+    let v = k % GraphTable::ROW_BITS;
+    if v <= k / GraphTable::ROW_BITS {
         return false;
     }
     if n as usize <= v {
@@ -48,15 +48,16 @@ fn edge_length(k: usize) -> usize
     requires { ⌜ k < rowWords * 64 ⌝ }
     ensures { λ r. ⌜ r ≡ length (edgeBytes (pairAt k)) ⌝ }
 {
-    number_length((k / Graph::ROW_BITS) as u16) + number_length((k % Graph::ROW_BITS) as u16)
+    number_length((k / GraphTable::ROW_BITS) as u16)
+        + number_length((k % GraphTable::ROW_BITS) as u16)
 }
 
 // How many edges the rows hold, and how many bytes they take.
-fn measure(rows: &[u64; Graph::ROW_WORDS], n: u16) -> Size
+fn measure(rows: &[u64; GraphTable::ROW_WORDS], n: u16) -> Size
     requires { ⌜ n ≤ capacity ⌝ }
     ensures { λ r. ⌜ r ≡ sizeOf (edgesOf (now (rows .entry)) n) ⌝ }
 {
-    let end = n as usize * Graph::ROW_BITS;
+    let end = n as usize * GraphTable::ROW_BITS;
     let mut edges: usize = 0;
     let mut bytes: usize = 0;
     let mut at: usize = 0;
@@ -88,16 +89,16 @@ fn put_edge(out: &mut [u8], at: usize, k: usize) -> usize
     requires { ⌜ (k < rowWords * 64) × (at + length (edgeBytes (pairAt k)) ≤ length (now out)) ⌝ }
     ensures { λ r. ⌜ (r ≡ at + length (edgeBytes (pairAt k))) × (now (out .exit) ≡ overwritten (now (out .entry)) at (edgeBytes (pairAt k))) ⌝ }
 {
-    let mid = put_number(out, at, (k / Graph::ROW_BITS) as u16);
-    put_number(out, mid, (k % Graph::ROW_BITS) as u16)
+    let mid = put_number(out, at, (k / GraphTable::ROW_BITS) as u16);
+    put_number(out, mid, (k % GraphTable::ROW_BITS) as u16)
 }
 
 // Writes the edges of the rows, which have room, and gives the place after them.
-fn put_edges(rows: &[u64; Graph::ROW_WORDS], n: u16, out: &mut [u8], from: usize) -> usize
+fn put_edges(rows: &[u64; GraphTable::ROW_WORDS], n: u16, out: &mut [u8], from: usize) -> usize
     requires { ⌜ (n ≤ capacity) × (from + length (edgesBytes (now rows) n) ≤ length (now out)) ⌝ }
     ensures { λ r. ⌜ (r ≡ from + length (edgesBytes (now (rows .entry)) n)) × (now (out .exit) ≡ overwritten (now (out .entry)) from (edgesBytes (now (rows .entry)) n)) ⌝ }
 {
-    let end = n as usize * Graph::ROW_BITS;
+    let end = n as usize * GraphTable::ROW_BITS;
     let mut next = from;
     let mut at: usize = 0;
     while at < end {
@@ -111,18 +112,18 @@ fn put_edges(rows: &[u64; Graph::ROW_WORDS], n: u16, out: &mut [u8], from: usize
 }
 
 // Writes the record of a graph at the start of a buffer, where it is within the limits and has room.
-pub fn write_plan(g: Graph, out: &mut [u8]) -> Written
+pub fn write_plan(g: GraphTable, out: &mut [u8]) -> Written
     ensures { λ r. ⌜ (r ≡ writtenPlan (now (out .entry)) g) × (now (out .exit) ≡ withPlan (now (out .entry)) g) ⌝ }
 {
     let vertices = g.n;
-    if vertices < Graph::MIN_VERTICES {
+    if vertices < GraphTable::MIN_VERTICES {
         return Written::Nothing;
     }
-    if Graph::MAX_VERTICES < vertices {
+    if GraphTable::MAX_VERTICES < vertices {
         return Written::Nothing;
     }
     let size = measure(&g.rows, vertices);
-    if size.edges > Graph::MAX_EDGES as usize {
+    if size.edges > GraphTable::MAX_EDGES as usize {
         return Written::Nothing;
     }
     let edges = size.edges as u16;

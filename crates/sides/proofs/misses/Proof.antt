@@ -4,7 +4,7 @@ use lib.ListN.{length, getD}
 use mir.Val.{Fits}
 use mir.Syntax.{w64}
 use borrow.Author.Needs.{needs}
-use Rattle.vertexset.specs.Set.{wordCount, within}
+use Rattle.vertexset.specs.Set.{wordCount, subsetOf}
 use Rattle.vertexset.specs.declared.VertexSet.{VertexSet}
 use Rattle.vertexset.proofs.Laws.{Words}
 use Rattle.sides.proofs.Between.{misses-same}
@@ -18,7 +18,7 @@ returns c =
     let l : length (rest .words) ≡ wordCount = search needs in
     let m : length (h .row .result .words) ≡ wordCount = search needs in
     let w : Words (rest .words) = λ i. let f : Fits w64 (getD (rest .words) i 0) = search needs in f .fits in
-    c .subset .ensures ∙ ap (λ (s : VertexSet). within (rest .words) (s .words)) (c .before .minus .ensures)
+    c .subset .ensures ∙ ap (λ (s : VertexSet). subsetOf (rest .words) (s .words)) (c .before .minus .ensures)
     ∙ misses-same (h .before .args .rows .now) (h .before .args .u) rest (h .row .result) l m w (h .row .ensures)
 
 pub misses-spec : {M : Type 1} → statement M
