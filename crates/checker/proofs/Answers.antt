@@ -14,7 +14,8 @@ use Rattle.record.specs.declared.Answer.{Answer}
 use Rattle.record.specs.declared.Answer.the-variants.{Accepted, Grade, PlanFault, CertificateFault}
 use Rattle.record.proofs.Laws.{Spans, Spans.none, Spans.more, on-got, carry, ended-there}
 use Rattle.connectivity.specs.Graph.{Graph, edgeCount}
-use Rattle.connectivity.specs.Certificate.{Certificate, kind}
+use Rattle.connectivity.specs.Certificate.{Certificate, kind, grade}
+use Rattle.connectivity.proofs.Soundness.{grade-kind}
 use Rattle.reading.specs.Plan.{Plan, Allowed, plan}
 use Rattle.reading.specs.Code.{graphOf, planRead, wholePlan, leadingPlan}
 use Rattle.reading.specs.declared.PlanRead.{PlanRead}
@@ -61,7 +62,7 @@ module _ (g : Graph) where
     body-end (suc (suc (suc zero))) s at h = kind-3 g small s at
     body-end (suc (suc (suc (suc k)))) s at h = absurd (omega arith)
 
-    on-end : (k len : ℕ) (x : Read Certificate) → ((c : Certificate) (next : ℕ) → x ≡ Got c next → kind c ≡ k)
+    on-end : (k len : ℕ) (x : Read Certificate) → ((c : Certificate) (next : ℕ) → x ≡ Got c next → grade c ≡ k)
         → onEnd len k (endRead x) ≡ onCertificate (onRead x (λ v next. cond (ltb next len) (Refused 7 next) (Got v next)))
     unfolding endRead
     on-end k len (Got c next) same = go (ltb next len)
@@ -86,7 +87,7 @@ module _ (g : Graph) where
             → cond b (cond c (onEnd (length s) k (bodyEnd g (edgeCount g) k s at)) (CertificateFault 29 0)) (CertificateFault 8 0)
             ≡ onCertificate (onRead (onRead (onRead (cond (leb 0 k && b) (Got k at) (Refused 8 0)) (λ j next. cond (enough j) (Got j next) (Refused 29 0))) (λ j mid. body g j s mid)) after)
         tested k at true true e f = rw (le-leb 0 k (omega arith), f)
-            (ap (onEnd (length s) k) (body-end k s at (leb-true _ _ e)) ∙ on-end k (length s) (body g k s at) (λ c next h. body-kind k s at h))
+            (ap (onEnd (length s) k) (body-end k s at (leb-true _ _ e)) ∙ on-end k (length s) (body g k s at) (λ c next h. grade-kind c ∙ body-kind k s at h))
         tested k at true false e f = rw (le-leb 0 k (omega arith), f)
         tested k at false c e f = rw (le-leb 0 k (omega arith))
 

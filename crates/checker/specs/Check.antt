@@ -6,7 +6,7 @@ use Rattle.record.specs.Read.{Read, Read.Got, Read.Refused, ended}
 use Rattle.record.specs.declared.Answer.{Answer}
 use Rattle.record.specs.declared.Answer.the-variants.{Grade, PlanFault, CertificateFault}
 use Rattle.connectivity.specs.Graph.{Graph, fromEdges}
-use Rattle.connectivity.specs.Certificate.{Certificate, kind}
+use Rattle.connectivity.specs.Certificate.{Certificate, grade}
 use Rattle.reading.specs.Plan.{Plan, plan}
 use Rattle.certificates.specs.Records.{certificate}
 use Rattle.checker.specs.declared.Graded.{Graded}
@@ -15,9 +15,9 @@ use Rattle.checker.specs.declared.Graded.{Graded}
 abbrev pub planGraph : Plan → Graph
 planGraph p = fromEdges (p .n) (p .edges)
 
--- a certificate that was read whole has its kind as the grade
+-- a certificate that was read whole gives its grade
 abbrev pub onCertificate : Read Certificate → Answer
-onCertificate (Got x next) = Grade (kind x)
+onCertificate (Got x next) = Grade (grade x)
 onCertificate (Refused r q) = CertificateFault r q
 
 unfoldable pub certificateAnswer : Plan → List ℕ → Answer

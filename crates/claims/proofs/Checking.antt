@@ -9,10 +9,10 @@ use Rattle.record.specs.declared.Answer.the-variants.{Grade}
 use Rattle.record.proofs.Laws.{ended-there, ended-back}
 use Rattle.connectivity.specs.Graph.{Simple}
 use Rattle.connectivity.specs.Connectivity.{connectivity}
-use Rattle.connectivity.specs.Certificate.{Certificate, Certificate.separation, Certificate.tree, Certificate.ears, Certificate.build, kind, Rules}
+use Rattle.connectivity.specs.Certificate.{Certificate, Certificate.separation, Certificate.tree, Certificate.ears, Certificate.build, kind, grade, Rules}
 use Rattle.connectivity.proofs.Edges.{fromEdges-simple}
 use Rattle.connectivity.proofs.Closure.{connectivity-is}
-use Rattle.connectivity.proofs.Soundness.{kind-connectivity}
+use Rattle.connectivity.proofs.Soundness.{grade-connectivity, grade-kind}
 use Rattle.connectivity.proofs.Main.{edges-once}
 use Rattle.connectivity.proofs.Additions.{bg-sequence}
 use Rattle.reading.specs.Plan.{Plan, Allowed, plan, planBytes}
@@ -35,7 +35,7 @@ on-plan : (r : Read Plan) (c : List ℕ) {k : ℕ} → onPlan r c ≡ Grade k �
 on-plan (Got p next) c e = (p, next, refl, e)
 on-plan (Refused r q) c e = let z : _≡_ {A = ℕ} 0 1 = cc in absurd (omega arith)
 
-pub on-certificate : (r : Read Certificate) {k : ℕ} → onCertificate r ≡ Grade k → (x : Certificate) × (next : ℕ) × (r ≡ Got x next) × (kind x ≡ k)
+pub on-certificate : (r : Read Certificate) {k : ℕ} → onCertificate r ≡ Grade k → (x : Certificate) × (next : ℕ) × (r ≡ Got x next) × (grade x ≡ k)
 on-certificate (Got x next) e = (x, next, refl, cc)
 on-certificate (Refused r q) e = let z : _≡_ {A = ℕ} 0 1 = cc in absurd (omega arith)
 
@@ -45,7 +45,7 @@ unfolding certificateAnswer
 answer-there p a c k bytes e =
     let x = on-certificate (ended (certificate (planGraph p)) c 0) e in
     let r = accepted-there (planGraph p) (plan-simple p a) (plan-few p a) c (x .0) (x .1) bytes (x .2) in
-    record { plan = p; is-plan = record { allowed = a; bytes = refl }; certificate = x .0; bytes = r .0; same-kind = x .3; rules = r .1 }
+    record { plan = p; is-plan = record { allowed = a; bytes = refl }; certificate = x .0; bytes = r .0; same-kind = sym (grade-kind (x .0)) ∙ x .3; rules = r .1 }
 
 -- DEMAND 2: the checker answers grade k exactly when the first record is written as Records says, the second is a certificate
 -- of kind k, and every rule for its kind holds.
@@ -64,7 +64,7 @@ certified-grade P C k c =
     rw (
       ended-back plan-law {v = p} (c .is-plan .bytes) a,
       accepted-back (planGraph p) (plan-simple p a) (plan-few p a) C (c .certificate) (c .bytes) (c .rules),
-      c .same-kind,
+      grade-kind (c .certificate) ∙ c .same-kind,
     )
 
 pub demand-2 : (P C : List ℕ) (k : ℕ) → Bytes P → Bytes C → (checkOf P C ≡ Grade k) ↔ Certified P C k
@@ -79,12 +79,12 @@ unfolding certificateAnswer
 answer-sound p a c k bytes e =
     let x = on-certificate (ended (certificate (planGraph p)) c 0) e in
     let r = accepted-there (planGraph p) (plan-simple p a) (plan-few p a) c (x .0) (x .1) bytes (x .2) in
-    is-grade p a k (sym (x .3) ∙ kind-connectivity (planGraph p) (plan-simple p a) (x .0) (r .1))
+    is-grade p a k (sym (x .3) ∙ grade-connectivity (planGraph p) (plan-simple p a) (x .0) (r .1))
 
 pub certified-sound : {P C : List ℕ} {k : ℕ} (c : Certified P C k) → IsGrade (c .plan) k
 certified-sound {k = k} c =
     let a = c .is-plan .allowed in
-    is-grade (c .plan) a k (sym (c .same-kind) ∙ kind-connectivity (planGraph (c .plan)) (plan-simple (c .plan) a) (c .certificate) (c .rules))
+    is-grade (c .plan) a k (sym (grade-kind (c .certificate) ∙ c .same-kind) ∙ grade-connectivity (planGraph (c .plan)) (plan-simple (c .plan) a) (c .certificate) (c .rules))
 
 pub grade-sound : (P C : List ℕ) (k : ℕ) → Bytes P → Bytes C → checkOf P C ≡ Grade k → (p : Plan) × IsPlan P p × IsGrade p k
 grade-sound P C k bp bc e = let c = grade-certified P C k bp bc e in (c .plan, c .is-plan, certified-sound c)

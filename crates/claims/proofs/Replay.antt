@@ -15,7 +15,7 @@ use Rattle.record.proofs.Laws.{ended-back, carry}
 use Rattle.record.proofs.Parts.{Calls, Calls.no-call, Calls.call}
 use Rattle.connectivity.specs.Path.{Path}
 use Rattle.connectivity.specs.Build.{taken, final}
-use Rattle.connectivity.specs.Certificate.{Certificate, Certificate.separation, Certificate.tree, Certificate.ears, Certificate.build, kind}
+use Rattle.connectivity.specs.Certificate.{Certificate, Certificate.separation, Certificate.tree, Certificate.ears, Certificate.build, grade}
 use Rattle.reading.specs.Plan.{Plan, Allowed, planBytes}
 use Rattle.reading.specs.Code.{graphOf}
 use Rattle.reading.proofs.Plans.{plan-law}
@@ -96,7 +96,7 @@ module _ (p : Plan) (al : Allowed p) where
     unfolding checkOf
     checked = ap (λ (x : Read Plan). onPlan x C) (ended-back plan-law {v = p} refl al)
 
-    graded : (x : Certificate) (next : ℕ) → ended (certificate (planGraph p)) C 0 ≡ Got x next → checkOf (planBytes p) C ≡ Grade (kind x)
+    graded : (x : Certificate) (next : ℕ) → ended (certificate (planGraph p)) C 0 ≡ Got x next → checkOf (planBytes p) C ≡ Grade (grade x)
     unfolding certificateAnswer
     graded x next e = checked ∙ ap (λ (y : Read Certificate). onCertificate y) e
 
@@ -122,7 +122,7 @@ module _ (p : Plan) (al : Allowed p) where
     unfolding certificateAnswer
     there e = let q = on-certificate (ended (certificate (planGraph p)) C 0) (sym checked ∙ e) in on (q .0) (q .1) (q .2) (q .3)
       where
-        on : (x : Certificate) (next : ℕ) → ended (certificate (planGraph p)) C 0 ≡ Got x next → kind x ≡ 3 → Replayed p C
+        on : (x : Certificate) (next : ℕ) → ended (certificate (planGraph p)) C 0 ≡ Got x next → grade x ≡ 3 → Replayed p C
         on (separation S) next f k = absurd (omega arith)
         on (tree c f ps S) next g k = absurd (omega arith)
         on (ears c d P es S) next f k = absurd (omega arith)

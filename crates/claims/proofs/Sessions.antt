@@ -18,7 +18,7 @@ use Rattle.connectivity.specs.Build.{StartRules, Steps, taken, final}
 use Rattle.connectivity.specs.Certificate.{Certificate.build}
 use Rattle.connectivity.proofs.Edges.{fromEdges-count}
 use Rattle.connectivity.proofs.Steps.{final-append, steps-append}
-use Rattle.connectivity.proofs.Soundness.{kind-connectivity}
+use Rattle.connectivity.proofs.Soundness.{grade-connectivity}
 use Rattle.reading.specs.Plan.{Plan, Allowed, plan}
 use Rattle.reading.specs.Code.{graphOf}
 use Rattle.graph.specs.declared.GraphTable.{GraphTable}
@@ -245,7 +245,7 @@ module _ (p : Plan) (al : Allowed p) where
   given-close enough s (begun b) k f =
       let r = closed (b .building) f in
       let m = plan-count p al in
-      sym (r .2) ∙ kind-connectivity (planGraph p) (plan-simple p al) (build (b .a) (b .b) (b .c) (b .d) (b .six) (b .further))
+      sym (r .2) ∙ grade-connectivity (planGraph p) (plan-simple p al) (build (b .a) (b .b) (b .c) (b .d) (b .six) (b .further))
       (record {
         first = b .rules;
         enough = omega (arith, m);

@@ -14,12 +14,12 @@ use Rattle.connectivity.specs.Graph.{Graph, Simple, Adj, edges, edgeCoun
 use Rattle.connectivity.specs.Connectivity.{connectivity}
 use Rattle.connectivity.specs.Path.{Path, vertices, link, usedEdges, edge, pathEdges}
 use Rattle.connectivity.specs.Build.{IsBranch, final}
-use Rattle.connectivity.specs.Certificate.{Separation, Tree, Cycle, Ear, Ears, inside, Certificate, Rules, BuildRules, build, tree, separation, ears, kind}
+use Rattle.connectivity.specs.Certificate.{Separation, Tree, Cycle, Ear, Ears, inside, Certificate, Rules, BuildRules, build, tree, separation, ears, grade}
 use Rattle.connectivity.proofs.Lists.{ascending-below, select-in, in-below, clash, in-select, below-in, scan, in?, true?, either, in-member, member-in, out-member, at-most, in-single, at-least, nodup-append, in-append, beside, and-not?, in-two-swap}
 use Rattle.connectivity.proofs.Paths.{nodup-inner, inner-in, two-vertices, edge-sorted, in-used, consecutive-path, edge-comm, builtVertices, length-path}
 use Rattle.connectivity.proofs.Edges.{edge-high, edge-differ, path-low, edges-in}
 use Rattle.connectivity.proofs.Start.{theFour, nodup-starts, start-path}
-use Rattle.connectivity.proofs.Soundness.{named, tree-length, tree-nodup, tree-low, kind-connectivity}
+use Rattle.connectivity.proofs.Soundness.{named, tree-length, tree-nodup, tree-low, grade-connectivity}
 use Rattle.connectivity.proofs.EdgeUse.{build-count, used-most}
 use Rattle.connectivity.proofs.Search.{detour, detour-path, Searched, Found, detour-new, search}
 use Rattle.connectivity.proofs.Recorded.{Recorded, recorded-path, rerouted, reroute, reroute-longer}
@@ -284,5 +284,5 @@ module _ (g : Graph) (p : Simple g) where
   certify : RuleKeeping
   certify = ⊎-elim (λ t. ⊎-elim (λ o. ⊎-elim (λ x. x) (pair-certificate o) build-or-pair) (cut-certificate t) all-ears) (λ t. let s = separated-side g [] t in (separation (s .0), s .1)) spanning-tree
 
-  pub certificate-exists : (x : Certificate) × Rules g x × (kind x ≡ connectivity g)
-  certificate-exists = (certify .0, certify .1, kind-connectivity g p (certify .0) (certify .1))
+  pub certificate-exists : (x : Certificate) × Rules g x × (grade x ≡ connectivity g)
+  certificate-exists = (certify .0, certify .1, grade-connectivity g p (certify .0) (certify .1))

@@ -7,10 +7,10 @@ use Rattle.connectivity.specs.Lists.{In}
 use Rattle.connectivity.specs.Graph.{Graph, Simple, HasConnectivity, fromEdges, EdgeList}
 use Rattle.connectivity.specs.Path.{link}
 use Rattle.connectivity.specs.Connectivity.{connectivity}
-use Rattle.connectivity.specs.Certificate.{Certificate, separation, tree, ears, build, kind, Rules}
+use Rattle.connectivity.specs.Certificate.{Certificate, separation, tree, ears, build, grade, Rules}
 use Rattle.connectivity.specs.TopologicalGraph.{BGSequence, complete, listedGraph}
 use Rattle.connectivity.proofs.Edges.{fromEdges-simple}
-use Rattle.connectivity.proofs.Soundness.{rules-connectivity, kind-connectivity}
+use Rattle.connectivity.proofs.Soundness.{rules-connectivity, grade-connectivity}
 use Rattle.connectivity.proofs.Additions.{bg-sequence}
 use Rattle.connectivity.proofs.Checks.{proved, both, each, edgeList}
 use Rattle.connectivity.proofs.RuleVariants.{rules}
@@ -63,12 +63,12 @@ bipartite6 = example 6 ((0, 3) ∷ ((0, 4) ∷ ((0, 5) ∷ ((1, 3) ∷ ((1, 4) �
 abbrev pub examples : List Example
 examples = edgeless4 ∷ (path4 ∷ (triangles5 ∷ (cycle5 ∷ (complete4 ∷ (wheel6 ∷ (prism6 ∷ (bipartite6 ∷ [])))))))
 
--- The graph is simple, the certificate keeps every rule, and by the theorems its kind is the connectivity.
+-- The graph is simple, the certificate keeps every rule, and by the theorems its grade is the connectivity.
 pub record Shown (e : Example) : Type 0 where
   pub simple : Simple (graph e)
   pub kept : Rules (graph e) (e .certificate)
-  pub has : HasConnectivity (graph e) (kind (e .certificate))
-  pub computed : kind (e .certificate) ≡ connectivity (graph e)
+  pub has : HasConnectivity (graph e) (grade (e .certificate))
+  pub computed : grade (e .certificate) ≡ connectivity (graph e)
 
 abbrev Kept : Example → Type 0
 Kept e = EdgeList (e .n) (e .edges) × Rules (graph e) (e .certificate)
@@ -76,7 +76,7 @@ Kept e = EdgeList (e .n) (e .edges) × Rules (graph e) (e .certificate)
 shown : (e : Example) → Kept e → Shown e
 shown e r =
     let p = fromEdges-simple (e .n) (e .edges) (r .0) in
-    record { simple = p; kept = r .1; has = rules-connectivity (graph e) p (e .certificate) (r .1); computed = kind-connectivity (graph e) p (e .certificate) (r .1) }
+    record { simple = p; kept = r .1; has = rules-connectivity (graph e) p (e .certificate) (r .1); computed = grade-connectivity (graph e) p (e .certificate) (r .1) }
 
 pub all-shown : (e : Example) → In e examples → Shown e
 all-shown e h = shown e (proved (each Kept examples (λ e. both (edgeList (e .n) (e .edges)) (rules (graph e) (e .certificate)))) refl e h)
@@ -86,15 +86,15 @@ abbrev pub connectivities : List Example → List ℕ
 connectivities [] = []
 connectivities (e ∷ es) = connectivity (graph e) ∷ connectivities es
 
-abbrev pub kinds : List Example → List ℕ
-kinds [] = []
-kinds (e ∷ es) = kind (e .certificate) ∷ kinds es
+abbrev pub grades : List Example → List ℕ
+grades [] = []
+grades (e ∷ es) = grade (e .certificate) ∷ grades es
 
 pub all-connectivities : connectivities examples ≡ 0 ∷ (1 ∷ (1 ∷ (2 ∷ (3 ∷ (3 ∷ (3 ∷ (3 ∷ [])))))))
 all-connectivities = refl
 
-pub all-kinds : kinds examples ≡ connectivities examples
-all-kinds = refl
+pub all-grades : grades examples ≡ connectivities examples
+all-grades = refl
 
 -- A Barnette-Grünbaum sequence: the prism is the complete graph on four vertices with one edge-edge-addition.
 pub prism-sequence : BGSequence (complete 0 1 2 3) (listedGraph (graph prism6))

@@ -10,13 +10,13 @@ use Rattle.connectivity.specs.Graph.{Graph, HasConnectivity, Simple, Sep
 use Rattle.connectivity.specs.Connectivity.{connectivity}
 use Rattle.connectivity.specs.Path.{Path, vertices, usedEdges}
 use Rattle.connectivity.specs.Build.{StartRules, Steps, IsBranch, final, SimpleBuild, EachEdgeOnce}
-use Rattle.connectivity.specs.Certificate.{Separation, Tree, Cycle, Ears, inside, BuildRules, Certificate, Rules, kind}
+use Rattle.connectivity.specs.Certificate.{Separation, Tree, Cycle, Ears, inside, BuildRules, Certificate, Rules, grade}
 use Rattle.connectivity.proofs.Lists.{either, below?}
 use Rattle.connectivity.proofs.Separators.{connectivity-unique}
 use Rattle.connectivity.proofs.Closure.{has-connectivity, connectivity-is, connectivity-has}
 use Rattle.connectivity.proofs.Steps.{append-steps}
 use Rattle.connectivity.proofs.Start.{start-subdivision}
-use Rattle.connectivity.proofs.Soundness.{separation-separates, tree-none, ears-none, build-has-3, rules-connectivity, kind-connectivity}
+use Rattle.connectivity.proofs.Soundness.{separation-separates, tree-none, ears-none, build-has-3, rules-connectivity, grade-connectivity}
 use Rattle.connectivity.proofs.EdgeUse.{build-simple, build-count, used-final, build-once}
 use Rattle.connectivity.proofs.Completeness.{certificate-exists}
 
@@ -68,9 +68,9 @@ module _ (g : Graph) (p : Simple g) where
   edges-once a b c d start further r = build-once g p start further (start-subdivision g a b c d start (r .first)) (r .steps) (r .all-branch) (omega (arith, r .enough, r .count))
 
   -- A CERTIFICATE THAT KEEPS EVERY RULE TELLS THE CONNECTIVITY (Soundness) ..
-  pub accepted-means-true : (x : Certificate) → Rules g x → HasConnectivity g (kind x) × (kind x ≡ connectivity g)
-  accepted-means-true x r = (rules-connectivity g p x r, kind-connectivity g p x r)
+  pub accepted-means-true : (x : Certificate) → Rules g x → HasConnectivity g (grade x) × (grade x ≡ connectivity g)
+  accepted-means-true x r = (rules-connectivity g p x r, grade-connectivity g p x r)
 
   -- .. AND EVERY GRAPH HAS ONE (Completeness).
-  pub every-graph-has-one : (x : Certificate) × Rules g x × (kind x ≡ connectivity g)
+  pub every-graph-has-one : (x : Certificate) × Rules g x × (grade x ≡ connectivity g)
   every-graph-has-one = certificate-exists g p

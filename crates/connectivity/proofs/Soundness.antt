@@ -10,7 +10,7 @@ use Rattle.connectivity.specs.Graph.{Graph, Simple, Walk, stay, hop, All
 use Rattle.connectivity.specs.Connectivity.{connectivity}
 use Rattle.connectivity.specs.Path.{Path, IsPath, vertices, End}
 use Rattle.connectivity.specs.Build.{Steps, IsBranch, final}
-use Rattle.connectivity.specs.Certificate.{Separation, Tree, Cycle, Ear, Ears, inside, Certificate, Rules, kind, separation, tree, ears, build}
+use Rattle.connectivity.specs.Certificate.{Separation, Tree, Cycle, Ear, Ears, inside, Certificate, Rules, kind, grade, separation, tree, ears, build}
 use Rattle.connectivity.proofs.Lists.{either, in?, in-single, full, in-append}
 use Rattle.connectivity.proofs.Paths.{inner-in}
 use Rattle.connectivity.proofs.Walks.{walk-trans, walk-back, Connected, reach-end, connected-trans, connected-back, here, move, connected-walk, Free, Removed}
@@ -19,6 +19,13 @@ use Rattle.connectivity.proofs.Separators.{no-separator-0, all-connecte
 use Rattle.connectivity.proofs.Closure.{has-connectivity}
 use Rattle.connectivity.proofs.Invariant.{steps-invariant}
 use Rattle.connectivity.proofs.Start.{Subdivision, theFour, start-invariant, start-subdivision}
+
+-- the grade of a certificate is its kind
+pub grade-kind : (x : Certificate) → grade x ≡ kind x
+grade-kind (separation S) = refl
+grade-kind (tree c f ps S) = refl
+grade-kind (ears c d P es S) = refl
+grade-kind (build a b c d ps qs) = refl
 
 -- the vertices that a tree names
 abbrev pub named : List ℕ → List (ℕ × ℕ) → List ℕ
@@ -146,13 +153,13 @@ module _ (g : Graph) (p : Simple g) where
       two : (c d : ℕ) → c < g .n → d < g .n → c ≢ d → AllConnected g (c ∷ (d ∷ []))
       two c d hc hd ne = build-connected start further x steps all c d
 
-  -- EVERY RULE HOLDS: THE CONNECTIVITY IS THE KIND.
-  pub rules-connectivity : (x : Certificate) → Rules g x → HasConnectivity g (kind x)
+  -- EVERY RULE HOLDS: THE CONNECTIVITY IS THE GRADE.
+  pub rules-connectivity : (x : Certificate) → Rules g x → HasConnectivity g (grade x)
   rules-connectivity (separation S) r = has-0 g (separator-0 g (separation-separates r))
   rules-connectivity (tree c f ps S) r = has-1 g (tree-none f ps (r .first-low) (r .count) (r .tree)) (separator-1 g c (r .c-low) (separation-separates (r .separation)))
   rules-connectivity (ears c d P es S) r = let n = ears-none P es (r .first) (r .ears) (r .all-in) in has-2 g (n .0) (n .1)
       (separator-2 g c d (omega (arith, r .order, r .low)) (r .low) (λ e. omega (arith, r .order)) (separation-separates (r .separation)))
   rules-connectivity (build a b c d ps qs) r = build-has-3 ps qs (start-subdivision g a b c d ps (r .first)) (r .steps) (r .all-branch)
 
-  pub kind-connectivity : (x : Certificate) → Rules g x → kind x ≡ connectivity g
-  kind-connectivity x r = has-connectivity g p (kind x) (rules-connectivity x r)
+  pub grade-connectivity : (x : Certificate) → Rules g x → grade x ≡ connectivity g
+  grade-connectivity x r = has-connectivity g p (grade x) (rules-connectivity x r)

@@ -85,6 +85,13 @@ kind (tree c f ps S) = 1
 kind (ears c d P es S) = 2
 kind (build p q r s ps qs) = 3
 
+-- the grade that an accepted certificate gives
+abbrev pub grade : Certificate → ℕ
+grade (separation S) = 0
+grade (tree c f ps S) = 1
+grade (ears c d P es S) = 2
+grade (build p q r s ps qs) = 3
+
 -- EVERY RULE for the certificate's kind holds.
 abbrev pub Rules : Graph → Certificate → Type 0
 Rules g (separation S) = Separation g [] S
