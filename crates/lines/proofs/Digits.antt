@@ -52,3 +52,8 @@ short-in (suc k) (suc j) n h b = go (ltb n 10) refl (λ c. short-in k j (n / 10)
 -- a number below a power of ten has no more digits than it has factors
 pub decimal-short : (k n : ℕ) → n < 10 ^ suc k → length (decimal n) ≤ suc k
 decimal-short k n b = short-in k (suc n) n (omega arith) b
+
+-- the definition, at a number
+pub decimal-4096 : decimal 4096 ≡ 52 ∷ 48 ∷ 57 ∷ 54 ∷ []
+unfolding digitsIn
+decimal-4096 = refl

@@ -1,9 +1,9 @@
 -- A refusal's line, put together piece by piece. Assumes nothing.
-use Prim.Native.Nat.{ℕ, _+_, _^_, _≤_, _<_}
+use Prim.Native.Nat.{ℕ, _^_, _≤_, _<_}
 use mathlib.Core.List.{List}
-use mathlib.Core.Path.{_≡_, refl}
+use mathlib.Core.Path.{_≡_}
 use native.Mathlib.Omega.{arith}
-use lib.ListN.{length, replicate}
+use lib.ListN.{length, length-append, replicate}
 use Rattle.io.specs.Counts.{Counts}
 use Rattle.record.specs.declared.Answer.{Answer}
 use Rattle.lines.specs.Lines.{decimal, refusedWord, atWord, newline, faultLine, refusalLine}
@@ -25,6 +25,14 @@ fault-line who number place h i j l₀ p₁ p₂ p₃ p₄ p₅ p₆ z =
     let b₄ = begins-more b₃ 21 atWord (omega arith) p₄ in
     let b₅ = begins-more b₄ 1 (decimal place) (omega arith) p₅ in
     begins-more b₅ 0 newline (omega arith) p₆
+
+-- so `LONGEST` is enough for every refusal
+pub fault-short : (who : List ℕ) (number place : ℕ) → length who ≤ 11 → number < 256 → place < 2 ^ 64 → length (faultLine who number place) ≤ 48
+unfolding faultLine
+fault-short who number place h i j =
+    let n : length (decimal number) ≤ 3 = decimal-short 2 number (omega arith) in
+    let m : length (decimal place) ≤ 20 = decimal-short 19 place (omega arith) in
+    simp length-append (omega arith)
 
 -- what a program that prints the line needs to know
 pub refusal-counts : (answer : Answer) {next : ℕ} {out : List ℕ} → Put (replicate 48 0) 0 (refusalLine answer) next out → Counts next out

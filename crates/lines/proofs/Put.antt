@@ -1,6 +1,6 @@
 -- Bytes put into a buffer, one after the other. Assumes nothing.
-use Prim.Native.Nat.{ℕ, zero, suc, _+_, _-_, _^_, _≤_, _<_}
-use mathlib.Core.List.{List, [], _∷_, _++_}
+use Prim.Native.Nat.{ℕ, _+_, _≤_, _<_}
+use mathlib.Core.List.{List, [], _++_}
 use mathlib.Core.Bool.{Bool, true, false}
 use mathlib.Core.Path.{_≡_, refl, sym, ap, _∙_}
 use native.Mathlib.Numerals.{add-one}
@@ -10,7 +10,7 @@ use lib.Seq.{paste, paste-zero, paste-suc, take-length, length-take-le, take-at}
 use borrow.Author.Tests.{le-leb, lt-leb, leb-true}
 use Rattle.io.specs.Counts.{Counts}
 use Rattle.record.specs.Write.{overwritten, hasRoom}
-use Rattle.record.proofs.Write.{overwritten-none, overwritten-length, both-put}
+use Rattle.record.proofs.Write.{overwritten-none, overwritten-length}
 use Rattle.lines.specs.Lines.{placeAfter, written}
 
 -- what is put, with the place behind it
