@@ -7,12 +7,11 @@ use record::Answer;
 // the longest input, in bytes
 const LIMIT: usize = 4096;
 
-fn print_refusal(number: u8, place: usize) {
-    io::write_all(STDOUT_FILENO, b"plan refused ");
-    io::print_decimal(STDOUT_FILENO, number as u64);
-    io::write_all(STDOUT_FILENO, b" at ");
-    io::print_decimal(STDOUT_FILENO, place as u64);
-    io::write_all(STDOUT_FILENO, b"\n");
+// An answer that refuses nothing prints nothing.
+fn print_refusal(answer: Answer) {
+    let mut line = [0u8; lines::LONGEST];
+    let n = lines::put_refusal(&mut line, 0, answer);
+    io::write_all(STDOUT_FILENO, &line[..n]);
 }
 
 fn print_front(s: &[u8], n: usize) {
@@ -29,8 +28,8 @@ fn print_made<'a>(plan: &'a [u8], out: &'a [u8], made: Made) {
             io::write_all(STDOUT_FILENO, plan);
             print_front(out, made.length);
         }
-        Answer::PlanFault(number, place) => print_refusal(number, place),
-        Answer::CertificateFault(number, place) => print_refusal(number, place),
+        Answer::PlanFault(_, _) => print_refusal(answer),
+        Answer::CertificateFault(_, _) => print_refusal(answer),
         Answer::Accepted => {}
     }
 }

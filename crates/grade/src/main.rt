@@ -16,13 +16,11 @@ fn print_grade(n: u16, m: u16, grade: u8) {
     io::write_all(STDOUT_FILENO, b"\n");
 }
 
-fn print_refusal(who: &[u8], number: u8, place: usize) {
-    io::write_all(STDOUT_FILENO, who);
-    io::write_all(STDOUT_FILENO, b" refused ");
-    io::print_decimal(STDOUT_FILENO, number as u64);
-    io::write_all(STDOUT_FILENO, b" at ");
-    io::print_decimal(STDOUT_FILENO, place as u64);
-    io::write_all(STDOUT_FILENO, b"\n");
+// An answer that refuses nothing prints nothing.
+fn print_refusal(answer: Answer) {
+    let mut line = [0u8; lines::LONGEST];
+    let n = lines::put_refusal(&mut line, 0, answer);
+    io::write_all(STDOUT_FILENO, &line[..n]);
 }
 
 fn main() {
@@ -36,8 +34,8 @@ fn main() {
     let answer = graded.answer;
     match answer {
         Answer::Grade(k) => print_grade(graded.n, graded.m, k),
-        Answer::PlanFault(number, place) => print_refusal(b"plan", number, place),
-        Answer::CertificateFault(number, place) => print_refusal(b"certificate", number, place),
+        Answer::PlanFault(_, _) => print_refusal(answer),
+        Answer::CertificateFault(_, _) => print_refusal(answer),
         Answer::Accepted => {}
     }
 }

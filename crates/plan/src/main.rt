@@ -14,12 +14,11 @@ fn print_size(n: u16, m: u16) {
     io::write_all(STDOUT_FILENO, b"\n");
 }
 
-fn print_refusal(number: u8, place: usize) {
-    io::write_all(STDOUT_FILENO, b"plan refused ");
-    io::print_decimal(STDOUT_FILENO, number as u64);
-    io::write_all(STDOUT_FILENO, b" at ");
-    io::print_decimal(STDOUT_FILENO, place as u64);
-    io::write_all(STDOUT_FILENO, b"\n");
+// An answer that refuses nothing prints nothing.
+fn print_refusal(answer: Answer) {
+    let mut line = [0u8; lines::LONGEST];
+    let n = lines::put_refusal(&mut line, 0, answer);
+    io::write_all(STDOUT_FILENO, &line[..n]);
 }
 
 fn print_plan(s: &[u8]) {
@@ -31,8 +30,8 @@ fn print_plan(s: &[u8]) {
             let m = read.graph.m;
             print_size(n, m);
         }
-        Answer::PlanFault(number, place) => print_refusal(number, place),
-        Answer::CertificateFault(number, place) => print_refusal(number, place),
+        Answer::PlanFault(_, _) => print_refusal(answer),
+        Answer::CertificateFault(_, _) => print_refusal(answer),
         Answer::Grade(_) => {}
     }
 }

@@ -11,13 +11,11 @@ use script::Part;
 // the longest script, in bytes
 const LIMIT: usize = 65536;
 
-fn print_refusal(who: &[u8], number: u8, place: usize) {
-    io::write_all(STDOUT_FILENO, who);
-    io::write_all(STDOUT_FILENO, b" refused ");
-    io::print_decimal(STDOUT_FILENO, number as u64);
-    io::write_all(STDOUT_FILENO, b" at ");
-    io::print_decimal(STDOUT_FILENO, place as u64);
-    io::write_all(STDOUT_FILENO, b"\n");
+// An answer that refuses nothing prints nothing.
+fn print_refusal(answer: Answer) {
+    let mut line = [0u8; lines::LONGEST];
+    let n = lines::put_refusal(&mut line, 0, answer);
+    io::write_all(STDOUT_FILENO, &line[..n]);
 }
 
 fn print_answer(answer: Answer) {
@@ -30,8 +28,8 @@ fn print_answer(answer: Answer) {
             io::print_decimal(STDOUT_FILENO, k as u64);
             io::write_all(STDOUT_FILENO, b"\n");
         }
-        Answer::PlanFault(number, place) => print_refusal(b"plan", number, place),
-        Answer::CertificateFault(number, place) => print_refusal(b"certificate", number, place),
+        Answer::PlanFault(_, _) => print_refusal(answer),
+        Answer::CertificateFault(_, _) => print_refusal(answer),
     }
 }
 
