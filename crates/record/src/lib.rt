@@ -43,7 +43,7 @@ pub fn read_number(s: &[u8], at: usize) -> Number
         return Number::Ended(s.len());
     }
     let a = s[at] as u16;
-    if a < 128 {
+    if a < Number::GROUP {
         return Number::Value(a, at + 1);
     }
     let second = at + 1;
@@ -54,8 +54,8 @@ pub fn read_number(s: &[u8], at: usize) -> Number
     if b == 0 {
         return Number::Padded(at);
     }
-    if b < 128 {
-        return Number::Value(a - 128 + b * 128, second + 1);
+    if b < Number::GROUP {
+        return Number::Value(a - Number::GROUP + b * Number::GROUP, second + 1);
     }
     Number::Overlong(at)
 }
@@ -100,7 +100,7 @@ pub fn write_number(out: &mut [u8], at: usize, v: u16) -> Written
     if out.len() <= second {
         return Written::Nothing;
     }
-    out[at] = (v % 128 + 128) as u8;
-    out[second] = (v / 128) as u8;
+    out[at] = (v % Number::GROUP + Number::GROUP) as u8;
+    out[second] = (v / Number::GROUP) as u8;
     Written::Next(second + 1)
 }
