@@ -1,5 +1,5 @@
 -- Reading and testing one ear. Assumes nothing.
-use Prim.Native.Nat.{ℕ, zero, suc, _-_, _<_, _≤_}
+use Prim.Native.Nat.{ℕ}
 use mathlib.Core.List.{List}
 use mathlib.Core.Bool.{Bool, true, false, cond, _&&_, _||_, not}
 use mathlib.Core.Path.{_≡_, refl, sym, ap, _∙_}
@@ -9,7 +9,7 @@ use Rattle.record.proofs.Loops.{three-tests}
 use Rattle.vertexset.specs.Set.{has}
 use Rattle.connectivity.specs.Graph.{Graph}
 use Rattle.connectivity.specs.Path.{Link}
-use Rattle.certificates.specs.Tests.{pathAlong, pathNew, allBelow}
+use Rattle.certificates.specs.Tests.{pathAlong, pathNew}
 use Rattle.certificates.specs.Records.{path}
 use Rattle.paths.specs.Paths.{pathTold}
 use Rattle.paths.specs.declared.PathRead.{PathRead}
@@ -68,14 +68,3 @@ pick-true x y e = rw e
 
 pub pick-false : {A : Type 0} {b : Bool} (x y : A) → b ≡ false → y ≡ cond b x y
 pick-false x y e = rw e
-
--- one vertex less to test, and none
-pub all-none : (t : ℕ → Bool) (v : ℕ) → v ≤ 0 → true ≡ allBelow v t
-unfolding allBelow
-all-none t zero h = refl
-all-none t (suc v) h = absurd (omega arith)
-
-pub all-step : (t : ℕ → Bool) (v : ℕ) → 0 < v → allBelow v t ≡ (t (v - 1) && allBelow (v - 1) t)
-unfolding allBelow
-all-step t zero h = absurd (omega arith)
-all-step t (suc v) h = let z : suc v - 1 ≡ v = omega arith in rw z

@@ -3,7 +3,6 @@ ghost use mathlib.Core.Path.{_≡_};
 ghost use Prim.Native.Nat.{_≤_};
 ghost use Rattle.vertexset.specs.Set.{has, capacity};
 ghost use Rattle.graph.specs.Rows.{adjacentIn};
-ghost use Rattle.certificates.specs.Tests.{allBelow};
 ghost use Rattle.certificates.specs.Records.{body};
 ghost use Rattle.paths.specs.Items.{endRead, rowsGraph, limited};
 ghost use Rattle.ears.specs.Code.{noEars, earRead, earTested, earBeside, allEars};
@@ -86,20 +85,6 @@ fn read_ear(s: &[u8], rows: &[u64; Graph::ROW_WORDS], n: u16, ears: Ears, at: us
     ears.tested(rows, p, at, next)
 }
 
-// Every vertex below n is in the set.
-fn all_below(set: VertexSet, n: u16) -> bool
-    ensures { λ r. ⌜ r ≡ allBelow n (has (set .words)) ⌝ }
-{
-    let mut v = n;
-    while 0 < v {
-        v -= 1;
-        if !set.contains(v) {
-            return false;
-        }
-    }
-    true
-}
-
 // As many ears as are counted, and then every vertex is in.
 fn read_all_ears(s: &[u8], rows: &[u64; Graph::ROW_WORDS], n: u16, count: u16, from: usize) -> Item
     requires { ⌜ n ≤ capacity ⌝ }
@@ -119,7 +104,7 @@ fn read_all_ears(s: &[u8], rows: &[u64; Graph::ROW_WORDS], n: u16, count: u16, f
         left -= 1;
     }
     let set = ears.set;
-    if all_below(set, n) {
+    if paths::all_below(set, n) {
         return Item::Value(0, at);
     }
     Item::Fault(28, at)

@@ -7,7 +7,7 @@ ghost use Rattle.vertexset.specs.Set.{withBit, capacity};
 ghost use Rattle.record.specs.Number.{numberBytes, numberLimit};
 ghost use Rattle.record.specs.Write.{overwritten};
 ghost use Rattle.graph.specs.Plan.{edge, edgeBytes};
-ghost use Rattle.graph.specs.Rows.{adjacentIn, rowOf, rowWords, bareRows, noGraph, joinedRows, pairAt, edgeAt, edgesOf};
+ghost use Rattle.graph.specs.Rows.{adjacentIn, rowOf, rowWords, bareRows, noGraph, joinedRows, withoutBit, partedRows, pairAt, edgeAt, edgesOf};
 ghost use Rattle.graph.specs.Code.{wholePlan, leadingPlan, edgeRead, testedEdge, edgeFault, refusedPlan, edgeLoop, sizeOf, edgesBytes, writtenPlan, withPlan};
 use record::Answer;
 use record::Number;
@@ -111,6 +111,29 @@ pub fn join(rows: &mut [u64; Graph::ROW_WORDS], u: u16, v: u16)
     }
     set_bit(rows, u, v);
     set_bit(rows, v, u);
+}
+
+fn clear_bit(rows: &mut [u64; Graph::ROW_WORDS], u: u16, v: u16)
+    requires { ⌜ (u < capacity) × (v < capacity) ⌝ }
+    ensures { λ r. ⌜ now (rows .exit) ≡ withoutBit (now (rows .entry)) (u * capacity + v) ⌝ }
+{
+    let i = u as usize * VertexSet::WORDS + (v / 64) as usize;
+    let w = rows[i];
+    rows[i] = w ^ (w & (1u64 << (v % 64)));
+}
+
+// Two vertices are parted in a table of rows; a number past the vertices parts nothing.
+pub fn part(rows: &mut [u64; Graph::ROW_WORDS], u: u16, v: u16)
+    ensures { λ r. ⌜ now (rows .exit) ≡ partedRows (now (rows .entry)) u v ⌝ }
+{
+    if VertexSet::CAPACITY <= u {
+        return;
+    }
+    if VertexSet::CAPACITY <= v {
+        return;
+    }
+    clear_bit(rows, u, v);
+    clear_bit(rows, v, u);
 }
 
 // The edge from u to v that was read at a place, tested.

@@ -1,12 +1,12 @@
--- `ears::all_below` meets its contract: what is left to test gives the same as the whole. Assumes nothing.
+-- `paths::all_below` meets its contract: what is left to test gives the same as the whole. Assumes nothing.
 use mathlib.Core.Path.{_≡_, refl, _∙_}
 use borrow.Author.Needs.{needs}
 use borrow.Author.Tests.{not-true, not-false}
 use Rattle.vertexset.specs.Set.{has}
 use Rattle.certificates.specs.Tests.{allBelow}
-use Rattle.ears.proofs.Ear.{all-step, all-none}
-use Rattle.ears.proofs.all_below.Statement.{statement}
-use Rattle.ears.proofs.all_below.Tie as tie
+use Rattle.paths.proofs.Sets.{all-step, all-none}
+use Rattle.paths.proofs.all_below.Statement.{statement}
+use Rattle.paths.proofs.all_below.Tie as tie
 
 abbrev Inv-loop : tie.InvT-loop
 Inv-loop set n v₀ v = allBelow v (has (set .words)) ≡ allBelow n (has (set .words))
