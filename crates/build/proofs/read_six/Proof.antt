@@ -8,64 +8,59 @@ use Rattle.paths.specs.declared.Item.the-variants.{Value}
 use Rattle.build.specs.declared.Build.{Build}
 use Rattle.build.specs.declared.Started.{Started}
 use Rattle.build.specs.Code.{buildIn, startLoop}
-use Rattle.build.proofs.Turns.{Long, startWith, firsts, lasts, start-stop, start-go, start-begun}
+use Rattle.build.proofs.Turns.{startWith, firsts, lasts, start-stop, start-go, start-begun}
 use Rattle.build.proofs.read_six.Statement.{statement}
 use Rattle.build.proofs.read_six.Tie as tie
 
 abbrev Inv-loop : tie.InvT-loop
-Inv-loop s rows n from first last branch built₀ before₀ after₀ linked₀ at₀ left₀ built before after linked at left =
-    (left ≤ 6) × ((Long before after) × (runs (startLoop n rows) left (startWith first last left (buildIn branch built before after linked)) (startWith first last left (buildIn branch built before after linked)) s at
-    ≡ runs (startLoop n rows) 6 (startWith first last 6 (buildIn branch built₀ before₀ after₀ linked₀)) (startWith first last 6 (buildIn branch built₀ before₀ after₀ linked₀)) s from))
+Inv-loop s rows n from first last sets₀ pointers₀ linked₀ at₀ left₀ sets pointers linked at left =
+    (left ≤ 6) × (runs (startLoop n rows) left (startWith first last left (buildIn sets pointers linked)) (startWith first last left (buildIn sets pointers linked)) s at
+    ≡ runs (startLoop n rows) 6 (startWith first last 6 (buildIn sets₀ pointers₀ linked₀)) (startWith first last 6 (buildIn sets₀ pointers₀ linked₀)) s from)
 
 abbrev μ-loop : tie.MeasureT-loop
-μ-loop s rows n from first last branch built₀ before₀ after₀ linked₀ at₀ left₀ built before after linked at left = left
-
-begun : Build → ℕ → Started
-begun y at = record { end = Value 0 at; build = y }
+μ-loop s rows n from first last sets₀ pointers₀ linked₀ at₀ left₀ sets pointers linked at left = left
 
 returns : tie.Need-returns Inv-loop μ-loop
 returns c =
     let k = c .before .before .before in
-    let h = k .before .before .before .before in
+    let h = k .before .before .before in
     let l = h .before .loop in
     let set = h .before .before in
     let st = set .before .before in
     let a = st .args in
-    let b = buildIn (set .as-set .result) (l .built) (l .before) (l .after) (l .linked) in
+    let b = buildIn (l .sets) (l .pointers) (l .linked) in
     c .no-start .ensures
     ∙ start-stop (a .n) (a .rows .now) (a .s .now) (firsts (a .four)) (lasts (a .four)) b (l .at) (l .left) (st .pre) (h .loop-test .taken) (l .inv .0) (k .take-start-path .ensures) (c .before .enum-told .given .1)
-    ∙ l .inv .1 .1
+    ∙ l .inv .1
     ∙ start-begun (a .n) (a .rows .now) (a .s .now) (a .from) (a .four) (set .as-set .result) (set .as-set .ensures)
 
 loop-again : tie.Need-loop-again Inv-loop μ-loop
 loop-again c =
     let k = c .before .before .before .before in
-    let h = k .before .before .before .before in
+    let h = k .before .before .before in
     let l = h .before .loop in
     let set = h .before .before in
     let st = set .before .before in
     let a = st .args in
-    let b = buildIn (set .as-set .result) (l .built) (l .before) (l .after) (l .linked) in
-    let x = start-go (a .n) (a .rows .now) (a .s .now) (firsts (a .four)) (lasts (a .four)) b (l .at) (l .left) (st .pre) (h .loop-test .taken) (l .inv .0) (k .take-start-path .ensures) (c .before .before .end .given .1) (l .inv .1 .0) in
-    (search needs, (x .0, x .1 ∙ l .inv .1 .1))
+    let b = buildIn (l .sets) (l .pointers) (l .linked) in
+    let x = start-go (a .n) (a .rows .now) (a .s .now) (firsts (a .four)) (lasts (a .four)) b (l .at) (l .left) (st .pre) (h .loop-test .taken) (l .inv .0) (k .take-start-path .ensures) (c .before .before .end .given .1) in
+    (search needs, x ∙ l .inv .1)
 
 returns-2 : tie.Need-returns-2 Inv-loop μ-loop
-unfolding begun
 returns-2 c =
-    let h = c .before in
+    let h = c in
     let l = h .before .loop in
     let set = h .before .before in
     let st = set .before .before in
     let a = st .args in
-    let b = buildIn (set .as-set .result) (l .built) (l .before) (l .after) (l .linked) in
+    let b = buildIn (l .sets) (l .pointers) (l .linked) in
     let w = startWith (firsts (a .four)) (lasts (a .four)) (l .left) b in
-    ap (λ (y : Build). begun y (l .at)) (c .of .ensures)
-    ∙ turn-done (startLoop (a .n) (a .rows .now)) (a .s .now) (l .left) (h .loop-test .left) w w (l .at)
-    ∙ l .inv .1 .1
+    turn-done (startLoop (a .n) (a .rows .now)) (a .s .now) (l .left) (h .loop-test .left) w w (l .at)
+    ∙ l .inv .1
     ∙ start-begun (a .n) (a .rows .now) (a .s .now) (a .from) (a .four) (set .as-set .result) (set .as-set .ensures)
 
 pub read-six-spec : {M : Type 1} → statement M
 read-six-spec = tie.close (tie.spec
-    Inv-loop μ-loop (λ c κs. search needs) (λ c. (search needs, (search needs, refl)))
+    Inv-loop μ-loop (λ c κs. search needs) (λ c. (search needs, refl))
     (λ c. search needs) (λ c. search needs) (λ c. search needs) (λ c. search needs) (λ c. search needs) (λ c κs. search needs)
-    (λ c. search needs) (λ c. search needs) (λ c κs. search needs) returns (λ c. search needs) (λ c. search needs) loop-again (λ c κs. search needs) returns-2)
+    (λ c. search needs) (λ c. search needs) (λ c κs. search needs) returns (λ c. search needs) (λ c. search needs) loop-again returns-2)
