@@ -10,7 +10,7 @@ use Rattle.record.specs.declared.Answer.the-variants.{Accepted, Grade, PlanFaul
 use Rattle.connectivity.specs.Connectivity.{connectivity}
 use Rattle.graph.specs.Plan.{Plan}
 use Rattle.graph.specs.Code.{wholePlan}
-use Rattle.build.specs.Session.{opening, closeStep}
+use Rattle.sessions.specs.Session.{opening, closeStep}
 use Rattle.checker.specs.Check.{planGraph, checkOf}
 use Rattle.certifier.specs.Made.{roomAsked, made, madeFrom, filledFrom}
 use Rattle.claims.specs.Certified.{IsPlan, Certified, IsGrade}

@@ -14,13 +14,13 @@ returns-2 c = let k = c .before .before in closing-few (k .before .before .befor
 
 returns-3 : tie.Need-returns-3
 returns-3 c =
-    let k = c .before .before .before .before .before in
-    closing-good (k .before .before .before .args .self) (not-false _ (k .before .before .if1 .left)) (c .before .before .before .if2 .left ∙ k .further-count .ensures) (sym (c .before .all-below .ensures) ∙ c .if3 .taken)
+    let k = c .before .before .before .before .before .before in
+    closing-good (k .before .before .before .args .self) (not-false _ (k .before .before .if1 .left)) (c .before .before .before .before .if2 .left ∙ k .further-count .ensures) (sym (c .before .all-below .ensures) ∙ c .if3 .taken)
 
 returns-4 : tie.Need-returns-4
 returns-4 c =
-    let k = c .before .before .before .before .before in
-    closing-open (k .before .before .before .args .self) (not-false _ (k .before .before .if1 .left)) (c .before .before .before .if2 .left ∙ k .further-count .ensures) (sym (c .before .all-below .ensures) ∙ c .if3 .left)
+    let k = c .before .before .before .before .before .before in
+    closing-open (k .before .before .before .args .self) (not-false _ (k .before .before .if1 .left)) (c .before .before .before .before .if2 .left ∙ k .further-count .ensures) (sym (c .before .all-below .ensures) ∙ c .if3 .left)
 
 pub closing-spec : {M : Type 1} → statement M
 closing-spec = tie.close (tie.spec returns (λ c κs. search needs) returns-2 (λ c κs. search needs) returns-3 returns-4)
