@@ -24,7 +24,7 @@ use Rattle.build.specs.declared.Build.{Build}
 use Rattle.build.specs.declared.Four.{Four}
 use Rattle.build.specs.declared.Taken.{Taken}
 use Rattle.build.specs.State.{entered, pathTaken, buildPath, BuildStart, bareBuild, fourSet, startOf, startOn}
-use Rattle.build.specs.Code.{buildIn, onPathRead, Leaves, towards, fourOf, noStart, startLoop, furtherLoop}
+use Rattle.build.specs.Code.{buildIn, onPathRead, Leaves, towards, fourOf, firsts, lasts, pairAt, noStart, startLoop, furtherLoop}
 use Rattle.build.proofs.Taking.{limit-kept}
 
 -- a vertex above the one before it
@@ -104,15 +104,6 @@ pairsFrom first last (suc k) i = (getD first i 0, getD last i 0) ∷ pairsFrom f
 abbrev pub startWith : List ℕ → List ℕ → ℕ → Build → BuildStart
 startWith first last k b = record { ends = pairsFrom first last k (6 - k); build = b }
 
-abbrev pub firsts : Four → List ℕ
-firsts f = f .p ∷ f .p ∷ f .p ∷ f .q ∷ f .q ∷ f .r ∷ []
-
-abbrev pub lasts : Four → List ℕ
-lasts f = f .q ∷ f .r ∷ f .s ∷ f .r ∷ f .s ∷ f .s ∷ []
-
-abbrev pub pairAt : List ℕ → List ℕ → ℕ → Link
-pairAt first last i = record { a = getD first i 0; b = getD last i 0 }
-
 first-pair : (first last : List ℕ) (k : ℕ) → 0 < k → k ≤ 6
     → pairsFrom first last k (6 - k) ≡ (getD first (6 - k) 0, getD last (6 - k) 0) ∷ pairsFrom first last (k - 1) (6 - (k - 1))
 unfolding pairsFrom
@@ -132,12 +123,13 @@ same-start e f = rw (e, f)
 
 -- a turn over the paths of the start
 module _ (n : ℕ) (rows s first last : List ℕ) (b : Build) (at k : ℕ) {r : Taken} {pointers linked : List ℕ}
-    (low : n ≤ capacity) (some : 0 < k) (six : k ≤ 6)
-    (h : Leaves n (λ b. startOn (rowsGraph n rows) (towards (pairAt first last (6 - k)) b)) entered b s at r pointers linked) where
-  tested-next : startOn (rowsGraph n rows) (startWith first last k b) s at ≡ startOn (rowsGraph n rows) (towards (pairAt first last (6 - k)) b) s at
+    (low : n ≤ capacity) (some : 0 < k) (six : k ≤ 6) {l : Link} (ends : l ≡ pairAt first last (6 - k))
+    (h : Leaves n (λ b. startOn (rowsGraph n rows) (towards l b)) entered b s at r pointers linked) where
+  tested-next : startOn (rowsGraph n rows) (startWith first last k b) s at ≡ startOn (rowsGraph n rows) (towards l b) s at
   tested-next =
       ap (λ (es : List (ℕ × ℕ)). startOn (rowsGraph n rows) (record { ends = es; build = b }) s at) (first-pair first last k some six)
       ∙ next-pair (rowsGraph n rows) (pairAt first last (6 - k)) (pairsFrom first last (k - 1) (6 - (k - 1))) b s at
+      ∙ ap (λ (l : Link). startOn (rowsGraph n rows) (towards l b) s at) (sym ends)
 
   pub start-stop : {q p : ℕ} → r .end ≡ Fault q p → noStart (r .end) ≡ runs (startLoop n rows) k (startWith first last k b) (startWith first last k b) s at
   start-stop f = ap noStart f ∙ turn-stop (startLoop n rows) s k some (startWith first last k b) (startWith first last k b) at (tested-next ∙ left-bad low h f)
@@ -156,7 +148,7 @@ module _ (n : ℕ) (rows s first last : List ℕ) (b : Build) (at k : ℕ) {r : 
 pub four-set : {e a b c d : VertexSet} (p q r s : ℕ) → e ≡ emptySet → a ≡ inserted e p → b ≡ inserted a q → c ≡ inserted b r → d ≡ inserted c s → d ≡ fourSet (p, (q, (r, s)))
 four-set p q r s f g h i j = rw (j, i, h, g, f)
 
-pub start-begun : (n : ℕ) (rows s : List ℕ) (from : ℕ) (f : Four) (set : VertexSet) → set ≡ fourSet (fourOf f)
-    → runs (startLoop n rows) 6 (startWith (firsts f) (lasts f) 6 (bareBuild set)) (startWith (firsts f) (lasts f) 6 (bareBuild set)) s from ≡ runs (startLoop n rows) 6 (startOf (fourOf f)) (startOf (fourOf f)) s from
+pub start-begun : (n : ℕ) (rows s : List ℕ) (from : ℕ) (f : Four) {set : VertexSet} {b : Build} → set ≡ fourSet (fourOf f) → b ≡ bareBuild set
+    → runs (startLoop n rows) 6 (startWith (firsts f) (lasts f) 6 b) (startWith (firsts f) (lasts f) 6 b) s from ≡ runs (startLoop n rows) 6 (startOf (fourOf f)) (startOf (fourOf f)) s from
 unfolding pairsFrom
-start-begun n rows s from f set e = ap (λ (x : VertexSet). runs (startLoop n rows) 6 (startWith (firsts f) (lasts f) 6 (bareBuild x)) (startWith (firsts f) (lasts f) 6 (bareBuild x)) s from) e
+start-begun n rows s from f e g = ap (λ (b : Build). runs (startLoop n rows) 6 (startWith (firsts f) (lasts f) 6 b) (startWith (firsts f) (lasts f) 6 b) s from) (g ∙ ap bareBuild e)

@@ -4,7 +4,7 @@ use mathlib.Core.List.{List, [], _∷_}
 use mathlib.Core.Bool.{Bool, cond}
 use mathlib.Core.Path.{_≡_}
 use lib.Bits.{bitOr}
-use lib.ListN.{take}
+use lib.ListN.{getD, take}
 use Rattle.record.specs.Read.{Read, Read.Got, Read.Refused, Reader}
 use Rattle.record.specs.Loop.{Loop}
 use Rattle.vertexset.specs.Set.{has, emptySet, wordwise}
@@ -65,6 +65,16 @@ fourRead (Refused r p) = noFour (Fault r p)
 
 abbrev pub fourOf : Four → ℕ × (ℕ × (ℕ × ℕ))
 fourOf f = (f .p, (f .q, (f .r, f .s)))
+
+-- the ends of the six paths, and those of the path at a place
+abbrev pub firsts : Four → List ℕ
+firsts f = f .p ∷ f .p ∷ f .p ∷ f .q ∷ f .q ∷ f .r ∷ []
+
+abbrev pub lasts : Four → List ℕ
+lasts f = f .q ∷ f .r ∷ f .s ∷ f .r ∷ f .s ∷ f .s ∷ []
+
+abbrev pub pairAt : List ℕ → List ℕ → ℕ → Link
+pairAt first last i = record { a = getD first i 0; b = getD last i 0 }
 
 -- the build after its start, and where reading goes on or the fault
 abbrev pub noStart : Item → Started

@@ -1,6 +1,6 @@
 // Builds for grade 3: what reading and taking a path does, the start, and a certificate of kind 3.
 ghost use mathlib.Core.Path.{_≡_};
-ghost use Prim.Native.Nat.{suc, _≤_};
+ghost use Prim.Native.Nat.{suc, _≤_, _<_};
 ghost use lib.Dec.{leb};
 ghost use lib.ListN.{length};
 ghost use Rattle.record.specs.Read.{_needs⟨_⟩_};
@@ -10,7 +10,7 @@ ghost use Rattle.connectivity.specs.Build.{furtherCount};
 ghost use Rattle.certificates.specs.Records.{vertex, branchFour};
 ghost use Rattle.paths.specs.Items.{itemRead, endRead, rowsGraph, limited};
 ghost use Rattle.build.specs.State.{entered, pathTaken, buildPath, bareBuild, fourSet, startOn, startOf, buildStart, buildBody};
-ghost use Rattle.build.specs.Code.{pathFault, buildIn, enteredFrom, Leaves, towards, noFour, fourRead, fourOf, noStart, startRead, startLoop, furtherLoop};
+ghost use Rattle.build.specs.Code.{pathFault, buildIn, enteredFrom, Leaves, towards, noFour, fourRead, fourOf, firsts, lasts, pairAt, noStart, startRead, startLoop, furtherLoop};
 use graph::Graph;
 use links::Ends;
 use links::Link;
@@ -194,6 +194,19 @@ impl Four {
             .insert(self.r)
             .insert(self.s)
     }
+
+    // The ends of the path at a place, in the order pq, pr, ps, qr, qs, rs.
+    fn pair(self, i: usize) -> Link
+        requires { ⌜ i < 6 ⌝ }
+        ensures { λ r. ⌜ r ≡ pairAt (firsts self) (lasts self) i ⌝ }
+    {
+        let first = [self.p, self.p, self.p, self.q, self.q, self.r];
+        let last = [self.q, self.r, self.s, self.r, self.s, self.s];
+        Link {
+            a: first[i],
+            b: last[i],
+        }
+    }
 }
 
 fn no_four(x: Item) -> Four
@@ -260,7 +273,7 @@ fn no_start(x: Item) -> Started
     Started { end: x, build }
 }
 
-// The six paths between the four, in the order pq, pr, ps, qr, qs, rs.
+// The six paths between the four.
 fn read_six<'a>(
     s: &'a [u8],
     rows: &'a [u64; Graph::ROW_WORDS],
@@ -271,23 +284,14 @@ fn read_six<'a>(
     requires { ⌜ n ≤ capacity ⌝ }
     ensures { λ r. ⌜ r ≡ runs (startLoop n (now (rows .entry))) 6 (startOf (fourOf four)) (startOf (fourOf four)) (now (s .entry)) from ⌝ }
 {
-    let first = [four.p, four.p, four.p, four.q, four.q, four.r];
-    let last = [four.q, four.r, four.s, four.r, four.s, four.s];
-    let set = four.as_set();
-    let mut sets = Sets {
-        branch: set,
-        built: set,
-    };
-    let mut pointers = [0u16; Link::POINTERS];
-    let mut linked = [0u64; Graph::ROW_WORDS];
+    let bare = Build::bare(four.as_set());
+    let mut sets = bare.sets;
+    let mut pointers = bare.pointers;
+    let mut linked = bare.linked;
     let mut at = from;
     let mut left: usize = 6;
     while 0 < left {
-        let i = 6 - left;
-        let ends = Link {
-            a: first[i],
-            b: last[i],
-        };
+        let ends = four.pair(6 - left);
         let x = take_start_path(s, rows, n, at, ends, sets, &mut pointers, &mut linked);
         let end = x.end;
         let Item::Value(_, next) = end else {
@@ -350,8 +354,7 @@ fn read_further<'a>(
         at = next;
         left -= 1;
     }
-    let branch = sets.branch;
-    if paths::all_below(branch, n) {
+    if paths::all_below(sets.branch, n) {
         return Item::Value(0, at);
     }
     Item::Fault(28, at)

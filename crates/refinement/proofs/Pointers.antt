@@ -123,10 +123,10 @@ along-other p u (v ∷ l) t half w h n =
     ∙ along-other (pointedBoth p u v (headOf l t)) v l t half w h (λ k. n (inr k)) ∙ both-other p u v (headOf l t) half w h (λ e. n (inl e))
 
 module _ (t : ℕ) where
-  abbrev Set : List ℕ → ℕ → List ℕ → Type 0
-  Set q u l = Back (pointer q 0) u l × On (pointer q capacity) l t
+  abbrev PointsAlong : List ℕ → ℕ → List ℕ → Type 0
+  PointsAlong q u l = Back (pointer q 0) u l × On (pointer q capacity) l t
 
-  pub along-set : (p : List ℕ) (u : ℕ) (l : List ℕ) → length p ≡ pointerCount → NoDup l → ((w : ℕ) → In w l → w < capacity) → Set (pointAlong p (pathList u l t)) u l
+  pub along-set : (p : List ℕ) (u : ℕ) (l : List ℕ) → length p ≡ pointerCount → NoDup l → ((w : ℕ) → In w l → w < capacity) → PointsAlong (pointAlong p (pathList u l t)) u l
   along-set p u [] long nd low = (tt, tt)
   along-set p u (v ∷ l) long nd low =
       let w = headOf l t in

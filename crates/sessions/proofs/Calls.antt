@@ -137,8 +137,8 @@ module _ (s : Session) where
     closing-open f = rw (e, eq-eqb (s .taken) (pathCount s) h, f)
 
 -- the part of a slice from a place on, as the code takes it
-pub rest : (l : List ℕ) (at : ℕ) → take (length l - at) (drop at l) ≡ drop at l
-rest l at = take-all (length l - at) (drop at l) (omega (arith, length-drop at l))
+pub part-rest : (l : List ℕ) (at : ℕ) → take (length l - at) (drop at l) ≡ drop at l
+part-rest l at = take-all (length l - at) (drop at l) (omega (arith, length-drop at l))
 
 pub no-rest : (l : List ℕ) (at : ℕ) → length l < at → [] ≡ drop at l
 no-rest l at h = sym (drop-of-length-le l {i = at} (omega arith))

@@ -1,6 +1,7 @@
 // The building session: opening, start, path, closing.
 ghost use mathlib.Core.Path.{_≡_};
 ghost use Prim.Native.Nat.{_<_};
+ghost use lib.ListN.{drop};
 ghost use Rattle.sessions.specs.Session.{noSession, opening, refusedStep, unreadStep, startStep, pathCount, dueStep, pathStep, closing, closeStep, startRest, pathRest};
 use build::Build;
 use graph::Graph;
@@ -207,12 +208,10 @@ pub fn open(plan: &[u8]) -> Opened
     Opened { answer, session }
 }
 
-// What a start leaves unread of the caller's record.
-pub fn start_rest<'a>(session: Session, part: &'a [u8]) -> &'a [u8]
-    ensures { λ r. ⌜ now r ≡ startRest session (now (part .entry)) ⌝ }
+// What stands from a place on.
+fn rest<'a>(part: &'a [u8], at: usize) -> &'a [u8]
+    ensures { λ r. ⌜ now r ≡ drop at (now (part .entry)) ⌝ }
 {
-    let x = session.start(part);
-    let at = x.read;
     if at <= part.len() {
         &part[at..]
     } else {
@@ -220,15 +219,18 @@ pub fn start_rest<'a>(session: Session, part: &'a [u8]) -> &'a [u8]
     }
 }
 
+// What a start leaves unread of the caller's record.
+pub fn start_rest<'a>(session: Session, part: &'a [u8]) -> &'a [u8]
+    ensures { λ r. ⌜ now r ≡ startRest session (now (part .entry)) ⌝ }
+{
+    let x = session.start(part);
+    rest(part, x.read)
+}
+
 // What a path leaves unread of the caller's record.
 pub fn path_rest<'a>(session: Session, part: &'a [u8]) -> &'a [u8]
     ensures { λ r. ⌜ now r ≡ pathRest session (now (part .entry)) ⌝ }
 {
     let x = session.path(part);
-    let at = x.read;
-    if at <= part.len() {
-        &part[at..]
-    } else {
-        &part[..0]
-    }
+    rest(part, x.read)
 }

@@ -37,7 +37,7 @@ loop-again c =
 
 returns-2 : tie.Need-returns-2 Inv-loop μ-loop
 returns-2 c =
-    let h = c .before .before .before in
+    let h = c .before .before in
     let l = h .before .loop in
     let st = h .before .before .before .before .before .before in
     let a = st .args in
@@ -46,7 +46,7 @@ returns-2 c =
 
 returns-3 : tie.Need-returns-3 Inv-loop μ-loop
 returns-3 c =
-    let h = c .before .before .before in
+    let h = c .before .before in
     let l = h .before .loop in
     let st = h .before .before .before .before .before .before in
     let a = st .args in
