@@ -8,10 +8,11 @@ use borrow.Author.Tests.{le-leb, lt-leb, leb-true}
 use Rattle.record.specs.Read.{Read, Read.Got, Read.Refused, Reader, onRead, _▸_, many, check, folded}
 use Rattle.record.specs.Loop.{runs, finish}
 use Rattle.vertexset.specs.Set.{has, capacity}
-use Rattle.connectivity.specs.Path.{Link as Path}
+use Rattle.connectivity.specs.Path.{Path}
 use Rattle.certificates.specs.Tests.{allBelow}
 use Rattle.certificates.specs.Records.{branchFour}
-use Rattle.paths.specs.Items.{rowsGraph, limited, endRead}
+use Rattle.graph.specs.Rows.{rowsGraph}
+use Rattle.paths.specs.Items.{limited, endRead}
 use Rattle.paths.specs.declared.Item.the-variants.{Value, Fault}
 use Rattle.paths.proofs.Ends.{end-then}
 use Rattle.build.specs.declared.Build.{Build}

@@ -13,12 +13,11 @@ use Rattle.record.proofs.Laws.{test-got}
 use Rattle.record.proofs.Loops.{needs-bad}
 use Rattle.vertexset.specs.Set.{has, inserted, capacity}
 use Rattle.vertexset.specs.declared.VertexSet.{VertexSet}
-use Rattle.graph.specs.Rows.{adjacentIn}
-use Rattle.connectivity.specs.Path.{vertices}
-use Rattle.connectivity.specs.Path.{Link as Path}
+use Rattle.graph.specs.Rows.{adjacentIn, rowsGraph}
+use Rattle.connectivity.specs.Path.{vertices, Path}
 use Rattle.certificates.specs.Tests.{pathAlong, pathNew, startEnds}
 use Rattle.certificates.specs.Records.{path}
-use Rattle.paths.specs.Items.{limited, endRead, rowsGraph}
+use Rattle.paths.specs.Items.{limited, endRead}
 use Rattle.paths.specs.Paths.{listed, pathTold, pathRead}
 use Rattle.paths.specs.declared.PathRead.{PathRead}
 use Rattle.paths.specs.declared.Item.the-variants.{Value, Fault}

@@ -13,10 +13,11 @@ use Rattle.record.proofs.Loops.{turn-go, turn-stop, turn-done, needs-got}
 use Rattle.vertexset.specs.Set.{has, emptySet, inserted, capacity}
 use Rattle.vertexset.specs.declared.VertexSet.{VertexSet}
 use Rattle.connectivity.specs.Graph.{Graph}
-use Rattle.connectivity.specs.Path.{Link as Path}
+use Rattle.connectivity.specs.Path.{Path}
 use Rattle.certificates.specs.Tests.{allBelow, laterEnds}
 use Rattle.certificates.specs.Records.{vertex, branchFour}
-use Rattle.paths.specs.Items.{rowsGraph, limited}
+use Rattle.graph.specs.Rows.{rowsGraph}
+use Rattle.paths.specs.Items.{limited}
 use Rattle.paths.specs.declared.Item.the-variants.{Value, Fault}
 use Rattle.paths.proofs.Told.{end-told, end-fault}
 use Rattle.links.specs.declared.Link.{Link}

@@ -8,10 +8,10 @@ use lib.ListN.{getD, take}
 use Rattle.record.specs.Read.{Read, Read.Got, Read.Refused, Reader}
 use Rattle.record.specs.Loop.{Loop}
 use Rattle.vertexset.specs.Set.{has, emptySet, wordwise}
-use Rattle.graph.specs.Rows.{joinedRows}
-use Rattle.connectivity.specs.Path.{Link as Path}
+use Rattle.graph.specs.Rows.{joinedRows, rowsGraph}
+use Rattle.connectivity.specs.Path.{Path}
 use Rattle.certificates.specs.Tests.{allBelow}
-use Rattle.paths.specs.Items.{rowsGraph, endRead, limited}
+use Rattle.paths.specs.Items.{endRead, limited}
 use Rattle.paths.specs.declared.PathRead.{PathRead}
 use Rattle.paths.specs.declared.Item.{Item}
 use Rattle.paths.specs.declared.Item.the-variants.{Value, Fault}

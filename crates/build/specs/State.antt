@@ -10,8 +10,7 @@ use Rattle.vertexset.specs.Set.{has, emptySet, inserted, wordwise}
 use Rattle.vertexset.specs.declared.VertexSet.{VertexSet}
 use Rattle.graph.specs.Rows.{joinedRows, bareRows}
 use Rattle.connectivity.specs.Graph.{Graph}
-use Rattle.connectivity.specs.Path.{vertices}
-use Rattle.connectivity.specs.Path.{Link as Path}
+use Rattle.connectivity.specs.Path.{vertices, Path}
 use Rattle.connectivity.specs.Build.{sixPairs}
 use Rattle.certificates.specs.Tests.{allBelow, pathAlong, pathNew, startEnds, laterEnds}
 use Rattle.certificates.specs.Records.{path, branchFour}

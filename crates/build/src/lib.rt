@@ -8,10 +8,11 @@ ghost use Rattle.record.specs.Loop.{runs};
 ghost use Rattle.vertexset.specs.Set.{capacity};
 ghost use Rattle.connectivity.specs.Build.{furtherCount};
 ghost use Rattle.certificates.specs.Records.{vertex, branchFour};
-ghost use Rattle.paths.specs.Items.{itemRead, endRead, rowsGraph, limited};
+ghost use Rattle.paths.specs.Items.{itemRead, endRead, limited};
+ghost use Rattle.graph.specs.Rows.{rowsGraph};
 ghost use Rattle.build.specs.State.{entered, pathTaken, buildPath, bareBuild, fourSet, startOn, startOf, buildStart, buildBody};
 ghost use Rattle.build.specs.Code.{pathFault, buildIn, enteredFrom, Leaves, towards, noFour, fourRead, fourOf, firsts, lasts, pairAt, noStart, startRead, startLoop, furtherLoop};
-use graph::Graph;
+use graph::GraphTable;
 use links::Ends;
 use links::Link;
 use paths::Item;
@@ -28,7 +29,7 @@ pub struct Sets {
 pub struct Build {
     pub sets: Sets,
     pub pointers: [u16; Link::POINTERS],
-    pub linked: [u64; Graph::ROW_WORDS],
+    pub linked: [u64; GraphTable::ROW_WORDS],
 }
 
 // The sets of a build after a path was read, and where reading goes on or its fault.
@@ -75,7 +76,7 @@ fn enter<'a>(
     x: PathRead,
     sets: Sets,
     pointers: &'a mut [u16; Link::POINTERS],
-    linked: &'a mut [u64; Graph::ROW_WORDS],
+    linked: &'a mut [u64; GraphTable::ROW_WORDS],
 ) -> Taken
     requires { ⌜ x .len ≤ length (x .list) ⌝ }
     ensures { λ r. ⌜ (r .end ≡ x .end) × (buildIn (r .sets) (now (pointers .exit)) (now (linked .exit))
@@ -98,13 +99,13 @@ fn enter<'a>(
 // A path of the start between two ends, read, tested and taken in; nothing changes where it is refused.
 fn take_start_path<'a>(
     s: &'a [u8],
-    rows: &'a [u64; Graph::ROW_WORDS],
+    rows: &'a [u64; GraphTable::ROW_WORDS],
     n: u16,
     at: usize,
     ends: Link,
     sets: Sets,
     pointers: &'a mut [u16; Link::POINTERS],
-    linked: &'a mut [u64; Graph::ROW_WORDS],
+    linked: &'a mut [u64; GraphTable::ROW_WORDS],
 ) -> Taken
     ensures { λ r. ⌜ Leaves n (λ b. startOn (rowsGraph n (now (rows .entry))) (towards ends b)) entered (buildIn sets (now (pointers .entry)) (now (linked .entry))) (now (s .entry)) at
         r (now (pointers .exit)) (now (linked .exit)) ⌝ }
@@ -133,12 +134,12 @@ fn take_start_path<'a>(
 // A further path, read, tested and taken in; nothing changes where it is refused.
 pub fn take_path<'a>(
     s: &'a [u8],
-    rows: &'a [u64; Graph::ROW_WORDS],
+    rows: &'a [u64; GraphTable::ROW_WORDS],
     n: u16,
     at: usize,
     sets: Sets,
     pointers: &'a mut [u16; Link::POINTERS],
-    linked: &'a mut [u64; Graph::ROW_WORDS],
+    linked: &'a mut [u64; GraphTable::ROW_WORDS],
 ) -> Taken
     ensures { λ r. ⌜ Leaves n (buildPath (rowsGraph n (now (rows .entry)))) pathTaken (buildIn sets (now (pointers .entry)) (now (linked .entry))) (now (s .entry)) at
         r (now (pointers .exit)) (now (linked .exit)) ⌝ }
@@ -261,7 +262,7 @@ impl Build {
         Build {
             sets,
             pointers: [0u16; Link::POINTERS],
-            linked: [0u64; Graph::ROW_WORDS],
+            linked: [0u64; GraphTable::ROW_WORDS],
         }
     }
 }
@@ -276,7 +277,7 @@ fn no_start(x: Item) -> Started
 // The six paths between the four.
 fn read_six<'a>(
     s: &'a [u8],
-    rows: &'a [u64; Graph::ROW_WORDS],
+    rows: &'a [u64; GraphTable::ROW_WORDS],
     n: u16,
     four: Four,
     from: usize,
@@ -313,7 +314,12 @@ fn read_six<'a>(
 }
 
 // Four ascending branch vertices and the six paths between them.
-pub fn read_start<'a>(s: &'a [u8], rows: &'a [u64; Graph::ROW_WORDS], n: u16, at: usize) -> Started
+pub fn read_start<'a>(
+    s: &'a [u8],
+    rows: &'a [u64; GraphTable::ROW_WORDS],
+    n: u16,
+    at: usize,
+) -> Started
     ensures { λ r. ⌜ r ≡ startRead (limited n (buildStart (rowsGraph n (now (rows .entry)))) (now (s .entry)) at) ⌝ }
 {
     if VertexSet::CAPACITY < n {
@@ -330,7 +336,7 @@ pub fn read_start<'a>(s: &'a [u8], rows: &'a [u64; Graph::ROW_WORDS], n: u16, at
 // The further paths, and 28 where a vertex is then no branch vertex.
 fn read_further<'a>(
     s: &'a [u8],
-    rows: &'a [u64; Graph::ROW_WORDS],
+    rows: &'a [u64; GraphTable::ROW_WORDS],
     n: u16,
     count: u16,
     from: usize,
@@ -363,7 +369,7 @@ fn read_further<'a>(
 // A certificate of kind 3 after its kind: the place after it, or its fault.
 pub fn read_build<'a>(
     s: &'a [u8],
-    rows: &'a [u64; Graph::ROW_WORDS],
+    rows: &'a [u64; GraphTable::ROW_WORDS],
     n: u16,
     count: u16,
     at: usize,

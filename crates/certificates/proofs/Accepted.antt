@@ -15,7 +15,7 @@ use Rattle.record.proofs.Groups.{number-law}
 use Rattle.record.proofs.Parts.{one-value}
 use Rattle.connectivity.specs.Lists.{In}
 use Rattle.connectivity.specs.Graph.{Graph, Simple, edgeCount}
-use Rattle.connectivity.specs.Path.{Link, vertices}
+use Rattle.connectivity.specs.Path.{Path, vertices}
 use Rattle.connectivity.specs.Build.{taken, final, furtherCount}
 use Rattle.connectivity.specs.Certificate.{Certificate, Certificate.separation, Certificate.tree, Certificate.ears, Certificate.build, kind, Rules, Separation, TreeRules, EarRules, BuildRules}
 use Rattle.connectivity.proofs.Lists.{bool?}
@@ -35,11 +35,11 @@ kind-low (build p q r s ps qs) = omega arith
 
 module _ (g : Graph) (simple : Simple g) (few : g .n < numberLimit) where
   -- kind 2: the ears as one list
-  ears-list : (all : List Link) → 1 ≤ length all → firstEar all ∷ laterEars all ≡ all
+  ears-list : (all : List Path) → 1 ≤ length all → firstEar all ∷ laterEars all ≡ all
   ears-list [] h = absurd (omega arith)
   ears-list (P ∷ es) h = refl
 
-  ear-rules : (c d : ℕ) (all : List Link) (S : List ℕ) → c < d → d < g .n → (1 ≤ length all) × (length all ≤ g .n - 2) → Each (EarOk g) earTaken [] all
+  ear-rules : (c d : ℕ) (all : List Path) (S : List ℕ) → c < d → d < g .n → (1 ≤ length all) × (length all ≤ g .n - 2) → Each (EarOk g) earTaken [] all
       → ((z : ℕ) → z < g .n → In z (folded earTaken [] all)) → Separation g (c ∷ (d ∷ [])) S → EarRules g c d (firstEar all) (laterEars all) S
   unfolding Each folded
   ear-rules c d [] S h i k e f s = absurd (omega arith)
@@ -53,7 +53,7 @@ module _ (g : Graph) (simple : Simple g) (few : g .n < numberLimit) where
     separation = s;
   }
 
-  rules-ears : (c d : ℕ) (all : List Link) (S : List ℕ) → 1 ≤ length all → EarRules g c d (firstEar all) (laterEars all) S
+  rules-ears : (c d : ℕ) (all : List Path) (S : List ℕ) → 1 ≤ length all → EarRules g c d (firstEar all) (laterEars all) S
       → (length all ≤ g .n - 2) × Each (EarOk g) earTaken [] all × ((z : ℕ) → z < g .n → In z (folded earTaken [] all))
   unfolding Each folded
   rules-ears c d [] S h r = absurd (omega arith)
@@ -92,10 +92,10 @@ module _ (g : Graph) (simple : Simple g) (few : g .n < numberLimit) where
       let e = rules-ears (a .0) (a .1 .0) (a .1 .1 .0) (a .1 .1 .1 .1) (o .0) r in
       (omega (arith, r .order, r .low), ((r .low, r .order), (((o .0, e .0), e .1), (e .2, r .separation))))))
       (λ x. ears (x .0) (x .1 .0) (firstEar (x .1 .1 .0)) (laterEars (x .1 .1 .0)) (x .1 .1 .1 .1))
-      (λ a o. ap (λ (all : List Link). numberBytes (a .0) ++ (numberBytes (a .1 .0) ++ ((numberBytes (length all) ++ listBytes pathBytes all) ++ sideBytes (a .1 .1 .1 .1)))) (ears-list (a .1 .1 .0) (o .0)))
+      (λ a o. ap (λ (all : List Path). numberBytes (a .0) ++ (numberBytes (a .1 .0) ++ ((numberBytes (length all) ++ listBytes pathBytes all) ++ sideBytes (a .1 .1 .1 .1)))) (ears-list (a .1 .1 .0) (o .0)))
       (λ a o. (refl, o .1)) off
     where
-      off : (x : Certificate) → (kind x ≡ 2) × Rules g x → (a : ℕ × (ℕ × (List Link × (Unit {0} × List ℕ)))) × (ears (a .0) (a .1 .0) (firstEar (a .1 .1 .0)) (laterEars (a .1 .1 .0)) (a .1 .1 .1 .1) ≡ x)
+      off : (x : Certificate) → (kind x ≡ 2) × Rules g x → (a : ℕ × (ℕ × (List Path × (Unit {0} × List ℕ)))) × (ears (a .0) (a .1 .0) (firstEar (a .1 .1 .0)) (laterEars (a .1 .1 .0)) (a .1 .1 .1 .1) ≡ x)
           × ((1 ≤ length (a .1 .1 .0)) × EarRules g (a .0) (a .1 .0) (firstEar (a .1 .1 .0)) (laterEars (a .1 .1 .0)) (a .1 .1 .1 .1))
       off (separation S) o = absurd (omega arith)
       off (tree c f ps S) o = absurd (omega arith)
@@ -110,7 +110,7 @@ module _ (g : Graph) (simple : Simple g) (few : g .n < numberLimit) where
       (λ x. build (x .0 .0 .0) (x .0 .0 .1 .0) (x .0 .0 .1 .1 .0) (x .0 .0 .1 .1 .1) (x .0 .1) (x .1 .0))
       (λ a o. rw (append-nil (listBytes pathBytes (a .1 .0)))) (λ a o. (refl, o)) off
     where
-      off : (x : Certificate) → (kind x ≡ 3) × Rules g x → (a : ((ℕ × (ℕ × (ℕ × ℕ))) × List Link) × (List Link × Unit {0}))
+      off : (x : Certificate) → (kind x ≡ 3) × Rules g x → (a : ((ℕ × (ℕ × (ℕ × ℕ))) × List Path) × (List Path × Unit {0}))
           × (build (a .0 .0 .0) (a .0 .0 .1 .0) (a .0 .0 .1 .1 .0) (a .0 .0 .1 .1 .1) (a .0 .1) (a .1 .0) ≡ x)
           × BuildRules g (a .0 .0 .0) (a .0 .0 .1 .0) (a .0 .0 .1 .1 .0) (a .0 .0 .1 .1 .1) (a .0 .1) (a .1 .0)
       off (separation S) o = absurd (omega arith)

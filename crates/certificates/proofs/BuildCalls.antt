@@ -11,7 +11,7 @@ use Rattle.record.proofs.Laws.{spans-join, spans-part, ended-got, got-ended}
 use Rattle.record.proofs.Groups.{number-law}
 use Rattle.record.proofs.Parts.{part-there, part-back, Calls, spans-length, calls-there, calls-back}
 use Rattle.connectivity.specs.Graph.{Graph, Simple, edgeCount}
-use Rattle.connectivity.specs.Path.{Link}
+use Rattle.connectivity.specs.Path.{Path}
 use Rattle.connectivity.specs.Build.{taken, final, furtherCount}
 use Rattle.connectivity.specs.Certificate.{Certificate.build}
 use Rattle.certificates.specs.Tests.{allBelow, isBranch}
@@ -23,7 +23,7 @@ use Rattle.certificates.proofs.Items.{decide-branch, each-steps, steps-
 use Rattle.certificates.proofs.Accepted.{certificate-law}
 
 -- enough edges, the kind, a start that is accepted, as many further paths as are due, each accepted, every vertex a branch vertex
-pub record BuildCalls (g : Graph) (s : List ℕ) (p q r t : ℕ) (six further : List Link) (next : ℕ) : Type 0 where
+pub record BuildCalls (g : Graph) (s : List ℕ) (p q r t : ℕ) (six further : List Path) (next : ℕ) : Type 0 where
   pub enough : g .n + 2 ≤ edgeCount g
   pub three : number s 0 ≡ Got 3 1
   pub first : ℕ
@@ -34,7 +34,7 @@ pub record BuildCalls (g : Graph) (s : List ℕ) (p q r t : ℕ) (six further : 
   pub closed : allBelow (g .n) (isBranch (final six further)) ≡ true
   pub end : next ≡ 1 + first + more
 
-module _ (g : Graph) (simple : Simple g) (few : g .n < numberLimit) (s : List ℕ) (bytes : Bytes s) (p q r t : ℕ) (six further : List Link) (next : ℕ) where
+module _ (g : Graph) (simple : Simple g) (few : g .n < numberLimit) (s : List ℕ) (bytes : Bytes s) (p q r t : ℕ) (six further : List Path) (next : ℕ) where
   pub certificate-calls : certificate g s 0 ≡ Got (build p q r t six further) next → BuildCalls g s p q r t six further next
   unfolding groupsOf
   certificate-calls e =

@@ -3,14 +3,14 @@ use Prim.Native.Nat.{ℕ, zero, suc, _+_, _-_}
 use mathlib.Core.List.{List, [], _∷_}
 use mathlib.Core.Bool.{Bool, not, _||_}
 use lib.Dec.{ltb, leb}
-use Rattle.record.specs.Read.{Read.Refused, Reader, _needs⟨_⟩_, _▸_, _▹_, into, many, counted, check, folded}
+use Rattle.record.specs.Read.{Read.Refused, Reader, _needs⟨_⟩_, _▸_, _▹_, into, many, counted, check, folded, within}
 use Rattle.record.specs.Number.{number}
 use Rattle.connectivity.specs.Lists.{member}
 use Rattle.connectivity.specs.Graph.{Graph, edgeCount}
-use Rattle.connectivity.specs.Path.{Link, link}
+use Rattle.connectivity.specs.Path.{Path, link}
 use Rattle.connectivity.specs.Build.{four, sixPairs, taken, final, furtherCount}
 use Rattle.connectivity.specs.Certificate.{Certificate, Certificate.separation, Certificate.tree, Certificate.ears, Certificate.build}
-use Rattle.certificates.specs.Tests.{within, nobody, with, allBelow, bothHold, noEdgeBetween, pathAlong, pathNew, earAlong, earEnds, earNew, earTaken, Start, startEnds, startTaken, isBranch, inBuild, endsIn, endsApart}
+use Rattle.certificates.specs.Tests.{nobody, with, allBelow, bothHold, noEdgeBetween, pathAlong, pathNew, earAlong, earEnds, earNew, earTaken, Start, startEnds, startTaken, isBranch, inBuild, endsIn, endsApart}
 
 -- 9: a vertex below n
 unfoldable pub vertex : ℕ → Reader ℕ
@@ -35,33 +35,33 @@ pair n adj named =
 unfoldable pub vertexList : ℕ → ℕ → Reader (List ℕ)
 vertexList n least = counted (number needs⟨ 9 ⟩ within least n) (λ (u : Unit {0}). vertex n) (λ u v. u) tt
 
-abbrev pub tailLink : ℕ → ℕ → List ℕ → Link
+abbrev pub tailLink : ℕ → ℕ → List ℕ → Path
 tailLink s v [] = link s [] v
 tailLink s v (w ∷ l) = link s (v ∷ tailLink v w l .inner) (tailLink v w l .t)
 
-abbrev pub linkOf : List ℕ → Link
+abbrev pub linkOf : List ℕ → Path
 linkOf [] = link 0 [] 0
 linkOf (s ∷ []) = link s [] s
 linkOf (s ∷ v ∷ l) = tailLink s v l
 
-unfoldable pub path : ℕ → ℕ → Reader Link
+unfoldable pub path : ℕ → ℕ → Reader Path
 path n least = into linkOf (vertexList n least)
 
-unfoldable pub ear : Graph → List ℕ → Reader Link
+unfoldable pub ear : Graph → List ℕ → Reader Path
 ear g B = path (g .n) 3 needs⟨ 24 ⟩ earAlong g B needs⟨ 25 ⟩ earEnds B needs⟨ 26 ⟩ earNew B
 
-unfoldable pub startPath : Graph → Start → Reader Link
+unfoldable pub startPath : Graph → Start → Reader Path
 startPath g st = path (g .n) 2 needs⟨ 24 ⟩ pathAlong g needs⟨ 25 ⟩ startEnds (st .ends) needs⟨ 26 ⟩ pathNew (λ v. member v (st .built))
 
-unfoldable pub furtherPath : Graph → List Link → Reader Link
+unfoldable pub furtherPath : Graph → List Path → Reader Path
 furtherPath g links = path (g .n) 2 needs⟨ 24 ⟩ pathAlong g needs⟨ 25 ⟩ endsIn links needs⟨ 26 ⟩ pathNew (inBuild links) needs⟨ 27 ⟩ endsApart links
 
 -- the ears of a certificate: the first, and the later ones
-abbrev pub firstEar : List Link → Link
+abbrev pub firstEar : List Path → Path
 firstEar [] = linkOf []
 firstEar (P ∷ ps) = P
 
-abbrev pub laterEars : List Link → List Link
+abbrev pub laterEars : List Path → List Path
 laterEars [] = []
 laterEars (P ∷ ps) = ps
 
@@ -72,10 +72,10 @@ branchFour n = vertex n ▸ λ p. vertex n needs⟨ 20 ⟩ leb (suc p) ▸ λ q.
 abbrev pub starting : ℕ × (ℕ × (ℕ × ℕ)) → Start
 starting b = record { ends = sixPairs (b .0) (b .1 .0) (b .1 .1 .0) (b .1 .1 .1); built = four (b .0) (b .1 .0) (b .1 .1 .0) (b .1 .1 .1) }
 
-abbrev pub startPaths : Graph → ℕ × (ℕ × (ℕ × ℕ)) → Reader (List Link)
+abbrev pub startPaths : Graph → ℕ × (ℕ × (ℕ × ℕ)) → Reader (List Path)
 startPaths g b = many (startPath g) startTaken 6 (starting b)
 
-unfoldable pub start : Graph → Reader ((ℕ × (ℕ × (ℕ × ℕ))) × List Link)
+unfoldable pub start : Graph → Reader ((ℕ × (ℕ × (ℕ × ℕ))) × List Path)
 start g = branchFour (g .n) ▸ startPaths g
 
 -- a certificate after its kind

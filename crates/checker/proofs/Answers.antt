@@ -16,16 +16,16 @@ use Rattle.record.proofs.Laws.{Spans, Spans.none, Spans.more, on-got, carry, en
 use Rattle.connectivity.specs.Graph.{Graph, edgeCount}
 use Rattle.connectivity.specs.Build.{furtherCount}
 use Rattle.connectivity.specs.Certificate.{Certificate, kind}
-use Rattle.graph.specs.Plan.{Plan, Allowed, plan}
-use Rattle.graph.specs.Rows.{graphOf}
-use Rattle.graph.specs.Code.{planRead, wholePlan, leadingPlan}
-use Rattle.graph.specs.declared.PlanRead.{PlanRead}
-use Rattle.graph.specs.declared.Graph.{Graph as Built}
-use Rattle.graph.proofs.Plans.{plan-law}
+use Rattle.reading.specs.Plan.{Plan, Allowed, plan}
+use Rattle.reading.specs.Code.{graphOf, planRead, wholePlan, leadingPlan}
+use Rattle.reading.specs.declared.PlanRead.{PlanRead}
+use Rattle.graph.specs.declared.GraphTable.{GraphTable}
+use Rattle.reading.proofs.Plans.{plan-law}
 use Rattle.connectivity.proofs.Edges.{fromEdges-count}
-use Rattle.graph.proofs.Adjacency.{network-listed, edge-list}
+use Rattle.reading.proofs.Adjacency.{graph-listed, edge-list}
 use Rattle.certificates.specs.Records.{body, certificate}
-use Rattle.paths.specs.Items.{endRead, limited, rowsGraph}
+use Rattle.paths.specs.Items.{endRead, limited}
+use Rattle.graph.specs.Rows.{rowsGraph}
 use Rattle.build.specs.State.{buildBody}
 use Rattle.refinement.proofs.Kind3.{kind-3}
 use Rattle.checker.specs.Check.{planGraph, onCertificate, certificateAnswer, onPlan, checkOf, onLeading, gradeOf}
@@ -107,7 +107,7 @@ module _ (p : Plan) (a : Allowed p) where
   unfolding certificateAnswer graphOf
   plan-answer s =
       let count : edgeCount (planGraph p) ≡ length (p .edges) = fromEdges-count (p .n) (p .edges) (edge-list p a) in
-      ap (λ (g : Graph). rowsAnswer g (length (p .edges)) s) (network-listed p a) ∙ ap (λ (m : ℕ). rowsAnswer (planGraph p) m s) (sym count) ∙ rows-answer (planGraph p) (fits-table p a) s
+      ap (λ (g : Graph). rowsAnswer g (length (p .edges)) s) (graph-listed p a) ∙ ap (λ (m : ℕ). rowsAnswer (planGraph p) m s) (sym count) ∙ rows-answer (planGraph p) (fits-table p a) s
 
 -- the code's steps: the body by its kind
 module _ (g : Graph) (m : ℕ) (s : List ℕ) (at : ℕ) where
@@ -160,7 +160,7 @@ module _ (s c : List ℕ) (r : PlanRead) (e : r ≡ wholePlan s) where
       go (Got p next) k d =
           let a = ended-there plan-law {v = p} bytes k .1 in
           let g : r .graph ≡ graphOf p = ap (λ (q : PlanRead). q .graph) d in
-          (rw g (fits-table p a), ap (λ (h : Built). rowsAnswer (rowsGraph (h .n) (h .rows)) (h .m) c) g ∙ plan-answer p a c)
+          (rw g (fits-table p a), ap (λ (h : GraphTable). rowsAnswer (rowsGraph (h .n) (h .rows)) (h .m) c) g ∙ plan-answer p a c)
       go (Refused q p) k d = let z : r .answer ≡ PlanFault q p = ap (λ (q : PlanRead). q .answer) d in let y : _≡_ {A = ℕ} 0 1 = cc in absurd (omega arith)
 
   pub check-refused : (r .answer ≡ Accepted → ⊥) → r .answer ≡ checkOf s c

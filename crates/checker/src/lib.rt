@@ -4,10 +4,10 @@ ghost use Prim.Native.Nat.{_≤_, _<_, _+_};
 ghost use mathlib.Core.Bool.{_||_};
 ghost use lib.Dec.{ltb, leb};
 ghost use Rattle.vertexset.specs.Set.{capacity};
-ghost use Rattle.paths.specs.Items.{rowsGraph};
+ghost use Rattle.graph.specs.Rows.{rowsGraph};
 ghost use Rattle.checker.specs.Check.{checkOf, gradeOf};
 ghost use Rattle.checker.specs.Code.{bodyEnd, onEnd, rowsAnswer};
-use graph::Graph;
+use graph::GraphTable;
 use paths::Item;
 use record::Answer;
 use record::Number;
@@ -33,7 +33,7 @@ fn enough(n: u16, m: u16, k: u16) -> bool
 // The body of a certificate of kind k, after the kind.
 fn read_body<'a>(
     s: &'a [u8],
-    rows: &'a [u64; Graph::ROW_WORDS],
+    rows: &'a [u64; GraphTable::ROW_WORDS],
     n: u16,
     m: u16,
     k: u16,
@@ -71,7 +71,12 @@ fn ended(len: usize, k: u16, end: Item) -> Answer
 }
 
 // A whole certificate beside a graph of n vertices and m edges.
-fn check_certificate<'a>(s: &'a [u8], rows: &'a [u64; Graph::ROW_WORDS], n: u16, m: u16) -> Answer
+fn check_certificate<'a>(
+    s: &'a [u8],
+    rows: &'a [u64; GraphTable::ROW_WORDS],
+    n: u16,
+    m: u16,
+) -> Answer
     requires { ⌜ n ≤ capacity ⌝ }
     ensures { λ r. ⌜ r ≡ rowsAnswer (rowsGraph n (now (rows .entry))) m (now (s .entry)) ⌝ }
 {
@@ -91,7 +96,7 @@ fn check_certificate<'a>(s: &'a [u8], rows: &'a [u64; Graph::ROW_WORDS], n: u16,
 pub fn check(plan: &[u8], certificate: &[u8]) -> Answer
     ensures { λ r. ⌜ r ≡ checkOf (now (plan .entry)) (now (certificate .entry)) ⌝ }
 {
-    let read = graph::read_plan(plan);
+    let read = reading::read_plan(plan);
     let answer = read.answer;
     let found = read.graph;
     match answer {
@@ -106,7 +111,7 @@ pub fn check(plan: &[u8], certificate: &[u8]) -> Answer
 pub fn grade(input: &[u8]) -> Graded
     ensures { λ r. ⌜ r ≡ gradeOf (now (input .entry)) ⌝ }
 {
-    let read = graph::read_leading_plan(input);
+    let read = reading::read_leading_plan(input);
     let answer = read.answer;
     let found = read.graph;
     let next = read.next;

@@ -13,12 +13,12 @@ use Rattle.record.specs.Number.{number}
 use Rattle.record.specs.declared.Answer.the-variants.{Accepted, Grade, CertificateFault}
 use Rattle.record.proofs.Laws.{ended-back, carry}
 use Rattle.record.proofs.Parts.{Calls, Calls.no-call, Calls.call}
-use Rattle.connectivity.specs.Path.{Link as Path}
+use Rattle.connectivity.specs.Path.{Path}
 use Rattle.connectivity.specs.Build.{taken, final}
 use Rattle.connectivity.specs.Certificate.{Certificate, Certificate.separation, Certificate.tree, Certificate.ears, Certificate.build, kind}
-use Rattle.graph.specs.Plan.{Plan, Allowed, planBytes}
-use Rattle.graph.specs.Rows.{graphOf}
-use Rattle.graph.proofs.Plans.{plan-law}
+use Rattle.reading.specs.Plan.{Plan, Allowed, planBytes}
+use Rattle.reading.specs.Code.{graphOf}
+use Rattle.reading.proofs.Plans.{plan-law}
 use Rattle.certificates.specs.Tests.{allBelow, isBranch}
 use Rattle.certificates.specs.Records.{start, furtherPath, certificate}
 use Rattle.certificates.proofs.BuildCalls.{accepted-calls, calls-accepted}

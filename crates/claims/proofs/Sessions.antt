@@ -13,23 +13,24 @@ use Rattle.record.specs.declared.Answer.the-variants.{Accepted, Grade, PlanFaul
 use Rattle.record.proofs.Laws.{ended-there}
 use Rattle.connectivity.specs.Graph.{Graph, Adj, edgeCount}
 use Rattle.connectivity.specs.Connectivity.{connectivity}
-use Rattle.connectivity.specs.Path.{Link as Path}
+use Rattle.connectivity.specs.Path.{Path}
 use Rattle.connectivity.specs.Build.{StartRules, Steps, taken, final}
 use Rattle.connectivity.specs.Certificate.{Certificate.build}
 use Rattle.connectivity.proofs.Edges.{fromEdges-count}
 use Rattle.connectivity.proofs.Steps.{final-append, steps-append}
-use Rattle.connectivity.proofs.Soundness.{kind-connectivity}
-use Rattle.graph.specs.Plan.{Plan, Allowed, plan}
-use Rattle.graph.specs.Rows.{graphOf}
-use Rattle.graph.specs.declared.Graph.{Graph as RowGraph}
-use Rattle.graph.proofs.Plans.{plan-law}
-use Rattle.graph.proofs.Adjacency.{edge-list, network-listed}
+use Rattle.connectivity.proofs.Soundness.{grade-connectivity}
+use Rattle.reading.specs.Plan.{Plan, Allowed, plan}
+use Rattle.reading.specs.Code.{graphOf}
+use Rattle.graph.specs.declared.GraphTable.{GraphTable}
+use Rattle.reading.proofs.Plans.{plan-law}
+use Rattle.reading.proofs.Adjacency.{edge-list, graph-listed}
 use Rattle.certificates.specs.Tests.{allBelow, isBranch}
 use Rattle.certificates.specs.Records.{start as readStart, furtherPath}
 use Rattle.certificates.proofs.Decide.{decide-all}
 use Rattle.certificates.proofs.Paths.{further-path-law}
 use Rattle.certificates.proofs.Items.{decide-branch, start-law}
-use Rattle.paths.specs.Items.{rowsGraph, limited}
+use Rattle.graph.specs.Rows.{rowsGraph}
+use Rattle.paths.specs.Items.{limited}
 use Rattle.sessions.specs.declared.Session.{Session}
 use Rattle.sessions.specs.declared.Opened.{Opened}
 use Rattle.sessions.specs.declared.Stepped.{Stepped}
@@ -136,7 +137,7 @@ module _ (p : Plan) (al : Allowed p) where
   -- the session's rows stand for the plan's graph, which is within the limit
   rows-read : {A : Type 0} (R : Graph → Reader A) (part : List ℕ) → limited (graphOf p .n) (R (rowsGraph (graphOf p .n) (graphOf p .rows))) part 0 ≡ R (planGraph p) part 0
   unfolding graphOf
-  rows-read R part = rw (le-leb (p .n) capacity (omega (arith, al .most))) (ap (λ (g : Graph). R g part 0) (network-listed p al))
+  rows-read R part = rw (le-leb (p .n) capacity (omega (arith, al .most))) (ap (λ (g : Graph). R g part 0) (graph-listed p al))
 
   -- A START: it is read as a certificate's start is, and the build then shows its paths
   pub start-step : (part : List ℕ) → startStep (openedOn (graphOf p)) part ≡ onStart (openedOn (graphOf p)) (readStart (planGraph p) part 0)
@@ -163,10 +164,10 @@ module _ (p : Plan) (al : Allowed p) where
     unfolding pathStep graphOf
     path-step part =
         ap (λ (b : Bool). cond (b && ltb (s .taken) (pathCount s)) (onPath s (readIn (s .graph))) (refusedStep s 31 0)) (h .started)
-        ∙ ap (λ (g : RowGraph). cond (ltb (s .taken) (g .m - g .n - 2)) (onPath s (readIn g)) (refusedStep s 31 0)) (h .graph)
+        ∙ ap (λ (g : GraphTable). cond (ltb (s .taken) (g .m - g .n - 2)) (onPath s (readIn g)) (refusedStep s 31 0)) (h .graph)
         ∙ ap (λ (x : Read Path). cond (ltb (s .taken) (due p)) (onPath s x) (refusedStep s 31 0)) (rows-read (λ g. buildPath g (s .build)) part ∙ shows-path (planGraph p) (h .shows) part 0)
       where
-        readIn : RowGraph → Read Path
+        readIn : GraphTable → Read Path
         readIn g = limited (g .n) (buildPath (rowsGraph (g .n) (g .rows)) (s .build)) part 0
 
     pub path-building : (part : List ℕ) (P : Path) (next : ℕ) → furtherPath (planGraph p) links part 0 ≡ Got P next → Building p (onPath s (Got P next) .session) (taken links P)
@@ -244,7 +245,7 @@ module _ (p : Plan) (al : Allowed p) where
   given-close enough s (begun b) k f =
       let r = closed (b .building) f in
       let m = plan-count p al in
-      sym (r .2) ∙ kind-connectivity (planGraph p) (plan-simple p al) (build (b .a) (b .b) (b .c) (b .d) (b .six) (b .further))
+      sym (r .2) ∙ grade-connectivity (planGraph p) (plan-simple p al) (build (b .a) (b .b) (b .c) (b .d) (b .six) (b .further))
       (record {
         first = b .rules;
         enough = omega (arith, m);

@@ -6,7 +6,7 @@ use lib.ListN.{length, drop}
 use Rattle.record.specs.Read.{Read.Got, Bytes}
 use Rattle.record.specs.Number.{number}
 use Rattle.record.specs.declared.Answer.the-variants.{Accepted, Grade}
-use Rattle.graph.specs.Plan.{Plan, planBytes}
+use Rattle.reading.specs.Plan.{Plan, planBytes}
 use Rattle.sessions.specs.declared.Session.{Session}
 use Rattle.sessions.specs.declared.Stepped.{Stepped}
 use Rattle.sessions.specs.Session.{opening, startStep, pathStep, closeStep, startRest, pathRest}

@@ -8,8 +8,8 @@ use lib.ListN.{length, drop}
 use Rattle.record.specs.Read.{Bytes}
 use Rattle.record.specs.declared.Answer.the-variants.{Accepted, Grade, PlanFault}
 use Rattle.connectivity.specs.Connectivity.{connectivity}
-use Rattle.graph.specs.Plan.{Plan}
-use Rattle.graph.specs.Code.{wholePlan}
+use Rattle.reading.specs.Plan.{Plan}
+use Rattle.reading.specs.Code.{wholePlan}
 use Rattle.sessions.specs.Session.{opening, closeStep}
 use Rattle.checker.specs.Check.{planGraph, checkOf}
 use Rattle.certifier.specs.Made.{roomAsked, made, madeFrom, filledFrom}

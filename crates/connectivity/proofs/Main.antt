@@ -8,7 +8,7 @@ use lib.ListN.{length}
 use Rattle.connectivity.specs.Lists.{NoDup, In}
 use Rattle.connectivity.specs.Graph.{Graph, HasConnectivity, Simple, Separator, Adj, edges, edgeCount}
 use Rattle.connectivity.specs.Connectivity.{connectivity}
-use Rattle.connectivity.specs.Path.{Link, vertices, usedEdges}
+use Rattle.connectivity.specs.Path.{Path, vertices, usedEdges}
 use Rattle.connectivity.specs.Build.{StartRules, Steps, IsBranch, final, furtherCount, SimpleBuild, EachEdgeOnce}
 use Rattle.connectivity.specs.Certificate.{Separation, Tree, Cycle, Ears, inside, BuildRules, Certificate, Rules, kind}
 use Rattle.connectivity.proofs.Lists.{either, below?}
@@ -16,7 +16,7 @@ use Rattle.connectivity.proofs.Separators.{connectivity-unique}
 use Rattle.connectivity.proofs.Closure.{has-connectivity, connectivity-is, connectivity-has}
 use Rattle.connectivity.proofs.Steps.{append-steps}
 use Rattle.connectivity.proofs.Start.{start-subdivision}
-use Rattle.connectivity.proofs.Soundness.{separation-separates, tree-none, ears-none, build-has-3, rules-connectivity, kind-connectivity}
+use Rattle.connectivity.proofs.Soundness.{separation-separates, tree-none, ears-none, build-has-3, rules-connectivity, grade-connectivity}
 use Rattle.connectivity.proofs.EdgeUse.{build-simple, build-count, used-final, build-once}
 use Rattle.connectivity.proofs.Completeness.{certificate-exists}
 
@@ -43,12 +43,12 @@ module _ (g : Graph) (p : Simple g) where
   pub tree-bounds : (first : ℕ) (ps : List (ℕ × ℕ)) → first < g .n → length ps ≡ g .n - 1 → Tree g (first ∷ []) ps → 1 ≤ connectivity g
   tree-bounds first ps low count t = omega (arith, not-that 0 (omega arith) (tree-none g p first ps low count t))
 
-  pub ears-bounds : (P : Link) (es : List Link) → Cycle g P → Ears g (vertices P) es → ((z : ℕ) → z < g .n → In z (inside (vertices P) es)) → 2 ≤ connectivity g
+  pub ears-bounds : (P : Path) (es : List Path) → Cycle g P → Ears g (vertices P) es → ((z : ℕ) → z < g .n → In z (inside (vertices P) es)) → 2 ≤ connectivity g
   ears-bounds P es cycle later all-in =
       let n = ears-none g p P es cycle later all-in in
       omega (arith, not-that 0 (omega arith) (n .0), not-that 1 (omega arith) (n .1))
 
-  module _ (a b c d : ℕ) (start further : List Link) (rules : StartRules g a b c d start) (steps : Steps (Adj g) start further) where
+  module _ (a b c d : ℕ) (start further : List Path) (rules : StartRules g a b c d start) (steps : Steps (Adj g) start further) where
     pub build-bounds : ((z : ℕ) → z < g .n → IsBranch z (final start further)) → connectivity g ≡ 3
     build-bounds all-branch = sym (has-connectivity g p 3 (build-has-3 g p start further (start-subdivision g a b c d start rules) steps all-branch))
 
@@ -56,7 +56,7 @@ module _ (g : Graph) (p : Simple g) where
     pub simple-throughout : SimpleBuild (final start further)
     simple-throughout = build-simple g p start further (start-subdivision g a b c d start rules) steps
 
-    pub simple-at-each : (ps qs : List Link) → further ≡ ps ++ qs → SimpleBuild (final start ps)
+    pub simple-at-each : (ps qs : List Path) → further ≡ ps ++ qs → SimpleBuild (final start ps)
     simple-at-each ps qs e = build-simple g p start ps (start-subdivision g a b c d start rules) (append-steps (Adj g) start ps qs (rw e at steps) .0)
 
     -- THE NUMBER OF FURTHER PATHS IS m - n - 2 (EdgeUse) where every vertex is a branch vertex and every edge is used.
@@ -64,12 +64,12 @@ module _ (g : Graph) (p : Simple g) where
     further-count all-branch used = omega (arith, build-count g p start further (start-subdivision g a b c d start rules) steps all-branch (λ e h. used-final start further e (used e h)))
 
   -- EVERY EDGE IS USED JUST ONCE by a build that keeps the rules (EdgeUse).
-  pub edges-once : (a b c d : ℕ) (start further : List Link) → BuildRules g a b c d start further → EachEdgeOnce g (start ++ further)
+  pub edges-once : (a b c d : ℕ) (start further : List Path) → BuildRules g a b c d start further → EachEdgeOnce g (start ++ further)
   edges-once a b c d start further r = build-once g p start further (start-subdivision g a b c d start (r .first)) (r .steps) (r .all-branch) (omega (arith, r .enough, r .count))
 
   -- A CERTIFICATE THAT KEEPS EVERY RULE TELLS THE CONNECTIVITY (Soundness) ..
   pub accepted-means-true : (x : Certificate) → Rules g x → HasConnectivity g (kind x) × (kind x ≡ connectivity g)
-  accepted-means-true x r = (rules-connectivity g p x r, kind-connectivity g p x r)
+  accepted-means-true x r = (rules-connectivity g p x r, grade-connectivity g p x r)
 
   -- .. AND EVERY GRAPH HAS ONE (Completeness).
   pub every-graph-has-one : (x : Certificate) × Rules g x × (kind x ≡ connectivity g)

@@ -5,7 +5,7 @@ use Prim.Native.Nat.{ℕ, _<_, _-_, _≤_, suc, _+_}
 use lib.ListN.{length}
 use Rattle.connectivity.specs.Lists.{In, Ascending}
 use Rattle.connectivity.specs.Graph.{Graph, Remaining, Adj, edgeCount}
-use Rattle.connectivity.specs.Path.{Link, IsPath, vertices}
+use Rattle.connectivity.specs.Path.{Path, IsPath, vertices}
 use Rattle.connectivity.specs.Build.{StartRules, Steps, IsBranch, final, furtherCount}
 
 -- A separation: a side (document 01's word too), ascending, and the rest, which is every vertex neither removed (lost) nor
@@ -33,29 +33,29 @@ pub record TreeRules (g : Graph) (c first : ℕ) (ps : List (ℕ × ℕ)) (S : L
   pub separation : Separation g (c ∷ []) S
 
 -- Kind 2: the first ear is a cycle.
-pub record Cycle (g : Graph) (P : Link) : Type 0 where
+pub record Cycle (g : Graph) (P : Path) : Type 0 where
   pub is-path : IsPath (Adj g) P
   pub closes : Adj g (P .t) (P .s)
   pub long : 3 ≤ length (vertices P)
 
 -- A later ear on the vertices of B; that its ends differ is part of `is-path`.
-pub record Ear (g : Graph) (B : List ℕ) (P : Link) : Type 0 where
+pub record Ear (g : Graph) (B : List ℕ) (P : Path) : Type 0 where
   pub is-path : IsPath (Adj g) P
   pub from : In (P .s) B
   pub upto : In (P .t) B
   pub new : (w : ℕ) → In w (P .inner) → ¬ In w B
   pub long : 3 ≤ length (vertices P)
 
-abbrev pub Ears : Graph → List ℕ → List Link → Type 0
+abbrev pub Ears : Graph → List ℕ → List Path → Type 0
 Ears g B [] = Unit {0}
 Ears g B (P ∷ es) = Ear g B P × Ears g (P .inner ++ B) es
 
 -- The vertices that are in after the ears.
-abbrev pub inside : List ℕ → List Link → List ℕ
+abbrev pub inside : List ℕ → List Path → List ℕ
 inside B [] = B
 inside B (P ∷ es) = inside (P .inner ++ B) es
 
-pub record EarRules (g : Graph) (c d : ℕ) (P : Link) (es : List Link) (S : List ℕ) : Type 0 where
+pub record EarRules (g : Graph) (c d : ℕ) (P : Path) (es : List Path) (S : List ℕ) : Type 0 where
   pub order : c < d
   pub low : d < g .n
   pub count : suc (length es) ≤ g .n - 2
@@ -65,7 +65,7 @@ pub record EarRules (g : Graph) (c d : ℕ) (P : Link) (es : List Link) (S : Lis
   pub separation : Separation g (c ∷ (d ∷ [])) S
 
 -- Kind 3: four branch vertices, six paths between them, and m - n - 2 further paths, each in the order of the record.
-pub record BuildRules (g : Graph) (p q r s : ℕ) (start further : List Link) : Type 0 where
+pub record BuildRules (g : Graph) (p q r s : ℕ) (start further : List Path) : Type 0 where
   pub first : StartRules g p q r s start
   pub enough : g .n + 2 ≤ edgeCount g
   pub count : length further ≡ furtherCount (edgeCount g) (g .n)
@@ -76,8 +76,8 @@ pub record BuildRules (g : Graph) (p q r s : ℕ) (start further : List Link) : 
 pub data Certificate : Type 0 where
   separation : (side : List ℕ) → Certificate
   tree : (c first : ℕ) (pairs : List (ℕ × ℕ)) (side : List ℕ) → Certificate
-  ears : (c d : ℕ) (first : Link) (later : List Link) (side : List ℕ) → Certificate
-  build : (p q r s : ℕ) (start further : List Link) → Certificate
+  ears : (c d : ℕ) (first : Path) (later : List Path) (side : List ℕ) → Certificate
+  build : (p q r s : ℕ) (start further : List Path) → Certificate
 
 abbrev pub kind : Certificate → ℕ
 kind (separation S) = 0

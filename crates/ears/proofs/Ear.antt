@@ -8,7 +8,7 @@ use Rattle.record.specs.Read.{Read, Read.Got, Read.Refused, _needs⟨_⟩_}
 use Rattle.record.proofs.Loops.{three-tests}
 use Rattle.vertexset.specs.Set.{has}
 use Rattle.connectivity.specs.Graph.{Graph}
-use Rattle.connectivity.specs.Path.{Link}
+use Rattle.connectivity.specs.Path.{Path}
 use Rattle.certificates.specs.Tests.{pathAlong, pathNew}
 use Rattle.certificates.specs.Records.{path}
 use Rattle.paths.specs.Paths.{pathTold}
@@ -24,7 +24,7 @@ module _ (g : Graph) (e : Ears) (s : List ℕ) (at : ℕ) where
   ear-unread f = rw f
 
   -- what was read, tested on what is known of the path
-  pub ear-tested : {P : Link} {next : ℕ} {p : PathRead} → path (g .n) 3 s at ≡ Got P next → p ≡ pathTold (g .adj) (has (e .set .words)) P next
+  pub ear-tested : {P : Path} {next : ℕ} {p : PathRead} → path (g .n) 3 s at ≡ Got P next → p ≡ pathTold (g .adj) (has (e .set .words)) P next
       → earTested (g .adj) e p at next ≡ earRead e (earBeside g (e .begun) (has (e .set .words)) s at)
   unfolding earBeside earRead
   ear-tested {P} {next} f t =
@@ -42,20 +42,20 @@ module _ (g : Graph) (e : Ears) (s : List ℕ) (at : ℕ) where
       spread false b w = refl
 
 -- what an ear that was handed back tells of what was read
-module _ (e : Ears) (r : Read Link) {x : EarRead} (k : x ≡ earRead e r) where
+module _ (e : Ears) (r : Read Path) {x : EarRead} (k : x ≡ earRead e r) where
   pub ear-fault : {q p : ℕ} → x .end ≡ Fault q p → r ≡ Refused q p
   unfolding earRead
   ear-fault {q} {p} d = go r k
     where
-      go : (r : Read Link) → x ≡ earRead e r → r ≡ Refused q p
+      go : (r : Read Path) → x ≡ earRead e r → r ≡ Refused q p
       go (Got P z) k = let f : x .end ≡ Value 0 z = ap (λ (y : EarRead). y .end) k in let y : _≡_ {A = ℕ} 0 1 = cc in absurd (omega arith)
       go (Refused a b) k = let f : x .end ≡ Fault a b = ap (λ (y : EarRead). y .end) k in cc
 
-  pub ear-told : {v next : ℕ} → x .end ≡ Value v next → (P : Link) × ((r ≡ Got P next) × (x .ears ≡ earsWith e P))
+  pub ear-told : {v next : ℕ} → x .end ≡ Value v next → (P : Path) × ((r ≡ Got P next) × (x .ears ≡ earsWith e P))
   unfolding earRead
   ear-told {v} {next} d = go r k
     where
-      go : (r : Read Link) → x ≡ earRead e r → (P : Link) × ((r ≡ Got P next) × (x .ears ≡ earsWith e P))
+      go : (r : Read Path) → x ≡ earRead e r → (P : Path) × ((r ≡ Got P next) × (x .ears ≡ earsWith e P))
       go (Got P z) k =
           let f : x .end ≡ Value 0 z = ap (λ (y : EarRead). y .end) k in
           let n : z ≡ next = cc in

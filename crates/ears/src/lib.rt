@@ -2,11 +2,11 @@
 ghost use mathlib.Core.Path.{_≡_};
 ghost use Prim.Native.Nat.{_≤_};
 ghost use Rattle.vertexset.specs.Set.{has, capacity};
-ghost use Rattle.graph.specs.Rows.{adjacentIn};
+ghost use Rattle.graph.specs.Rows.{adjacentIn, rowsGraph};
 ghost use Rattle.certificates.specs.Records.{body};
-ghost use Rattle.paths.specs.Items.{endRead, rowsGraph, limited};
+ghost use Rattle.paths.specs.Items.{endRead, limited};
 ghost use Rattle.ears.specs.Code.{noEars, earRead, earTested, earBeside, allEars};
-use graph::Graph;
+use graph::GraphTable;
 use paths::Item;
 use paths::PathRead;
 use vertexset::VertexSet;
@@ -34,7 +34,13 @@ impl Ears {
     }
 
     // An ear that was read, tested and taken in.
-    fn tested(self, rows: &[u64; Graph::ROW_WORDS], p: PathRead, at: usize, next: usize) -> EarRead
+    fn tested(
+        self,
+        rows: &[u64; GraphTable::ROW_WORDS],
+        p: PathRead,
+        at: usize,
+        next: usize,
+    ) -> EarRead
         ensures { λ r. ⌜ r ≡ earTested (adjacentIn (now (rows .entry))) self p at next ⌝ }
     {
         let set = self.set;
@@ -72,7 +78,7 @@ impl Ears {
 }
 
 // One ear beside those before it.
-fn read_ear(s: &[u8], rows: &[u64; Graph::ROW_WORDS], n: u16, ears: Ears, at: usize) -> EarRead
+fn read_ear(s: &[u8], rows: &[u64; GraphTable::ROW_WORDS], n: u16, ears: Ears, at: usize) -> EarRead
     requires { ⌜ n ≤ capacity ⌝ }
     ensures { λ r. ⌜ r ≡ earRead ears (earBeside (rowsGraph n (now (rows .entry))) (ears .begun) (has (ears .set .words)) (now (s .entry)) at) ⌝ }
 {
@@ -86,7 +92,13 @@ fn read_ear(s: &[u8], rows: &[u64; Graph::ROW_WORDS], n: u16, ears: Ears, at: us
 }
 
 // As many ears as are counted, and then every vertex is in.
-fn read_all_ears(s: &[u8], rows: &[u64; Graph::ROW_WORDS], n: u16, count: u16, from: usize) -> Item
+fn read_all_ears(
+    s: &[u8],
+    rows: &[u64; GraphTable::ROW_WORDS],
+    n: u16,
+    count: u16,
+    from: usize,
+) -> Item
     requires { ⌜ n ≤ capacity ⌝ }
     ensures { λ r. ⌜ r ≡ endRead (allEars (rowsGraph n (now (rows .entry))) count (now (s .entry)) from) ⌝ }
 {
@@ -111,7 +123,7 @@ fn read_all_ears(s: &[u8], rows: &[u64; Graph::ROW_WORDS], n: u16, count: u16, f
 }
 
 // Kind 2: a removed pair, ears that take in every vertex, and a side.
-pub fn read_ears(s: &[u8], rows: &[u64; Graph::ROW_WORDS], n: u16, at: usize) -> Item
+pub fn read_ears(s: &[u8], rows: &[u64; GraphTable::ROW_WORDS], n: u16, at: usize) -> Item
     ensures { λ r. ⌜ r ≡ endRead (limited n (body (rowsGraph n (now (rows .entry))) 2) (now (s .entry)) at) ⌝ }
 {
     if VertexSet::CAPACITY < n {

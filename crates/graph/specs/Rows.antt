@@ -8,8 +8,8 @@ use Rattle.record.specs.Read.{folded}
 use Rattle.connectivity.specs.Graph as connectivity
 use Rattle.vertexset.specs.Set.{has, withBit, less, wordCount, emptySet, capacity}
 use Rattle.vertexset.specs.declared.VertexSet.{VertexSet}
-use Rattle.graph.specs.Plan.{Plan, proper}
-use Rattle.graph.specs.declared.Graph.{Graph}
+use Rattle.reading.specs.Plan.{Plan, proper}
+use Rattle.graph.specs.declared.GraphTable.{GraphTable}
 
 -- a row for each vertex that a set can hold, as long as a set
 abbrev pub rowWords : ℕ
@@ -50,15 +50,15 @@ partedRows rows u v =
     cond (ltb u capacity && ltb v capacity) (withoutBit (withoutBit rows (u * capacity + v)) (v * capacity + u)) rows
 
 -- the graph of a plan
-unfoldable pub graphOf : Plan → Graph
+unfoldable pub graphOf : Plan → GraphTable
 graphOf p = record { n = p .n; m = length (p .edges); rows = folded joined bareRows (p .edges) }
 
 -- the graph that the rows stand for
-abbrev pub network : Graph → connectivity.Graph
+abbrev pub network : GraphTable → connectivity.Graph
 network g = record { n = g .n; adj = adjacentIn (g .rows) }
 
 -- what stands beside a refusal: a graph without vertices
-abbrev pub noGraph : Graph
+abbrev pub noGraph : GraphTable
 noGraph = record { n = 0; m = 0; rows = bareRows }
 
 -- the two vertices that a place of the rows stands for
@@ -79,5 +79,5 @@ abbrev pub edgesOf : List ℕ → ℕ → List (ℕ × ℕ)
 edgesOf rows n = edgesFrom rows n (n * capacity) 0
 
 -- the plan of a graph
-unfoldable pub planOf : Graph → Plan
+unfoldable pub planOf : GraphTable → Plan
 planOf g = record { n = g .n; edges = edgesOf (g .rows) (g .n) }

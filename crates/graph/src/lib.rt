@@ -6,25 +6,26 @@ ghost use Rattle.record.specs.Loop.{runs};
 ghost use Rattle.vertexset.specs.Set.{withBit, capacity};
 ghost use Rattle.record.specs.Number.{numberBytes, numberLimit};
 ghost use Rattle.record.specs.Write.{overwritten};
-ghost use Rattle.graph.specs.Plan.{edge, edgeBytes};
-ghost use Rattle.graph.specs.Rows.{adjacentIn, rowOf, rowWords, bareRows, noGraph, joinedRows, withoutBit, partedRows, pairAt, edgeAt, edgesOf};
-ghost use Rattle.graph.specs.Code.{wholePlan, leadingPlan, edgeRead, testedEdge, edgeFault, refusedPlan, edgeLoop, sizeOf, edgesBytes, writtenPlan, withPlan};
+ghost use Rattle.reading.specs.Plan.{edge, edgeBytes};
+ghost use Rattle.graph.specs.Rows.{adjacentIn, rowOf, rowWords, bareRows, noGraph, joinedRows, withoutBit, partedRows};
+ghost use Rattle.writing.specs.Write.{pairAt, edgeAt, edgesOf, sizeOf, edgesBytes, writtenPlan, withPlan};
+ghost use Rattle.reading.specs.Code.{wholePlan, leadingPlan, edgeRead, testedEdge, edgeFault, refusedPlan, edgeLoop};
 use record::Answer;
 use record::Number;
 use record::Written;
 use vertexset::VertexSet;
 
 // n vertices, m edges, and for each vertex a row of bits: the vertices adjacent to it.
-pub struct Graph {
+pub struct GraphTable {
     pub n: u16,
     pub m: u16,
-    pub rows: [u64; Graph::ROW_WORDS],
+    pub rows: [u64; GraphTable::ROW_WORDS],
 }
 
 // An accepted plan with the place after its last edge; or the plan's fault, beside a graph without vertices.
 pub struct PlanRead {
     pub answer: Answer,
-    pub graph: Graph,
+    pub graph: GraphTable,
     pub next: usize,
 }
 
@@ -38,7 +39,7 @@ struct Size {
     bytes: usize,
 }
 
-impl Graph {
+impl GraphTable {
     pub const MIN_VERTICES: u16 = 4;
 
     pub const MAX_VERTICES: u16 = 128;
@@ -48,21 +49,21 @@ impl Graph {
     // a row is as long as a vertex set, and there is one for each vertex that a set can hold
     const ROW_BITS: usize = VertexSet::CAPACITY as usize;
 
-    pub const ROW_WORDS: usize = Graph::ROW_BITS * VertexSet::WORDS;
+    pub const ROW_WORDS: usize = GraphTable::ROW_BITS * VertexSet::WORDS;
 
     pub fn none() -> Self
         ensures { λ r. ⌜ r ≡ noGraph ⌝ }
     {
-        Graph {
+        GraphTable {
             n: 0,
             m: 0,
-            rows: [0u64; Graph::ROW_WORDS],
+            rows: [0u64; GraphTable::ROW_WORDS],
         }
     }
 }
 
 // Two vertices are adjacent.
-pub fn adjacent(rows: &[u64; Graph::ROW_WORDS], u: u16, v: u16) -> bool
+pub fn adjacent(rows: &[u64; GraphTable::ROW_WORDS], u: u16, v: u16) -> bool
     ensures { λ r. ⌜ r ≡ adjacentIn (now (rows .entry)) u v ⌝ }
 {
     if u < VertexSet::CAPACITY {
@@ -76,7 +77,7 @@ pub fn adjacent(rows: &[u64; Graph::ROW_WORDS], u: u16, v: u16) -> bool
 }
 
 // The vertices adjacent to a vertex.
-pub fn row(rows: &[u64; Graph::ROW_WORDS], u: u16) -> VertexSet
+pub fn row(rows: &[u64; GraphTable::ROW_WORDS], u: u16) -> VertexSet
     ensures { λ r. ⌜ r ≡ rowOf (now (rows .entry)) u ⌝ }
 {
     let mut set = VertexSet::empty();
@@ -90,7 +91,7 @@ pub fn row(rows: &[u64; Graph::ROW_WORDS], u: u16) -> VertexSet
     set
 }
 
-fn set_bit(rows: &mut [u64; Graph::ROW_WORDS], u: u16, v: u16)
+fn set_bit(rows: &mut [u64; GraphTable::ROW_WORDS], u: u16, v: u16)
     requires { ⌜ (u < capacity) × (v < capacity) ⌝ }
     ensures { λ r. ⌜ now (rows .exit) ≡ withBit (now (rows .entry)) (u * capacity + v) ⌝ }
 {
@@ -100,7 +101,7 @@ fn set_bit(rows: &mut [u64; Graph::ROW_WORDS], u: u16, v: u16)
 }
 
 // Two vertices are joined in a table of rows; a number past the vertices joins nothing.
-pub fn join(rows: &mut [u64; Graph::ROW_WORDS], u: u16, v: u16)
+pub fn join(rows: &mut [u64; GraphTable::ROW_WORDS], u: u16, v: u16)
     ensures { λ r. ⌜ now (rows .exit) ≡ joinedRows (now (rows .entry)) u v ⌝ }
 {
     if VertexSet::CAPACITY <= u {
@@ -113,7 +114,7 @@ pub fn join(rows: &mut [u64; Graph::ROW_WORDS], u: u16, v: u16)
     set_bit(rows, v, u);
 }
 
-fn clear_bit(rows: &mut [u64; Graph::ROW_WORDS], u: u16, v: u16)
+fn clear_bit(rows: &mut [u64; GraphTable::ROW_WORDS], u: u16, v: u16)
     requires { ⌜ (u < capacity) × (v < capacity) ⌝ }
     ensures { λ r. ⌜ now (rows .exit) ≡ withoutBit (now (rows .entry)) (u * capacity + v) ⌝ }
 {
@@ -123,7 +124,7 @@ fn clear_bit(rows: &mut [u64; Graph::ROW_WORDS], u: u16, v: u16)
 }
 
 // Two vertices are parted in a table of rows; a number past the vertices parts nothing.
-pub fn part(rows: &mut [u64; Graph::ROW_WORDS], u: u16, v: u16)
+pub fn part(rows: &mut [u64; GraphTable::ROW_WORDS], u: u16, v: u16)
     ensures { λ r. ⌜ now (rows .exit) ≡ partedRows (now (rows .entry)) u v ⌝ }
 {
     if VertexSet::CAPACITY <= u {
@@ -177,7 +178,7 @@ fn refused(r: u8, p: usize) -> PlanRead
 {
     PlanRead {
         answer: Answer::PlanFault(r, p),
-        graph: Graph::none(),
+        graph: GraphTable::none(),
         next: 0,
     }
 }
@@ -195,7 +196,7 @@ fn read_edges(s: &[u8], n: u16, m: u16, from: usize) -> PlanRead
     requires { ⌜ n ≤ capacity ⌝ }
     ensures { λ r. ⌜ r ≡ runs (edgeLoop n m) m (0, 0) bareRows (now (s .entry)) from ⌝ }
 {
-    let mut rows = [0u64; Graph::ROW_WORDS];
+    let mut rows = [0u64; GraphTable::ROW_WORDS];
     let mut at = from;
     let mut lower: u16 = 0;
     let mut higher: u16 = 0;
@@ -213,7 +214,7 @@ fn read_edges(s: &[u8], n: u16, m: u16, from: usize) -> PlanRead
     }
     PlanRead {
         answer: Answer::Accepted,
-        graph: Graph { n, m, rows },
+        graph: GraphTable { n, m, rows },
         next: at,
     }
 }
@@ -226,17 +227,17 @@ pub fn read_leading_plan(s: &[u8]) -> PlanRead
     let Number::Value(n, m_at) = x else {
         return refused(record::fault_number(x), record::fault_place(x));
     };
-    if n < Graph::MIN_VERTICES {
+    if n < GraphTable::MIN_VERTICES {
         return refused(3, 0);
     }
-    if Graph::MAX_VERTICES < n {
+    if GraphTable::MAX_VERTICES < n {
         return refused(3, 0);
     }
     let y = record::read_number(s, m_at);
     let Number::Value(m, at) = y else {
         return refused(record::fault_number(y), record::fault_place(y));
     };
-    if Graph::MAX_EDGES < m {
+    if GraphTable::MAX_EDGES < m {
         return refused(4, m_at);
     }
     read_edges(s, n, m, at)
@@ -273,12 +274,12 @@ fn number_length(v: u16) -> usize
 }
 
 // An edge stands at a place of the rows, lower vertex first.
-fn edge_at(rows: &[u64; Graph::ROW_WORDS], n: u16, k: usize) -> bool
+fn edge_at(rows: &[u64; GraphTable::ROW_WORDS], n: u16, k: usize) -> bool
     requires { ⌜ k < rowWords * 64 ⌝ }
     ensures { λ r. ⌜ r ≡ edgeAt (now (rows .entry)) n k ⌝ }
 {
-    let v = k % Graph::ROW_BITS;
-    if v <= k / Graph::ROW_BITS {
+    let v = k % GraphTable::ROW_BITS;
+    if v <= k / GraphTable::ROW_BITS {
         return false;
     }
     if n as usize <= v {
@@ -293,15 +294,16 @@ fn edge_length(k: usize) -> usize
     requires { ⌜ k < rowWords * 64 ⌝ }
     ensures { λ r. ⌜ r ≡ length (edgeBytes (pairAt k)) ⌝ }
 {
-    number_length((k / Graph::ROW_BITS) as u16) + number_length((k % Graph::ROW_BITS) as u16)
+    number_length((k / GraphTable::ROW_BITS) as u16)
+        + number_length((k % GraphTable::ROW_BITS) as u16)
 }
 
 // How many edges the rows hold, and how many bytes they take.
-fn measure(rows: &[u64; Graph::ROW_WORDS], n: u16) -> Size
+fn measure(rows: &[u64; GraphTable::ROW_WORDS], n: u16) -> Size
     requires { ⌜ n ≤ capacity ⌝ }
     ensures { λ r. ⌜ r ≡ sizeOf (edgesOf (now (rows .entry)) n) ⌝ }
 {
-    let end = n as usize * Graph::ROW_BITS;
+    let end = n as usize * GraphTable::ROW_BITS;
     let mut edges: usize = 0;
     let mut bytes: usize = 0;
     let mut at: usize = 0;
@@ -333,16 +335,16 @@ fn put_edge(out: &mut [u8], at: usize, k: usize) -> usize
     requires { ⌜ (k < rowWords * 64) × (at + length (edgeBytes (pairAt k)) ≤ length (now out)) ⌝ }
     ensures { λ r. ⌜ (r ≡ at + length (edgeBytes (pairAt k))) × (now (out .exit) ≡ overwritten (now (out .entry)) at (edgeBytes (pairAt k))) ⌝ }
 {
-    let mid = put_number(out, at, (k / Graph::ROW_BITS) as u16);
-    put_number(out, mid, (k % Graph::ROW_BITS) as u16)
+    let mid = put_number(out, at, (k / GraphTable::ROW_BITS) as u16);
+    put_number(out, mid, (k % GraphTable::ROW_BITS) as u16)
 }
 
 // Writes the edges of the rows, which have room, and gives the place after them.
-fn put_edges(rows: &[u64; Graph::ROW_WORDS], n: u16, out: &mut [u8], from: usize) -> usize
+fn put_edges(rows: &[u64; GraphTable::ROW_WORDS], n: u16, out: &mut [u8], from: usize) -> usize
     requires { ⌜ (n ≤ capacity) × (from + length (edgesBytes (now rows) n) ≤ length (now out)) ⌝ }
     ensures { λ r. ⌜ (r ≡ from + length (edgesBytes (now (rows .entry)) n)) × (now (out .exit) ≡ overwritten (now (out .entry)) from (edgesBytes (now (rows .entry)) n)) ⌝ }
 {
-    let end = n as usize * Graph::ROW_BITS;
+    let end = n as usize * GraphTable::ROW_BITS;
     let mut next = from;
     let mut at: usize = 0;
     while at < end {
@@ -356,18 +358,18 @@ fn put_edges(rows: &[u64; Graph::ROW_WORDS], n: u16, out: &mut [u8], from: usize
 }
 
 // Writes the record of a graph at the start of a buffer, where it is within the limits and has room.
-pub fn write_plan(g: Graph, out: &mut [u8]) -> Written
+pub fn write_plan(g: GraphTable, out: &mut [u8]) -> Written
     ensures { λ r. ⌜ (r ≡ writtenPlan (now (out .entry)) g) × (now (out .exit) ≡ withPlan (now (out .entry)) g) ⌝ }
 {
     let vertices = g.n;
-    if vertices < Graph::MIN_VERTICES {
+    if vertices < GraphTable::MIN_VERTICES {
         return Written::Nothing;
     }
-    if Graph::MAX_VERTICES < vertices {
+    if GraphTable::MAX_VERTICES < vertices {
         return Written::Nothing;
     }
     let size = measure(&g.rows, vertices);
-    if size.edges > Graph::MAX_EDGES as usize {
+    if size.edges > GraphTable::MAX_EDGES as usize {
         return Written::Nothing;
     }
     let edges = size.edges as u16;

@@ -4,7 +4,7 @@ ghost use Prim.Native.Nat.{_≤_};
 ghost use Rattle.vertexset.specs.Set.{has, capacity};
 ghost use Rattle.links.specs.Ends.{sameLink, linkEnd, additionOf, held};
 ghost use Rattle.links.specs.Tables.{pointer, pointed, reach, endIn, pointAlong, splitRows, splitBy};
-use graph::Graph;
+use graph::GraphTable;
 use vertexset::VertexSet;
 
 // A link, named by its two ends: no two links have the same.
@@ -56,7 +56,7 @@ impl Link {
 
 impl Ends {
     // The table of links has the layout of a graph's rows.
-    pub fn addition(self, linked: &[u64; Graph::ROW_WORDS]) -> Addition
+    pub fn addition(self, linked: &[u64; GraphTable::ROW_WORDS]) -> Addition
         ensures { λ r. ⌜ r ≡ additionOf (now (linked .entry)) (self .first) (self .last) ⌝ }
     {
         let a = self.first;
@@ -151,7 +151,7 @@ pub fn end_of(pointers: &[u16; Link::POINTERS], branch: VertexSet, v: u16) -> En
 }
 
 // The link is split at its inner vertex x.
-fn split_link(linked: &mut [u64; Graph::ROW_WORDS], x: u16, l: Link)
+fn split_link(linked: &mut [u64; GraphTable::ROW_WORDS], x: u16, l: Link)
     ensures { λ r. ⌜ now (linked .exit) ≡ splitRows (now (linked .entry)) x l ⌝ }
 {
     graph::part(linked, l.a, l.b);
@@ -160,7 +160,7 @@ fn split_link(linked: &mut [u64; Graph::ROW_WORDS], x: u16, l: Link)
 }
 
 // The links are split that an addition splits.
-pub fn split_by(linked: &mut [u64; Graph::ROW_WORDS], a: Addition)
+pub fn split_by(linked: &mut [u64; GraphTable::ROW_WORDS], a: Addition)
     ensures { λ r. ⌜ now (linked .exit) ≡ splitBy (now (linked .entry)) a ⌝ }
 {
     match a {

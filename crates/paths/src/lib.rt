@@ -2,16 +2,16 @@
 ghost use mathlib.Core.Path.{_≡_};
 ghost use Prim.Native.Nat.{_-_, _≤_};
 ghost use Rattle.record.specs.Number.{number};
-ghost use Rattle.record.specs.Read.{_needs⟨_⟩_};
+ghost use Rattle.record.specs.Read.{_needs⟨_⟩_, within};
 ghost use Rattle.record.specs.Loop.{runs};
 ghost use Rattle.vertexset.specs.Set.{has, capacity};
 ghost use Rattle.graph.specs.Rows.{adjacentIn};
-ghost use Rattle.certificates.specs.Tests.{within, allBelow};
+ghost use Rattle.certificates.specs.Tests.{allBelow};
 ghost use Rattle.certificates.specs.Records.{vertex, path};
 ghost use Rattle.paths.specs.Items.{itemRead, limited};
 ghost use Rattle.paths.specs.Paths.{pathRead, noPath};
 ghost use Rattle.paths.specs.Code.{faultPath, scanFirst, scanned, scanTold, pathLoop, pathBegun};
-use graph::Graph;
+use graph::GraphTable;
 use record::Number;
 use vertexset::VertexSet;
 
@@ -86,7 +86,7 @@ impl Scan {
     }
 
     // The next vertex taken in; the end of a path may be old, an inner vertex may not.
-    fn taken(self, rows: &[u64; Graph::ROW_WORDS], old: VertexSet, end: bool, v: u16) -> Self
+    fn taken(self, rows: &[u64; GraphTable::ROW_WORDS], old: VertexSet, end: bool, v: u16) -> Self
         ensures { λ r. ⌜ r ≡ scanned (adjacentIn (now (rows .entry))) (has (old .words)) self end v ⌝ }
     {
         let set = self.set;
@@ -152,7 +152,7 @@ fn fault_path(x: Item) -> PathRead
 // The vertices of a path after its first.
 fn read_rest(
     s: &[u8],
-    rows: &[u64; Graph::ROW_WORDS],
+    rows: &[u64; GraphTable::ROW_WORDS],
     n: u16,
     old: VertexSet,
     len: u16,
@@ -183,7 +183,7 @@ fn read_rest(
 // A path of at least as many vertices.
 fn read_path(
     s: &[u8],
-    rows: &[u64; Graph::ROW_WORDS],
+    rows: &[u64; GraphTable::ROW_WORDS],
     n: u16,
     old: VertexSet,
     least: u16,
@@ -223,7 +223,7 @@ pub fn all_below(set: VertexSet, n: u16) -> bool
 // A path that may be a link: two vertices or more.
 pub fn read_link_path(
     s: &[u8],
-    rows: &[u64; Graph::ROW_WORDS],
+    rows: &[u64; GraphTable::ROW_WORDS],
     n: u16,
     old: VertexSet,
     at: usize,
@@ -236,7 +236,7 @@ pub fn read_link_path(
 // A path that may be an ear: three vertices or more.
 pub fn read_ear_path(
     s: &[u8],
-    rows: &[u64; Graph::ROW_WORDS],
+    rows: &[u64; GraphTable::ROW_WORDS],
     n: u16,
     old: VertexSet,
     at: usize,

@@ -8,8 +8,7 @@ use lib.Dec.{eqb}
 use borrow.Author.Tests.{eqb-true, eq-eqb}
 use Rattle.graph.specs.Rows.{adjacentIn}
 use Rattle.connectivity.specs.Lists.{In, member}
-use Rattle.connectivity.specs.Path.{vertices, End}
-use Rattle.connectivity.specs.Path.{Link as Path}
+use Rattle.connectivity.specs.Path.{vertices, End, Path}
 use Rattle.connectivity.specs.Build.{IsBranch}
 use Rattle.connectivity.proofs.Lists.{and-true, or-true, true-or, member-in, in-member}
 use Rattle.connectivity.proofs.Paths.{both-ends, end-of, end-s, end-t, end-vertex, inner-in}

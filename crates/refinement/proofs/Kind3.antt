@@ -7,7 +7,7 @@ use Rattle路record.specs.Read.{Read, Read.Got, Read.Refused, Reader, onRead, _鈻
 use Rattle路record.proofs.Loops.{then-same, many-same, many-kept}
 use Rattle路vertexset.specs.Set.{capacity}
 use Rattle路connectivity.specs.Graph.{Graph, edgeCount}
-use Rattle路connectivity.specs.Path.{Link as Path}
+use Rattle路connectivity.specs.Path.{Path}
 use Rattle路connectivity.specs.Build.{taken, final, furtherCount}
 use Rattle路certificates.specs.Tests.{allBelow, isBranch}
 use Rattle路certificates.specs.Records.{branchFour, startPaths, start, furtherPath, body}

@@ -8,19 +8,18 @@ use native.Mathlib.Omega.{arith}
 use lib.Dec.{ltb, leb}
 use lib.ListN.{length}
 use borrow.Author.Tests.{ltb-true, leb-true, not-true}
-use Rattle.record.specs.Read.{Read.Got, Reader, _needs⟨_⟩_, _▹_, into}
+use Rattle.record.specs.Read.{Read.Got, Reader, _needs⟨_⟩_, _▹_, into, within}
 use Rattle.record.specs.Number.{number}
 use Rattle.record.proofs.Laws.{on-got, carry}
 use Rattle.record.proofs.Loops.{needs-true, needs-same, many-all, many-length, All}
 use Rattle.vertexset.specs.Set.{has, capacity}
 use Rattle.connectivity.specs.Lists.{In}
 use Rattle.connectivity.specs.Graph.{Graph, Adj}
-use Rattle.connectivity.specs.Path.{vertices, Along, IsPath}
-use Rattle.connectivity.specs.Path.{Link as Path}
+use Rattle.connectivity.specs.Path.{vertices, Along, IsPath, Path}
 use Rattle.connectivity.specs.Build.{BGPath, taken}
 use Rattle.connectivity.proofs.Lists.{and-true, clash}
 use Rattle.connectivity.proofs.Paths.{ends-differ}
-use Rattle.certificates.specs.Tests.{within, pathAlong, pathNew, endsIn, endsApart, inBuild, each, distinct}
+use Rattle.certificates.specs.Tests.{pathAlong, pathNew, endsIn, endsApart, inBuild, each, distinct}
 use Rattle.certificates.specs.Records.{vertex, vertexList, path, linkOf, tailLink, furtherPath}
 use Rattle.build.specs.declared.Build.{Build}
 use Rattle.links.specs.Ends.{held}

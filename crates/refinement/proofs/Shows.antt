@@ -9,8 +9,7 @@ use Rattle.vertexset.specs.Set.{has, wordCount, capacity}
 use Rattle.graph.specs.Rows.{adjacentIn, rowWords}
 use Rattle.connectivity.specs.Lists.{In, NoDup}
 use Rattle.connectivity.specs.Graph.{Graph, Adj}
-use Rattle.connectivity.specs.Path.{vertices}
-use Rattle.connectivity.specs.Path.{Link as Path}
+use Rattle.connectivity.specs.Path.{vertices, Path}
 use Rattle.connectivity.specs.Build.{InBuild, IsBranch, SimpleBuild}
 use Rattle.connectivity.proofs.Lists.{at-most}
 use Rattle.connectivity.proofs.Paths.{SamePair, end-or-inner, end-s, end-t, end-vertex, inner-in, inner-not-end, nodup-inner, ends-differ}

@@ -17,8 +17,7 @@ use Rattle.vertexset.proofs.Laws.{has-empty}
 use Rattle.graph.specs.Rows.{adjacentIn, bareRows, rowWords}
 use Rattle.connectivity.specs.Lists.{In, member}
 use Rattle.connectivity.specs.Graph.{Graph, Adj}
-use Rattle.connectivity.specs.Path.{vertices, End}
-use Rattle.connectivity.specs.Path.{Link as Path}
+use Rattle.connectivity.specs.Path.{vertices, End, Path}
 use Rattle.connectivity.specs.Build.{IsBranch, four, sixPairs, endPairs, Starts, StartRules}
 use Rattle.connectivity.proofs.Lists.{and-true, or-true, true-or, clash, member-in, in-member, member-out, in-append, in-left, in-right}
 use Rattle.connectivity.proofs.Paths.{end-or-inner, end-vertex, inner-in, length-ends, in-ends, ends-in}

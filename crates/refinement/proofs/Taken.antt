@@ -15,10 +15,8 @@ use Rattle.vertexset.proofs.Laws.{has-empty, has-union, inserted-has, inserted-
 use Rattle.graph.specs.Rows.{adjacentIn, joinedRows, partedRows}
 use Rattle.connectivity.specs.Lists.{In, NoDup, member}
 use Rattle.connectivity.specs.Graph.{Adj}
-use Rattle.connectivity.specs.Path.{vertices, End}
-use Rattle.connectivity.specs.Path.{Link as Path}
-use Rattle.connectivity.specs.Build.{InBuild, IsBranch, BGPath, taken, takeBefore, takeAfter}
-use Rattle.connectivity.specs.Build.{splitAt as splitLinks}
+use Rattle.connectivity.specs.Path.{vertices, End, Path}
+use Rattle.connectivity.specs.Build.{InBuild, IsBranch, BGPath, taken, takeBefore, takeAfter, splitAt as splitLinks}
 use Rattle.connectivity.proofs.Lists.{or-true, true-or, member-in, in-member}
 use Rattle.connectivity.proofs.Paths.{SamePair, inner-in, nodup-inner, ends-differ, end-s, end-t}
 use Rattle.connectivity.proofs.Split.{Piece, Piece.whole, Piece.front, Piece.back, piece-of, piece-inner, split-list, split-kept, kept-split}

@@ -16,12 +16,12 @@ use Rattle.record.specs.Read.{Read, Read.Got, Read.Refused, ended}
 use Rattle.record.specs.declared.Answer.{Answer}
 use Rattle.record.specs.declared.Answer.the-variants.{Accepted, Grade, PlanFault, CertificateFault}
 use Rattle.vertexset.specs.Set.{has, emptySet}
-use Rattle.graph.specs.Plan.{Plan, plan}
-use Rattle.graph.specs.Rows.{graphOf}
-use Rattle.graph.specs.Code.{planRead}
-use Rattle.graph.specs.declared.PlanRead.{PlanRead}
+use Rattle.reading.specs.Plan.{Plan, plan}
+use Rattle.reading.specs.Code.{graphOf, planRead}
+use Rattle.reading.specs.declared.PlanRead.{PlanRead}
 use Rattle.certificates.specs.Tests.{allBelow}
-use Rattle.paths.specs.Items.{rowsGraph, limited}
+use Rattle.graph.specs.Rows.{rowsGraph}
+use Rattle.paths.specs.Items.{limited}
 use Rattle.paths.specs.declared.Item.the-variants.{Value, Fault}
 use Rattle.paths.proofs.Told.{end-told, end-fault}
 use Rattle.build.specs.declared.Build.{Build}

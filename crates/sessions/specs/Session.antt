@@ -8,13 +8,14 @@ use Rattle.record.specs.Read.{Read, Read.Got, Read.Refused, ended}
 use Rattle.record.specs.declared.Answer.{Answer}
 use Rattle.record.specs.declared.Answer.the-variants.{Accepted, Grade, PlanFault, CertificateFault}
 use Rattle.vertexset.specs.Set.{has, emptySet}
-use Rattle.graph.specs.Plan.{Plan, plan}
-use Rattle.graph.specs.Rows.{graphOf, noGraph}
-use Rattle.graph.specs.declared.Graph.{Graph}
-use Rattle.connectivity.specs.Path.{Link as Path}
+use Rattle.reading.specs.Plan.{Plan, plan}
+use Rattle.reading.specs.Code.{graphOf}
+use Rattle.graph.specs.Rows.{noGraph, rowsGraph}
+use Rattle.graph.specs.declared.GraphTable.{GraphTable}
+use Rattle.connectivity.specs.Path.{Path}
 use Rattle.connectivity.specs.Build.{furtherCount}
 use Rattle.certificates.specs.Tests.{allBelow}
-use Rattle.paths.specs.Items.{rowsGraph, limited}
+use Rattle.paths.specs.Items.{limited}
 use Rattle.paths.specs.declared.Item.{Item}
 use Rattle.paths.specs.declared.Item.the-variants.{Value, Fault}
 use Rattle.sessions.specs.declared.Session.{Session}
@@ -26,7 +27,7 @@ use Rattle.build.specs.State.{bareBuild, buildStart, startedBuild, buildPath, p
 abbrev pub noSession : Session
 noSession = record { graph = noGraph; ready = false; started = false; taken = 0; build = bareBuild emptySet }
 
-abbrev pub openedOn : Graph → Session
+abbrev pub openedOn : GraphTable → Session
 openedOn g = record { graph = g; ready = true; started = false; taken = 0; build = bareBuild emptySet }
 
 -- opening takes a whole plan record; 29 after all plan faults

@@ -4,13 +4,13 @@ ghost use Prim.Native.Nat.{_<_};
 ghost use lib.ListN.{drop};
 ghost use Rattle.sessions.specs.Session.{noSession, opening, refusedStep, unreadStep, startStep, pathCount, dueStep, pathStep, closing, closeStep, startRest, pathRest};
 use build::Build;
-use graph::Graph;
+use graph::GraphTable;
 use paths::Item;
 use record::Answer;
 use vertexset::VertexSet;
 
 pub struct Session {
-    pub graph: Graph,
+    pub graph: GraphTable,
     // opened, and no start accepted yet
     pub ready: bool,
     pub started: bool,
@@ -35,7 +35,7 @@ impl Session {
     fn none() -> Self
         ensures { λ r. ⌜ r ≡ noSession ⌝ }
     {
-        let graph = Graph::none();
+        let graph = GraphTable::none();
         let build = Build::bare(VertexSet::empty());
         Session {
             graph,
@@ -183,7 +183,7 @@ impl Session {
 pub fn open(plan: &[u8]) -> Opened
     ensures { λ r. ⌜ r ≡ opening (now (plan .entry)) ⌝ }
 {
-    let x = graph::read_plan(plan);
+    let x = reading::read_plan(plan);
     let answer = x.answer;
     let Answer::Accepted = answer else {
         let session = Session::none();

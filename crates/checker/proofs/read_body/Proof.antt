@@ -4,7 +4,8 @@ use mathlib.Core.Path.{ap, _∙_}
 use borrow.Author.Needs.{needs}
 use native.Mathlib.Omega.{arith}
 use Rattle.certificates.specs.Records.{body}
-use Rattle.paths.specs.Items.{endRead, rowsGraph}
+use Rattle.paths.specs.Items.{endRead}
+use Rattle.graph.specs.Rows.{rowsGraph}
 use Rattle.build.specs.State.{buildBody}
 use Rattle.checker.proofs.Answers.{limited-open, kind-body-0, kind-body-1, kind-body-2, kind-body-3}
 use Rattle.checker.proofs.read_body.Statement.{statement}
