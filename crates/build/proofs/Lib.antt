@@ -1,6 +1,3 @@
-pub mod Ways
-pub mod Pointers
 pub mod Taking
 pub mod Turns
 pub mod Starts
-pub mod Sessions

@@ -81,7 +81,7 @@ module _ (n : ℕ) (rows s : List ℕ) (at : ℕ) where
   body-stop count e = rw e
 
   further : Build → ℕ → Reader ((l : List Path) × Unit {0})
-  further b count = many (buildPath (rowsGraph n rows)) pathTaken count b ▸ λ l. check 28 (allBelow n (has (folded pathTaken b l .branch .words)))
+  further b count = many (buildPath (rowsGraph n rows)) pathTaken count b ▸ λ l. check 28 (allBelow n (has (folded pathTaken b l .sets .branch .words)))
 
   further-paths : (b : Build) (count from : ℕ) → runs (furtherLoop n rows) count b b s from ≡ endRead (further b count s from)
   unfolding further endRead _▸_ runs check
@@ -92,8 +92,8 @@ module _ (n : ℕ) (rows s : List ℕ) (at : ℕ) where
       last l next false = refl
 
       go : (y : Read (List Path)) → finish pathTaken (furtherLoop n rows .ok) Fault b y
-          ≡ endRead {A = (l : List Path) × Unit {0}} (onRead y (λ l mid. onRead (check 28 (allBelow n (has (folded pathTaken b l .branch .words))) s mid) (λ u z. Got (l, u) z)))
-      go (Got l next) = last l next (allBelow n (has (folded pathTaken b l .branch .words)))
+          ≡ endRead {A = (l : List Path) × Unit {0}} (onRead y (λ l mid. onRead (check 28 (allBelow n (has (folded pathTaken b l .sets .branch .words))) s mid) (λ u z. Got (l, u) z)))
+      go (Got l next) = last l next (allBelow n (has (folded pathTaken b l .sets .branch .words)))
       go (Refused q p) = refl
 
   body-paths : (y : (ℕ × (ℕ × (ℕ × ℕ))) × List Path) (count : ℕ) {from : ℕ} → buildStart (rowsGraph n rows) s at ≡ Got y from

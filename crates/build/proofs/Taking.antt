@@ -1,17 +1,18 @@
 -- What a path that was read and tested leaves of a build. Assumes nothing.
-use Prim.Native.Nat.{ℕ, suc, _+_, _-_, _<_, _≤_}
-use mathlib.Core.List.{List, [], _∷_, _++_, append-assoc}
+use Prim.Native.Nat.{ℕ, _-_, _<_, _≤_}
+use mathlib.Core.List.{List, [], _∷_}
 use mathlib.Core.Bool.{Bool, true, false, cond, _&&_, not}
 use mathlib.Core.Path.{_≡_, refl, sym, ap, _∙_}
 use native.Mathlib.Omega.{arith}
 use lib.Dec.{ltb, leb, eqb}
-use lib.ListN.{length, getD, set, replicate, length-append, length-set}
-use lib.Seq.{take-at, getD-at}
+use lib.ListN.{length, take, replicate, length-append}
+use lib.Seq.{take-at}
 use borrow.Author.Tests.{lt-ltb, le-ltb}
 use Rattle.record.specs.Read.{Read, Read.Got, Read.Refused, Reader, onRead, _needs⟨_⟩_}
 use Rattle.record.proofs.Laws.{test-got}
 use Rattle.record.proofs.Loops.{needs-bad}
 use Rattle.vertexset.specs.Set.{has, inserted, capacity}
+use Rattle.vertexset.specs.declared.VertexSet.{VertexSet}
 use Rattle.graph.specs.Rows.{adjacentIn, rowsGraph}
 use Rattle.connectivity.specs.Path.{vertices, Path}
 use Rattle.certificates.specs.Tests.{pathAlong, pathNew, startEnds}
@@ -21,50 +22,27 @@ use Rattle.paths.specs.Paths.{listed, pathTold, pathRead}
 use Rattle.paths.specs.declared.PathRead.{PathRead}
 use Rattle.paths.specs.declared.Item.the-variants.{Value, Fault}
 use Rattle.paths.proofs.Told.{path-told, path-fault}
+use Rattle.links.specs.declared.Link.{Link}
+use Rattle.links.specs.declared.End.{End}
+use Rattle.links.specs.declared.Addition.{Addition}
+use Rattle.links.specs.Ends.{additionOf, held}
+use Rattle.links.specs.Tables.{splitBy}
 use Rattle.build.specs.declared.Build.{Build}
+use Rattle.build.specs.declared.Sets.{Sets}
 use Rattle.build.specs.declared.Taken.{Taken}
-use Rattle.build.specs.declared.End.{End}
-use Rattle.build.specs.declared.Addition.{Addition}
-use Rattle.build.specs.Ends.{additionOf, held}
-use Rattle.build.specs.State.{pointBack, pointOn, entered, endOf, splitBy, pathAddition, bothIn, pathTaken, buildPath, startOn}
-use Rattle.build.specs.Code.{innerIn, pathFault, buildIn, enteredFrom, onPathRead, Leaves, towards}
+use Rattle.build.specs.State.{entered, endOf, pathAddition, bothIn, pathTaken, buildPath, startOn}
+use Rattle.build.specs.Code.{pathFault, buildIn, enteredFrom, onPathRead, Leaves, towards}
 
--- the code's array of a path, taken apart
+-- the front of the code's array is the path, and the array has room for it
 module _ (P : Path) where
-  whole : listed (vertices P) ≡ P .s ∷ (P .inner ++ (P .t ∷ replicate (capacity - length (vertices P)) 0))
-  whole = rw append-assoc
+  told-front : take (length (vertices P)) (listed (vertices P)) ≡ vertices P
+  told-front = take-at (vertices P) (replicate (capacity - length (vertices P)) 0) (length (vertices P)) refl
 
-  inner-length : length (vertices P) ≡ suc (suc (length (P .inner)))
-  inner-length = simp length-append (omega arith)
-
-  told-inner : innerIn (listed (vertices P)) (length (vertices P)) ≡ P .inner
-  told-inner =
-      let z : length (P .inner) ≡ length (vertices P) - 2 = omega (arith, inner-length) in
-      rw append-assoc (take-at (P .inner) _ (length (vertices P) - 2) z)
-
-  told-last : getD (listed (vertices P)) (length (vertices P) - 1) 0 ≡ P .t
-  told-last =
-      let z : length (vertices P) - 1 ≡ suc (length (P .inner)) = omega (arith, inner-length) in
-      rw (z, append-assoc) (getD-at (P .inner) (P .t) _ 0 (length (P .inner)) refl)
-
-  -- the array has room for it
   told-room : length (vertices P) ≤ length (listed (vertices P))
   told-room = omega (arith, length-append (vertices P) (replicate (capacity - length (vertices P)) 0))
 
   pub told-entered : (adj : ℕ → ℕ → Bool) (old : ℕ → Bool) (next : ℕ) (b : Build) → enteredFrom (pathTold adj old P next) b ≡ entered b P
-  told-entered adj old next b = rw (told-inner, told-last)
-
--- pointers are set within the array
-pub back-length : (before : List ℕ) (u : ℕ) (l : List ℕ) → length (pointBack before u l) ≡ length before
-unfolding pointBack
-back-length before u [] = refl
-back-length before u (v ∷ l) = back-length (set before v u) v l ∙ simp length-set
-
-pub on-length : (after l : List ℕ) (t : ℕ) → length (pointOn after l t) ≡ length after
-unfolding pointOn
-on-length after [] t = refl
-on-length after (v ∷ []) t = simp length-set
-on-length after (v ∷ w ∷ l) t = on-length (set after v w) (w ∷ l) t ∙ simp length-set
+  told-entered adj old next b = rw told-front
 
 -- refused, or as it was read
 abbrev pub faulted : {A : Type 0} → ℕ → A → ℕ → ℕ → Read A
@@ -129,13 +107,13 @@ pub record Takes (n : ℕ) (adj : ℕ → ℕ → Bool) (old : ℕ → Bool) (it
 
 module _ {n : ℕ} {adj : ℕ → ℕ → Bool} {old : ℕ → Bool} {item : Build → Reader Path} {step : Build → Path → Build} {b : Build} {s : List ℕ} {at : ℕ}
     (T : Takes n adj old item step b s at) {x : PathRead} (e : x ≡ pathRead adj old (limited n (path n 2) s at)) where
-  refused : {r : Taken} {before after linked : List ℕ} {q p : ℕ} → limited n (item b) s at ≡ Refused q p → r .end ≡ Fault q p → buildIn (r .branch) (r .built) before after linked ≡ b
-      → Leaves n item step b s at r before after linked
+  refused : {r : Taken} {pointers linked : List ℕ} {q p : ℕ} → limited n (item b) s at ≡ Refused q p → r .end ≡ Fault q p → buildIn (r .sets) pointers linked ≡ b
+      → Leaves n item step b s at r pointers linked
   unfolding endRead onPathRead
   refused f g h = record { end = g ∙ sym (ap endRead f); build = h ∙ sym (ap (onPathRead step b) f) }
 
-  pub leaves-unread : {r : Taken} {before after linked : List ℕ} {q p : ℕ} → x .end ≡ Fault q p → r .end ≡ x .end → buildIn (r .branch) (r .built) before after linked ≡ b
-      → Leaves n item step b s at r before after linked
+  pub leaves-unread : {r : Taken} {pointers linked : List ℕ} {q p : ℕ} → x .end ≡ Fault q p → r .end ≡ x .end → buildIn (r .sets) pointers linked ≡ b
+      → Leaves n item step b s at r pointers linked
   leaves-unread f g h = refused (limit-refused n (path n 2) (item b) s at (T .stops _ _) (path-fault adj old _ f e)) (g ∙ f) h
 
   tested : {v next : ℕ} → x .end ≡ Value v next → (P : Path) × ((x ≡ pathTold adj old P next) × (limited n (item b) s at ≡ faulted (T .fault x) P next at))
@@ -146,15 +124,15 @@ module _ {n : ℕ} {adj : ℕ → ℕ → Bool} {old : ℕ → Bool} {item : Bui
       let k : item b s at ≡ faulted (T .fault x) P next at = T .tests P next (l .1) ∙ ap (λ (y : PathRead). faulted (T .fault y) P next at) (sym (t .1 .1)) in
       (P, (t .1 .1, limit-kept n (item b) s at (l .0) k))
 
-  pub leaves-refused : {r : Taken} {before after linked : List ℕ} {v next : ℕ} {q : ℕ} → x .end ≡ Value v next → q ≡ T .fault x → 0 < q → r .end ≡ Fault q at
-      → buildIn (r .branch) (r .built) before after linked ≡ b → Leaves n item step b s at r before after linked
+  pub leaves-refused : {r : Taken} {pointers linked : List ℕ} {v next : ℕ} {q : ℕ} → x .end ≡ Value v next → q ≡ T .fault x → 0 < q → r .end ≡ Fault q at
+      → buildIn (r .sets) pointers linked ≡ b → Leaves n item step b s at r pointers linked
   leaves-refused {q = q} f g h k m =
       let t = tested f in
       let z : 0 < T .fault x = omega arith in
       refused (t .1 .1 ∙ rw (lt-ltb 0 (T .fault x) z, g)) k m
 
-  pub leaves-taken : {r : Taken} {before after linked : List ℕ} {v next : ℕ} {q : ℕ} → x .end ≡ Value v next → q ≡ T .fault x → q ≤ 0 → r .end ≡ x .end
-      → buildIn (r .branch) (r .built) before after linked ≡ enteredFrom x (T .raise x) → Leaves n item step b s at r before after linked
+  pub leaves-taken : {r : Taken} {pointers linked : List ℕ} {v next : ℕ} {q : ℕ} → x .end ≡ Value v next → q ≡ T .fault x → q ≤ 0 → r .end ≡ x .end
+      → buildIn (r .sets) pointers linked ≡ enteredFrom x (T .raise x) → Leaves n item step b s at r pointers linked
   unfolding endRead onPathRead
   leaves-taken {r = r} {next = next} f g h k m =
       let t = tested f in
@@ -176,20 +154,20 @@ fault-same along new p q h p′ q′ h′ e f g = rw (e, f, g)
 pub addition-same : (linked : List ℕ) (x y : End) (x′ y′ : End) {a : Addition} → a ≡ additionOf linked x y → x ≡ x′ → y ≡ y′ → a ≡ additionOf linked x′ y′
 addition-same linked x y x′ y′ e f g = e ∙ ap (λ (z : End). additionOf linked z y) f ∙ ap (additionOf linked x′) g
 
--- a path of the start from u to v
-module _ (n : ℕ) (rows s : List ℕ) (at u v : ℕ) (b : Build) where
-  pub start-stops : (q p : ℕ) → path n 2 s at ≡ Refused q p → startOn (rowsGraph n rows) (towards u v b) s at ≡ Refused q p
+-- a path of the start between the ends of l
+module _ (n : ℕ) (rows s : List ℕ) (at : ℕ) (l : Link) (b : Build) where
+  pub start-stops : (q p : ℕ) → path n 2 s at ≡ Refused q p → startOn (rowsGraph n rows) (towards l b) s at ≡ Refused q p
   unfolding startOn
   start-stops q p e = needs-bad _ 26 _ (needs-bad _ 25 _ (needs-bad _ 24 _ e))
 
   pub start-tests : (P : Path) (next : ℕ) → path n 2 s at ≡ Got P next
-      → startOn (rowsGraph n rows) (towards u v b) s at ≡ faulted (pathFault (pathAlong (rowsGraph n rows) P) (eqb (P .s) u && eqb (P .t) v) (pathNew (has (b .built .words)) P) true) P next at
+      → startOn (rowsGraph n rows) (towards l b) s at ≡ faulted (pathFault (pathAlong (rowsGraph n rows) P) (eqb (P .s) (l .a) && eqb (P .t) (l .b)) (pathNew (has (b .sets .built .words)) P) true) P next at
   unfolding startOn
-  start-tests P next e = tested-three (path n 2) (pathAlong (rowsGraph n rows)) (startEnds ((u, v) ∷ [])) (pathNew (has (b .built .words))) (λ P. true) s at e
+  start-tests P next e = tested-three (path n 2) (pathAlong (rowsGraph n rows)) (startEnds ((l .a, l .b) ∷ [])) (pathNew (has (b .sets .built .words))) (λ P. true) s at e
 
-  abbrev pub start-takes : Takes n (adjacentIn rows) (has (b .built .words)) (λ b. startOn (rowsGraph n rows) (towards u v b)) entered b s at
+  abbrev pub start-takes : Takes n (adjacentIn rows) (has (b .sets .built .words)) (λ b. startOn (rowsGraph n rows) (towards l b)) entered b s at
   start-takes = record {
-    fault = λ x. pathFault (x .along) (eqb (x .first) u && eqb (x .last) v) (x .new) true;
+    fault = λ x. pathFault (x .along) (eqb (x .first) (l .a) && eqb (x .last) (l .b)) (x .new) true;
     raise = λ x. b;
     stops = start-stops;
     tests = start-tests;
@@ -203,18 +181,24 @@ module _ (n : ℕ) (rows s : List ℕ) (at : ℕ) (b : Build) where
   further-stops q p e = needs-bad _ 27 _ (needs-bad _ 26 _ (needs-bad _ 25 _ (needs-bad _ 24 _ e)))
 
   pub further-tests : (P : Path) (next : ℕ) → path n 2 s at ≡ Got P next
-      → buildPath (rowsGraph n rows) b s at ≡ faulted (pathFault (pathAlong (rowsGraph n rows) P) (bothIn b P) (pathNew (has (b .built .words)) P) (not (held (pathAddition b P)))) P next at
+      → buildPath (rowsGraph n rows) b s at ≡ faulted (pathFault (pathAlong (rowsGraph n rows) P) (bothIn b P) (pathNew (has (b .sets .built .words)) P) (not (held (pathAddition b P)))) P next at
   unfolding buildPath
-  further-tests P next e = tested-four (path n 2) (pathAlong (rowsGraph n rows)) (bothIn b) (pathNew (has (b .built .words))) (λ P. not (held (pathAddition b P))) s at e
+  further-tests P next e = tested-four (path n 2) (pathAlong (rowsGraph n rows)) (bothIn b) (pathNew (has (b .sets .built .words))) (λ P. not (held (pathAddition b P))) s at e
 
   abbrev pub addition-at : PathRead → Addition
   addition-at x = additionOf (b .linked) (endOf b (x .first)) (endOf b (x .last))
 
-  abbrev pub further-takes : Takes n (adjacentIn rows) (has (b .built .words)) (buildPath (rowsGraph n rows)) pathTaken b s at
+  abbrev pub further-takes : Takes n (adjacentIn rows) (has (b .sets .built .words)) (buildPath (rowsGraph n rows)) pathTaken b s at
   further-takes = record {
-    fault = λ x. pathFault (x .along) (has (b .built .words) (x .first) && has (b .built .words) (x .last)) (x .new) (not (held (addition-at x)));
-    raise = λ x. buildIn (inserted (inserted (b .branch) (x .first)) (x .last)) (b .built) (b .before) (b .after) (splitBy (b .linked) (addition-at x));
+    fault = λ x. pathFault (x .along) (has (b .sets .built .words) (x .first) && has (b .sets .built .words) (x .last)) (x .new) (not (held (addition-at x)));
+    raise = λ x. buildIn (record { branch = inserted (inserted (b .sets .branch) (x .first)) (x .last); built = b .sets .built }) (b .pointers) (splitBy (b .linked) (addition-at x));
     stops = further-stops;
     tests = further-tests;
     steps = λ P next. refl;
   }
+
+pub same-build : {sets sets′ : Sets} {pointers pointers′ linked linked′ : List ℕ} → sets ≡ sets′ → pointers ≡ pointers′ → linked ≡ linked′ → buildIn sets pointers linked ≡ buildIn sets′ pointers′ linked′
+same-build e f g = rw (e, f, g)
+
+pub same-sets : {branch branch′ built built′ : VertexSet} → branch ≡ branch′ → built ≡ built′ → _≡_ {A = Sets} (record { branch = branch; built = built }) (record { branch = branch′; built = built′ })
+same-sets e f = rw (e, f)

@@ -5,7 +5,7 @@ use mathlib.Core.Bool.{true, false}
 use mathlib.Core.Path.{_≡_, refl, sym, ap, _∙_}
 use native.Mathlib.Omega.{arith}
 use lib.Dec.{leb}
-use lib.ListN.{length, getD}
+use lib.ListN.{getD}
 use borrow.Author.Tests.{le-leb, lt-leb}
 use Rattle.record.specs.Read.{Read.Got, Read.Refused, Reader, _needs⟨_⟩_, _▸_}
 use Rattle.record.specs.Loop.{runs}
@@ -20,13 +20,13 @@ use Rattle.graph.specs.Rows.{rowsGraph}
 use Rattle.paths.specs.Items.{limited}
 use Rattle.paths.specs.declared.Item.the-variants.{Value, Fault}
 use Rattle.paths.proofs.Told.{end-told, end-fault}
+use Rattle.links.specs.declared.Link.{Link}
 use Rattle.build.specs.declared.Build.{Build}
 use Rattle.build.specs.declared.Four.{Four}
 use Rattle.build.specs.declared.Taken.{Taken}
-use Rattle.build.specs.State.{entered, raised, pathTaken, buildPath, BuildStart, bareBuild, fourSet, startOf, startOn}
-use Rattle.build.specs.Code.{buildIn, onPathRead, Leaves, towards, fourOf, noStart, startLoop, furtherLoop}
-use Rattle.build.proofs.Ways.{same-build}
-use Rattle.build.proofs.Taking.{limit-kept, back-length, on-length}
+use Rattle.build.specs.State.{entered, pathTaken, buildPath, BuildStart, bareBuild, fourSet, startOf, startOn}
+use Rattle.build.specs.Code.{buildIn, onPathRead, Leaves, towards, fourOf, firsts, lasts, pairAt, noStart, startLoop, furtherLoop}
+use Rattle.build.proofs.Taking.{limit-kept}
 
 -- a vertex above the one before it
 module _ (n before : ℕ) (s : List ℕ) (at : ℕ) {v next : ℕ} (e : vertex n s at ≡ Got v next) where
@@ -62,47 +62,38 @@ module _ (n : ℕ) (s : List ℕ) (at : ℕ) where
         four-got h = rw (e, f, g, h)
 
 -- what is known after a path was read, within the limit
-module _ {n : ℕ} {item : Build → Reader Path} {step : Build → Path → Build} {b : Build} {s : List ℕ} {at : ℕ} {r : Taken} {before after linked : List ℕ}
-    (low : n ≤ capacity) (h : Leaves n item step b s at r before after linked) where
+module _ {n : ℕ} {item : Build → Reader Path} {step : Build → Path → Build} {b : Build} {s : List ℕ} {at : ℕ} {r : Taken} {pointers linked : List ℕ}
+    (low : n ≤ capacity) (h : Leaves n item step b s at r pointers linked) where
   within : limited n (item b) s at ≡ item b s at
   within = limit-kept n (item b) s at (le-leb n capacity low) refl
 
   pub left-bad : {q p : ℕ} → r .end ≡ Fault q p → item b s at ≡ Refused q p
   left-bad f = sym within ∙ end-fault (limited n (item b) s at) f (h .end)
 
-  pub left-got : {v next : ℕ} → r .end ≡ Value v next → (P : Path) × ((item b s at ≡ Got P next) × (buildIn (r .branch) (r .built) before after linked ≡ step b P))
+  pub left-got : {v next : ℕ} → r .end ≡ Value v next → (P : Path) × ((item b s at ≡ Got P next) × (buildIn (r .sets) pointers linked ≡ step b P))
   unfolding onPathRead
   left-got f =
       let t = end-told (limited n (item b) s at) f (h .end) in
       (t .0, (sym within ∙ t .1, h .build ∙ ap (onPathRead step b) (t .1)))
 
-abbrev pub Long : List ℕ → List ℕ → Type 0
-Long before after = (length before ≡ capacity) × (length after ≡ capacity)
-
-entered-long : {b′ : Build} (b c : Build) (P : Path) → b′ ≡ entered c P → c .before ≡ b .before → c .after ≡ b .after → Long (b .before) (b .after) → Long (b′ .before) (b′ .after)
-entered-long b c P e f g l = (
-  ap (λ (x : Build). length (x .before)) e ∙ back-length (c .before) (P .s) (P .inner) ∙ ap length f ∙ l .0,
-  ap (λ (x : Build). length (x .after)) e ∙ on-length (c .after) (P .inner) (P .t) ∙ ap length g ∙ l .1,
-)
-
 -- a turn over the further paths
-module _ (n : ℕ) (rows s : List ℕ) (b : Build) (at : ℕ) {r : Taken} {before after linked : List ℕ}
-    (low : n ≤ capacity) (h : Leaves n (buildPath (rowsGraph n rows)) pathTaken b s at r before after linked) where
+module _ (n : ℕ) (rows s : List ℕ) (b : Build) (at : ℕ) {r : Taken} {pointers linked : List ℕ}
+    (low : n ≤ capacity) (h : Leaves n (buildPath (rowsGraph n rows)) pathTaken b s at r pointers linked) where
   pub further-stop : (k : ℕ) {q p : ℕ} → 0 < k → r .end ≡ Fault q p → r .end ≡ runs (furtherLoop n rows) k b b s at
   further-stop k i f = f ∙ turn-stop (furtherLoop n rows) s k i b b at (left-bad low h f)
 
-  pub further-go : (k : ℕ) {v next : ℕ} → 0 < k → r .end ≡ Value v next → Long (b .before) (b .after)
-      → (Long before after) × (runs (furtherLoop n rows) (k - 1) (buildIn (r .branch) (r .built) before after linked) (buildIn (r .branch) (r .built) before after linked) s next ≡ runs (furtherLoop n rows) k b b s at)
-  further-go k i f l =
+  pub further-go : (k : ℕ) {v next : ℕ} → 0 < k → r .end ≡ Value v next
+      → runs (furtherLoop n rows) (k - 1) (buildIn (r .sets) pointers linked) (buildIn (r .sets) pointers linked) s next ≡ runs (furtherLoop n rows) k b b s at
+  further-go k i f =
       let t = left-got low h f in
-      (entered-long b (raised b (t .0)) (t .0) (t .1 .1) refl refl l, turn-go (furtherLoop n rows) s k i b b (t .1 .0) (t .1 .1) (t .1 .1))
+      turn-go (furtherLoop n rows) s k i b b (t .1 .0) (t .1 .1) (t .1 .1)
 
 -- after the last of them
 module _ (n : ℕ) (rows s : List ℕ) (b : Build) (at k : ℕ) (none : k ≤ 0) where
-  pub further-done : allBelow n (has (b .branch .words)) ≡ true → Value 0 at ≡ runs (furtherLoop n rows) k b b s at
+  pub further-done : allBelow n (has (b .sets .branch .words)) ≡ true → Value 0 at ≡ runs (furtherLoop n rows) k b b s at
   further-done e = rw (← turn-done (furtherLoop n rows) s k none b b at, e)
 
-  pub further-open : allBelow n (has (b .branch .words)) ≡ false → Fault 28 at ≡ runs (furtherLoop n rows) k b b s at
+  pub further-open : allBelow n (has (b .sets .branch .words)) ≡ false → Fault 28 at ≡ runs (furtherLoop n rows) k b b s at
   further-open e = rw (← turn-done (furtherLoop n rows) s k none b b at, e)
 
 -- the pairs of ends that the arrays name, k of them from i on
@@ -114,12 +105,6 @@ pairsFrom first last (suc k) i = (getD first i 0, getD last i 0) ∷ pairsFrom f
 abbrev pub startWith : List ℕ → List ℕ → ℕ → Build → BuildStart
 startWith first last k b = record { ends = pairsFrom first last k (6 - k); build = b }
 
-abbrev pub firsts : Four → List ℕ
-firsts f = f .p ∷ f .p ∷ f .p ∷ f .q ∷ f .q ∷ f .r ∷ []
-
-abbrev pub lasts : Four → List ℕ
-lasts f = f .q ∷ f .r ∷ f .s ∷ f .r ∷ f .s ∷ f .s ∷ []
-
 first-pair : (first last : List ℕ) (k : ℕ) → 0 < k → k ≤ 6
     → pairsFrom first last k (6 - k) ≡ (getD first (6 - k) 0, getD last (6 - k) 0) ∷ pairsFrom first last (k - 1) (6 - (k - 1))
 unfolding pairsFrom
@@ -130,41 +115,41 @@ first-pair first last (suc k) h i =
     rw (z, y)
 
 -- only the pair that comes next counts
-next-pair : (g : Graph) (u v : ℕ) (es : List (ℕ × ℕ)) (b : Build) (s : List ℕ) (at : ℕ) → startOn g (record { ends = (u, v) ∷ es; build = b }) s at ≡ startOn g (towards u v b) s at
+next-pair : (g : Graph) (l : Link) (es : List (ℕ × ℕ)) (b : Build) (s : List ℕ) (at : ℕ) → startOn g (record { ends = (l .a, l .b) ∷ es; build = b }) s at ≡ startOn g (towards l b) s at
 unfolding startOn
-next-pair g u v es b s at = refl
+next-pair g l es b s at = refl
 
 same-start : {es es′ : List (ℕ × ℕ)} {b b′ : Build} → es ≡ es′ → b ≡ b′ → _≡_ {A = BuildStart} (record { ends = es; build = b }) (record { ends = es′; build = b′ })
 same-start e f = rw (e, f)
 
 -- a turn over the paths of the start
-module _ (n : ℕ) (rows s first last : List ℕ) (b : Build) (at k : ℕ) {r : Taken} {before after linked : List ℕ}
-    (low : n ≤ capacity) (some : 0 < k) (six : k ≤ 6)
-    (h : Leaves n (λ b. startOn (rowsGraph n rows) (towards (getD first (6 - k) 0) (getD last (6 - k) 0) b)) entered b s at r before after linked) where
-  tested-next : startOn (rowsGraph n rows) (startWith first last k b) s at ≡ startOn (rowsGraph n rows) (towards (getD first (6 - k) 0) (getD last (6 - k) 0) b) s at
+module _ (n : ℕ) (rows s first last : List ℕ) (b : Build) (at k : ℕ) {r : Taken} {pointers linked : List ℕ}
+    (low : n ≤ capacity) (some : 0 < k) (six : k ≤ 6) {l : Link} (ends : l ≡ pairAt first last (6 - k))
+    (h : Leaves n (λ b. startOn (rowsGraph n rows) (towards l b)) entered b s at r pointers linked) where
+  tested-next : startOn (rowsGraph n rows) (startWith first last k b) s at ≡ startOn (rowsGraph n rows) (towards l b) s at
   tested-next =
       ap (λ (es : List (ℕ × ℕ)). startOn (rowsGraph n rows) (record { ends = es; build = b }) s at) (first-pair first last k some six)
-      ∙ next-pair (rowsGraph n rows) (getD first (6 - k) 0) (getD last (6 - k) 0) (pairsFrom first last (k - 1) (6 - (k - 1))) b s at
+      ∙ next-pair (rowsGraph n rows) (pairAt first last (6 - k)) (pairsFrom first last (k - 1) (6 - (k - 1))) b s at
+      ∙ ap (λ (l : Link). startOn (rowsGraph n rows) (towards l b) s at) (sym ends)
 
   pub start-stop : {q p : ℕ} → r .end ≡ Fault q p → noStart (r .end) ≡ runs (startLoop n rows) k (startWith first last k b) (startWith first last k b) s at
   start-stop f = ap noStart f ∙ turn-stop (startLoop n rows) s k some (startWith first last k b) (startWith first last k b) at (tested-next ∙ left-bad low h f)
 
-  pub start-go : {v next : ℕ} → r .end ≡ Value v next → Long (b .before) (b .after)
-      → (Long before after) × (runs (startLoop n rows) (k - 1) (startWith first last (k - 1) (buildIn (b .branch) (r .built) before after linked)) (startWith first last (k - 1) (buildIn (b .branch) (r .built) before after linked)) s next
-      ≡ runs (startLoop n rows) k (startWith first last k b) (startWith first last k b) s at)
-  start-go f l =
+  pub start-go : {v next : ℕ} → r .end ≡ Value v next
+      → runs (startLoop n rows) (k - 1) (startWith first last (k - 1) (buildIn (r .sets) pointers linked)) (startWith first last (k - 1) (buildIn (r .sets) pointers linked)) s next
+      ≡ runs (startLoop n rows) k (startWith first last k b) (startWith first last k b) s at
+  start-go f =
       let t = left-got low h f in
       let e : pairsFrom first last (k - 1) (6 - (k - 1)) ≡ laterEnds (pairsFrom first last k (6 - k)) = ap laterEnds (sym (first-pair first last k some six)) in
-      let same : b .branch ≡ r .branch = ap (λ (x : Build). x .branch) (sym (t .1 .1)) in
-      let g = same-start e (same-build same refl refl refl refl ∙ t .1 .1) in
+      let g = same-start e (t .1 .1) in
       let st = startWith first last k b in
-      (entered-long b b (t .0) (t .1 .1) refl refl l, turn-go (startLoop n rows) s k some st st (tested-next ∙ t .1 .0) g g)
+      turn-go (startLoop n rows) s k some st st (tested-next ∙ t .1 .0) g g
 
 -- where the loop begins
 pub four-set : {e a b c d : VertexSet} (p q r s : ℕ) → e ≡ emptySet → a ≡ inserted e p → b ≡ inserted a q → c ≡ inserted b r → d ≡ inserted c s → d ≡ fourSet (p, (q, (r, s)))
 four-set p q r s f g h i j = rw (j, i, h, g, f)
 
-pub start-begun : (n : ℕ) (rows s : List ℕ) (from : ℕ) (f : Four) (set : VertexSet) → set ≡ fourSet (fourOf f)
-    → runs (startLoop n rows) 6 (startWith (firsts f) (lasts f) 6 (bareBuild set)) (startWith (firsts f) (lasts f) 6 (bareBuild set)) s from ≡ runs (startLoop n rows) 6 (startOf (fourOf f)) (startOf (fourOf f)) s from
+pub start-begun : (n : ℕ) (rows s : List ℕ) (from : ℕ) (f : Four) {set : VertexSet} {b : Build} → set ≡ fourSet (fourOf f) → b ≡ bareBuild set
+    → runs (startLoop n rows) 6 (startWith (firsts f) (lasts f) 6 b) (startWith (firsts f) (lasts f) 6 b) s from ≡ runs (startLoop n rows) 6 (startOf (fourOf f)) (startOf (fourOf f)) s from
 unfolding pairsFrom
-start-begun n rows s from f set e = ap (λ (x : VertexSet). runs (startLoop n rows) 6 (startWith (firsts f) (lasts f) 6 (bareBuild x)) (startWith (firsts f) (lasts f) 6 (bareBuild x)) s from) e
+start-begun n rows s from f e g = ap (λ (b : Build). runs (startLoop n rows) 6 (startWith (firsts f) (lasts f) 6 b) (startWith (firsts f) (lasts f) 6 b) s from) (g ∙ ap bareBuild e)

@@ -1,4 +1,2 @@
-pub mod Ends
 pub mod State
 pub mod Code
-pub mod Session

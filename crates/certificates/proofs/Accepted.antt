@@ -16,11 +16,11 @@ use Rattle.record.proofs.Parts.{one-value}
 use Rattle.connectivity.specs.Lists.{In}
 use Rattle.connectivity.specs.Graph.{Graph, Simple, edgeCount}
 use Rattle.connectivity.specs.Path.{Path, vertices}
-use Rattle.connectivity.specs.Build.{taken, final}
+use Rattle.connectivity.specs.Build.{taken, final, furtherCount}
 use Rattle.connectivity.specs.Certificate.{Certificate, Certificate.separation, Certificate.tree, Certificate.ears, Certificate.build, kind, Rules, Separation, TreeRules, EarRules, BuildRules}
 use Rattle.connectivity.proofs.Lists.{bool?}
 use Rattle.certificates.specs.Tests.{nobody, with, earTaken}
-use Rattle.certificates.specs.Records.{firstEar, laterEars, furtherCount, body, certificate}
+use Rattle.certificates.specs.Records.{firstEar, laterEars, body, certificate}
 use Rattle.certificates.specs.Encoding.{sideBytes, pathBytes, bodyBytes, certificateBytes}
 use Rattle.certificates.proofs.Decide.{Decides, decide-same, decide-or, decide-less, decide-most, decide-within, decide-all, decide-member}
 use Rattle.certificates.proofs.Sides.{decided-law, count-law, vertex-law, decide-nobody, decide-with, side-law}
@@ -103,7 +103,7 @@ module _ (g : Graph) (simple : Simple g) (few : g .n < numberLimit) where
       off (build p q r s ps qs) o = absurd (omega arith)
   body-law (suc (suc (suc zero))) h = into-law
       (same-law
-      (pair-law (start-law g simple few) (λ x. pair-law (many-law taken (further-path-law g simple few) (furtherCount g) (x .1)) (λ further.
+      (pair-law (start-law g simple few) (λ x. pair-law (many-law taken (further-path-law g simple few) (furtherCount (edgeCount g) (g .n)) (x .1)) (λ further.
       checked-law 28 (decide-all (decide-branch (final (x .1) further)) (g .n)))))
       (λ a o. record { first = o .0; enough = h (omega arith); count = o .1 .0 .0; steps = each-steps g (a .0 .1) (a .1 .0) (o .1 .0 .1); all-branch = o .1 .1 })
       (λ a r. (r .first, ((r .count, steps-each g (a .0 .1) (a .1 .0) (r .steps)), r .all-branch))))

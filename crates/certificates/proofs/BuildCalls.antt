@@ -12,10 +12,10 @@ use Rattle.record.proofs.Groups.{number-law}
 use Rattle.record.proofs.Parts.{part-there, part-back, Calls, spans-length, calls-there, calls-back}
 use Rattle.connectivity.specs.Graph.{Graph, Simple, edgeCount}
 use Rattle.connectivity.specs.Path.{Path}
-use Rattle.connectivity.specs.Build.{taken, final}
+use Rattle.connectivity.specs.Build.{taken, final, furtherCount}
 use Rattle.connectivity.specs.Certificate.{Certificate.build}
 use Rattle.certificates.specs.Tests.{allBelow, isBranch}
-use Rattle.certificates.specs.Records.{furtherPath, furtherCount, start, certificate}
+use Rattle.certificates.specs.Records.{furtherPath, start, certificate}
 use Rattle.certificates.specs.Encoding.{startBytes}
 use Rattle.certificates.proofs.Decide.{decide-all}
 use Rattle.certificates.proofs.Paths.{further-path-law}
@@ -30,7 +30,7 @@ pub record BuildCalls (g : Graph) (s : List ℕ) (p q r t : ℕ) (six further : 
   pub started : start g (drop 1 s) 0 ≡ Got ((p, (q, (r, t))), six) first
   pub more : ℕ
   pub paths : Calls (furtherPath g) taken six (drop (1 + first) s) further more
-  pub count : length further ≡ furtherCount g
+  pub count : length further ≡ furtherCount (edgeCount g) (g .n)
   pub closed : allBelow (g .n) (isBranch (final six further)) ≡ true
   pub end : next ≡ 1 + first + more
 

@@ -8,7 +8,7 @@ use Rattle.record.specs.Number.{number}
 use Rattle.connectivity.specs.Lists.{member}
 use Rattle.connectivity.specs.Graph.{Graph, edgeCount}
 use Rattle.connectivity.specs.Path.{Path, link}
-use Rattle.connectivity.specs.Build.{four, sixPairs, taken, final}
+use Rattle.connectivity.specs.Build.{four, sixPairs, taken, final, furtherCount}
 use Rattle.connectivity.specs.Certificate.{Certificate, Certificate.separation, Certificate.tree, Certificate.ears, Certificate.build}
 use Rattle.certificates.specs.Tests.{nobody, with, allBelow, bothHold, noEdgeBetween, pathAlong, pathNew, earAlong, earEnds, earNew, earTaken, Start, startEnds, startTaken, isBranch, inBuild, endsIn, endsApart}
 
@@ -65,10 +65,6 @@ abbrev pub laterEars : List Path → List Path
 laterEars [] = []
 laterEars (P ∷ ps) = ps
 
--- how many further paths a certificate of kind 3 has
-abbrev pub furtherCount : Graph → ℕ
-furtherCount g = edgeCount g - g .n - 2
-
 -- a start: four ascending branch vertices, then the six paths between them
 unfoldable pub branchFour : ℕ → Reader (ℕ × (ℕ × (ℕ × ℕ)))
 branchFour n = vertex n ▸ λ p. vertex n needs⟨ 20 ⟩ leb (suc p) ▸ λ q. vertex n needs⟨ 20 ⟩ leb (suc q) ▸ λ r. vertex n needs⟨ 20 ⟩ leb (suc r)
@@ -98,7 +94,7 @@ body g (suc (suc zero)) =
     side g (with (with nobody c) d))
 body g (suc (suc (suc zero))) =
     into (λ x. build (x .0 .0 .0) (x .0 .0 .1 .0) (x .0 .0 .1 .1 .0) (x .0 .0 .1 .1 .1) (x .0 .1) (x .1 .0))
-    (start g ▸ λ x. many (furtherPath g) taken (furtherCount g) (x .1) ▸ λ further.
+    (start g ▸ λ x. many (furtherPath g) taken (furtherCount (edgeCount g) (g .n)) (x .1) ▸ λ further.
     check 28 (allBelow (g .n) (isBranch (final (x .1) further))))
 body g (suc (suc (suc (suc k)))) = λ s at. Refused 8 at
 

@@ -1,5 +1,5 @@
 -- The answer beside the rows of an accepted plan's graph is the definition's answer beside the plan. Assumes nothing.
-use Prim.Native.Nat.{ℕ, zero, suc, _+_, _-_, _<_, _≤_}
+use Prim.Native.Nat.{ℕ, zero, suc, _+_, _<_, _≤_}
 use mathlib.Core.List.{List}
 use mathlib.Core.Bool.{Bool, true, false, cond, _||_, _&&_}
 use mathlib.Core.Path.{_≡_, refl, sym, ap, _∙_}
@@ -16,6 +16,7 @@ use Rattle.record.proofs.Laws.{Spans, Spans.none, Spans.more, on-got, carry, en
 use Rattle.connectivity.specs.Graph.{Graph, edgeCount}
 use Rattle.connectivity.specs.Certificate.{Certificate, kind, grade}
 use Rattle.connectivity.proofs.Soundness.{grade-kind}
+use Rattle.connectivity.specs.Build.{furtherCount}
 use Rattle.reading.specs.Plan.{Plan, Allowed, plan}
 use Rattle.reading.specs.Code.{graphOf, planRead, wholePlan, leadingPlan}
 use Rattle.reading.specs.declared.PlanRead.{PlanRead}
@@ -123,7 +124,7 @@ module _ (g : Graph) (m : ℕ) (s : List ℕ) (at : ℕ) where
   unfolding bodyEnd
   kind-body-2 k e = rw e
 
-  pub kind-body-3 : (k : ℕ) → 3 ≤ k → endRead (buildBody g (m - g .n - 2) s at) ≡ bodyEnd g m k s at
+  pub kind-body-3 : (k : ℕ) → 3 ≤ k → endRead (buildBody g (furtherCount m (g .n)) s at) ≡ bodyEnd g m k s at
   unfolding bodyEnd
   kind-body-3 zero h = absurd (omega arith)
   kind-body-3 (suc zero) h = absurd (omega arith)

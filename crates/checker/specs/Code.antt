@@ -1,5 +1,5 @@
 -- What the checker's inner functions give, on the rows of a graph.
-use Prim.Native.Nat.{ℕ, zero, suc, _+_, _-_}
+use Prim.Native.Nat.{ℕ, zero, suc, _+_}
 use mathlib.Core.List.{List}
 use mathlib.Core.Bool.{cond, _||_}
 use lib.Dec.{ltb, leb}
@@ -9,6 +9,7 @@ use Rattle.record.specs.Number.{number}
 use Rattle.record.specs.declared.Answer.{Answer}
 use Rattle.record.specs.declared.Answer.the-variants.{Grade, CertificateFault}
 use Rattle.connectivity.specs.Graph.{Graph}
+use Rattle.connectivity.specs.Build.{furtherCount}
 use Rattle.certificates.specs.Records.{body}
 use Rattle.paths.specs.Items.{endRead}
 use Rattle.paths.specs.declared.Item.{Item}
@@ -20,7 +21,7 @@ unfoldable pub bodyEnd : Graph → ℕ → ℕ → List ℕ → ℕ → Item
 bodyEnd g m zero s at = endRead (body g 0 s at)
 bodyEnd g m (suc zero) s at = endRead (body g 1 s at)
 bodyEnd g m (suc (suc zero)) s at = endRead (body g 2 s at)
-bodyEnd g m (suc (suc (suc k))) s at = endRead (buildBody g (m - g .n - 2) s at)
+bodyEnd g m (suc (suc (suc k))) s at = endRead (buildBody g (furtherCount m (g .n)) s at)
 
 -- after the body nothing may be left
 abbrev pub onEnd : ℕ → ℕ → Item → Answer

@@ -1,6 +1,6 @@
 // The checker: a plan record and a certificate record in, an answer out.
 ghost use mathlib.Core.Path.{_≡_};
-ghost use Prim.Native.Nat.{_≤_, _<_, _-_, _+_};
+ghost use Prim.Native.Nat.{_≤_, _<_, _+_};
 ghost use mathlib.Core.Bool.{_||_};
 ghost use lib.Dec.{ltb, leb};
 ghost use Rattle.vertexset.specs.Set.{capacity};
@@ -17,17 +17,6 @@ pub struct Graded {
     pub answer: Answer,
     pub n: u16,
     pub m: u16,
-}
-
-// How many further paths a certificate of kind 3 has.
-fn further_count(n: u16, m: u16) -> u16
-    requires { ⌜ n ≤ capacity ⌝ }
-    ensures { λ r. ⌜ r ≡ m - n - 2 ⌝ }
-{
-    if m < n + 2 {
-        return 0;
-    }
-    m - n - 2
 }
 
 // Kind 3 asks for at least n + 2 edges.
@@ -62,7 +51,7 @@ fn read_body<'a>(
     if k == 2 {
         return ears::read_ears(s, rows, n, at);
     }
-    build::read_build(s, rows, n, further_count(n, m), at)
+    build::read_build(s, rows, n, build::further_count(m, n), at)
 }
 
 fn ended(len: usize, k: u16, end: Item) -> Answer

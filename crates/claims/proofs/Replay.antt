@@ -15,17 +15,17 @@ use Rattle.record.proofs.Laws.{ended-back, carry}
 use Rattle.record.proofs.Parts.{Calls, Calls.no-call, Calls.call}
 use Rattle.connectivity.specs.Path.{Path}
 use Rattle.connectivity.specs.Build.{taken, final}
-use Rattle.connectivity.specs.Certificate.{Certificate, Certificate.separation, Certificate.tree, Certificate.ears, Certificate.build, grade}
+use Rattle.connectivity.specs.Certificate.{Certificate, Certificate.separation, Certificate.tree, Certificate.ears, Certificate.build, grade, kind}
 use Rattle.reading.specs.Plan.{Plan, Allowed, planBytes}
 use Rattle.reading.specs.Code.{graphOf}
 use Rattle.reading.proofs.Plans.{plan-law}
 use Rattle.certificates.specs.Tests.{allBelow, isBranch}
 use Rattle.certificates.specs.Records.{start, furtherPath, certificate}
 use Rattle.certificates.proofs.BuildCalls.{accepted-calls, calls-accepted}
-use Rattle.build.specs.declared.Session.{Session}
-use Rattle.build.specs.declared.Opened.{Opened}
-use Rattle.build.specs.declared.Stepped.{Stepped}
-use Rattle.build.specs.Session.{openedOn, onOpening, opening, onStart, startStep, onPath, pathStep}
+use Rattle.sessions.specs.declared.Session.{Session}
+use Rattle.sessions.specs.declared.Opened.{Opened}
+use Rattle.sessions.specs.declared.Stepped.{Stepped}
+use Rattle.sessions.specs.Session.{openedOn, onOpening, opening, onStart, startStep, onPath, pathStep}
 use Rattle.checker.specs.Check.{planGraph, onCertificate, onPlan, checkOf, certificateAnswer}
 use Rattle.claims.specs.Calls.{Finishes, sessionOn, Replayed}
 use Rattle.claims.proofs.Checking.{plan-simple, plan-few, on-certificate}

@@ -34,8 +34,11 @@ use Rattle.paths.specs.Items.{limited}
 use Rattle.build.specs.declared.Session.{Session}
 use Rattle.build.specs.declared.Opened.{Opened}
 use Rattle.build.specs.declared.Stepped.{Stepped}
+use Rattle.sessions.specs.declared.Session.{Session}
+use Rattle.sessions.specs.declared.Opened.{Opened}
+use Rattle.sessions.specs.declared.Stepped.{Stepped}
 use Rattle.build.specs.State.{buildStart, buildPath}
-use Rattle.build.specs.Session.{noSession, openedOn, onOpening, opening, refusedStep, onStart, startStep, onPath, pathCount, pathStep, closeStep}
+use Rattle.sessions.specs.Session.{noSession, openedOn, onOpening, opening, refusedStep, onStart, startStep, onPath, pathCount, pathStep, closeStep}
 use Rattle.refinement.proofs.Shows.{Shows}
 use Rattle.refinement.proofs.Start.{start-same, shows-start}
 use Rattle.refinement.proofs.Reading.{shows-path, shows-read}

@@ -10,6 +10,9 @@ use Rattle.reading.specs.Plan.{Plan, planBytes}
 use Rattle.build.specs.declared.Session.{Session}
 use Rattle.build.specs.declared.Stepped.{Stepped}
 use Rattle.build.specs.Session.{opening, startStep, pathStep, closeStep, startRest, pathRest}
+use Rattle.sessions.specs.declared.Session.{Session}
+use Rattle.sessions.specs.declared.Stepped.{Stepped}
+use Rattle.sessions.specs.Session.{opening, startStep, pathStep, closeStep, startRest, pathRest}
 
 pub data Call : Type 0 where
   start : (part : List ℕ) → Call

@@ -9,8 +9,8 @@ use Rattle.connectivity.specs.Lists.{NoDup, In}
 use Rattle.connectivity.specs.Graph.{Graph, HasConnectivity, Simple, Separator, Adj, edges, edgeCount}
 use Rattle.connectivity.specs.Connectivity.{connectivity}
 use Rattle.connectivity.specs.Path.{Path, vertices, usedEdges}
-use Rattle.connectivity.specs.Build.{StartRules, Steps, IsBranch, final, SimpleBuild, EachEdgeOnce}
-use Rattle.connectivity.specs.Certificate.{Separation, Tree, Cycle, Ears, inside, BuildRules, Certificate, Rules, grade}
+use Rattle.connectivity.specs.Build.{StartRules, Steps, IsBranch, final, SimpleBuild, EachEdgeOnce, furtherCount}
+use Rattle.connectivity.specs.Certificate.{Separation, Tree, Cycle, Ears, inside, BuildRules, Certificate, Rules, grade, kind}
 use Rattle.connectivity.proofs.Lists.{either, below?}
 use Rattle.connectivity.proofs.Separators.{connectivity-unique}
 use Rattle.connectivity.proofs.Closure.{has-connectivity, connectivity-is, connectivity-has}
@@ -60,7 +60,7 @@ module _ (g : Graph) (p : Simple g) where
     simple-at-each ps qs e = build-simple g p start ps (start-subdivision g a b c d start rules) (append-steps (Adj g) start ps qs (rw e at steps) .0)
 
     -- THE NUMBER OF FURTHER PATHS IS m - n - 2 (EdgeUse) where every vertex is a branch vertex and every edge is used.
-    pub further-count : ((z : ℕ) → z < g .n → IsBranch z (final start further)) → ((e : ℕ × ℕ) → In e (edges g) → In e (usedEdges (start ++ further))) → length further ≡ (edgeCount g - g .n) - 2
+    pub further-count : ((z : ℕ) → z < g .n → IsBranch z (final start further)) → ((e : ℕ × ℕ) → In e (edges g) → In e (usedEdges (start ++ further))) → length further ≡ furtherCount (edgeCount g) (g .n)
     further-count all-branch used = omega (arith, build-count g p start further (start-subdivision g a b c d start rules) steps all-branch (λ e h. used-final start further e (used e h)))
 
   -- EVERY EDGE IS USED JUST ONCE by a build that keeps the rules (EdgeUse).

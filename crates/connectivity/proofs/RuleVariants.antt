@@ -7,7 +7,7 @@ use lib.ListN.{length}
 use Rattle.connectivity.specs.Lists.{In}
 use Rattle.connectivity.specs.Graph.{Graph, Adj, edgeCount}
 use Rattle.connectivity.specs.Path.{Path, vertices, IsPath}
-use Rattle.connectivity.specs.Build.{InBuild, IsBranch, StartRules, BGPath, taken, Steps, final}
+use Rattle.connectivity.specs.Build.{InBuild, IsBranch, StartRules, BGPath, taken, Steps, final, furtherCount}
 use Rattle.connectivity.specs.Certificate.{Separation, Cycle, Ears, inside, EarRules, BuildRules, Certificate, Rules}
 use Rattle.connectivity.proofs.Checks.{Check, both, either, giving, holds, equal, less, atMost, isIn, notIn, each, eachBelow, isPath, inBuild, isBranch, startRules, cycle, ears, separation, treeRules}
 
@@ -29,7 +29,7 @@ StepsBy F links (P ∷ ps) = F links P × StepsBy F (taken links P) ps
 pub record BuildRulesBy (ForPath : Graph → List Path → Path → Type 0) (AtEnd : ℕ → List Path → Type 0) (g : Graph) (p q r s : ℕ) (start further : List Path) : Type 0 where
   pub first : StartRules g p q r s start
   pub enough : g .n + 2 ≤ edgeCount g
-  pub count : length further ≡ (edgeCount g - g .n) - 2
+  pub count : length further ≡ furtherCount (edgeCount g) (g .n)
   pub steps : StepsBy (ForPath g) start further
   pub all-end : (z : ℕ) → z < g .n → AtEnd z (final start further)
 
@@ -76,7 +76,7 @@ stepsBy F f links (P ∷ ps) = both (f links P) (stepsBy F f (taken links P) ps)
 module _ (F : Graph → List Path → Path → Type 0) (Z : ℕ → List Path → Type 0) (g : Graph) (p q r s : ℕ) (start further : List Path) where
   abbrev pub buildRulesBy : ((links : List Path) (P : Path) → Check (F g links P)) → ((z : ℕ) (links : List Path) → Check (Z z links)) → Check (BuildRulesBy F Z g p q r s start further)
   buildRulesBy f z =
-      giving (both (both (startRules g p q r s start) (both (atMost (g .n + 2) (edgeCount g)) (equal (length further) ((edgeCount g - g .n) - 2))))
+      giving (both (both (startRules g p q r s start) (both (atMost (g .n + 2) (edgeCount g)) (equal (length further) (furtherCount (edgeCount g) (g .n)))))
       (both (stepsBy (F g) f start further) (eachBelow (λ x. Z x (final start further)) (g .n) (λ x. z x (final start further)))))
       (λ r. record { first = r .0 .0; enough = r .0 .1 .0; count = r .0 .1 .1; steps = r .1 .0; all-end = r .1 .1 })
 

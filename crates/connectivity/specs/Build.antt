@@ -2,7 +2,7 @@
 use mathlib.Core.Path.{_≡_}
 use mathlib.Core.List.{List, _∷_, [], _++_}
 use mathlib.Core.Bool.{cond}
-use Prim.Native.Nat.{ℕ, _<_}
+use Prim.Native.Nat.{ℕ, _-_, _<_}
 use lib.Dec.{eqb}
 use Rattle.connectivity.specs.Lists.{In, member, NoDup}
 use Rattle.connectivity.specs.Graph.{Graph, Adj, edges}
@@ -81,6 +81,10 @@ Steps E links (P ∷ ps) = BGPath E links P × Steps E (taken links P) ps
 abbrev pub final : List Path → List Path → List Path
 final links [] = links
 final links (P ∷ ps) = final (taken links P) ps
+
+-- How many further paths a finished build has, beside m edges and n vertices.
+abbrev pub furtherCount : ℕ → ℕ → ℕ
+furtherCount m n = m - n - 2
 
 -- The built graph is simple: no two links have the same two ends, and an inner vertex is inside one link, once, and no end.
 abbrev pub linkEnds : List Path → List (ℕ × ℕ)

@@ -6,7 +6,7 @@ use lib.ListN.{length}
 use Rattle.connectivity.specs.Lists.{In, Ascending}
 use Rattle.connectivity.specs.Graph.{Graph, Remaining, Adj, edgeCount}
 use Rattle.connectivity.specs.Path.{Path, IsPath, vertices}
-use Rattle.connectivity.specs.Build.{StartRules, Steps, IsBranch, final}
+use Rattle.connectivity.specs.Build.{StartRules, Steps, IsBranch, final, furtherCount}
 
 -- A separation: a side (document 01's word too), ascending, and the rest, which is every vertex neither removed (lost) nor
 -- in the side; each holds a vertex, and no edge runs between the two.
@@ -68,7 +68,7 @@ pub record EarRules (g : Graph) (c d : ℕ) (P : Path) (es : List Path) (S : Lis
 pub record BuildRules (g : Graph) (p q r s : ℕ) (start further : List Path) : Type 0 where
   pub first : StartRules g p q r s start
   pub enough : g .n + 2 ≤ edgeCount g
-  pub count : length further ≡ (edgeCount g - g .n) - 2
+  pub count : length further ≡ furtherCount (edgeCount g) (g .n)
   pub steps : Steps (Adj g) start further
   pub all-branch : (z : ℕ) → z < g .n → IsBranch z (final start further)
 

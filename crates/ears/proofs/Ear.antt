@@ -1,5 +1,5 @@
 -- Reading and testing one ear. Assumes nothing.
-use Prim.Native.Nat.{ℕ, zero, suc, _-_, _<_, _≤_}
+use Prim.Native.Nat.{ℕ}
 use mathlib.Core.List.{List}
 use mathlib.Core.Bool.{Bool, true, false, cond, _&&_, _||_, not}
 use mathlib.Core.Path.{_≡_, refl, sym, ap, _∙_}
@@ -68,14 +68,3 @@ pick-true x y e = rw e
 
 pub pick-false : {A : Type 0} {b : Bool} (x y : A) → b ≡ false → y ≡ cond b x y
 pick-false x y e = rw e
-
--- one vertex less to test, and none
-pub all-none : (t : ℕ → Bool) (v : ℕ) → v ≤ 0 → true ≡ allBelow v t
-unfolding allBelow
-all-none t zero h = refl
-all-none t (suc v) h = absurd (omega arith)
-
-pub all-step : (t : ℕ → Bool) (v : ℕ) → 0 < v → allBelow v t ≡ (t (v - 1) && allBelow (v - 1) t)
-unfolding allBelow
-all-step t zero h = absurd (omega arith)
-all-step t (suc v) h = let z : suc v - 1 ≡ v = omega arith in rw z

@@ -92,20 +92,6 @@ fn read_ear(s: &[u8], rows: &[u64; GraphTable::ROW_WORDS], n: u16, ears: Ears, a
     ears.tested(rows, p, at, next)
 }
 
-// Every vertex below n is in the set.
-fn all_below(set: VertexSet, n: u16) -> bool
-    ensures { λ r. ⌜ r ≡ allBelow n (has (set .words)) ⌝ }
-{
-    let mut v = n;
-    while 0 < v {
-        v -= 1;
-        if !set.contains(v) {
-            return false;
-        }
-    }
-    true
-}
-
 // As many ears as are counted, and then every vertex is in.
 fn read_all_ears(
     s: &[u8],
@@ -131,7 +117,7 @@ fn read_all_ears(
         left -= 1;
     }
     let set = ears.set;
-    if all_below(set, n) {
+    if paths::all_below(set, n) {
         return Item::Value(0, at);
     }
     Item::Fault(28, at)

@@ -1,8 +1,8 @@
-// A graph by value: rows of bits, one for each vertex; two vertices are joined in them, or found adjacent.
+// A graph by value: rows of bits, one for each vertex; two vertices are joined or parted in them, or found adjacent.
 ghost use mathlib.Core.Path.{_≡_};
 ghost use Prim.Native.Nat.{_+_, _*_, _<_};
 ghost use Rattle.vertexset.specs.Set.{withBit, capacity};
-ghost use Rattle.graph.specs.Rows.{adjacentIn, rowOf, noGraph, joinedRows};
+ghost use Rattle.graph.specs.Rows.{adjacentIn, rowOf, noGraph, joinedRows, withoutBit, partedRows};
 use vertexset::VertexSet;
 
 // n vertices, m edges, and for each vertex a row of bits: the vertices adjacent to it.
@@ -85,4 +85,27 @@ pub fn join(rows: &mut [u64; GraphTable::ROW_WORDS], u: u16, v: u16)
     }
     set_bit(rows, u, v);
     set_bit(rows, v, u);
+}
+
+fn clear_bit(rows: &mut [u64; GraphTable::ROW_WORDS], u: u16, v: u16)
+    requires { ⌜ (u < capacity) × (v < capacity) ⌝ }
+    ensures { λ r. ⌜ now (rows .exit) ≡ withoutBit (now (rows .entry)) (u * capacity + v) ⌝ }
+{
+    let i = u as usize * VertexSet::WORDS + (v / 64) as usize;
+    let w = rows[i];
+    rows[i] = w ^ (w & (1u64 << (v % 64)));
+}
+
+// Two vertices are parted in a table of rows; a number past the vertices parts nothing.
+pub fn part(rows: &mut [u64; GraphTable::ROW_WORDS], u: u16, v: u16)
+    ensures { λ r. ⌜ now (rows .exit) ≡ partedRows (now (rows .entry)) u v ⌝ }
+{
+    if VertexSet::CAPACITY <= u {
+        return;
+    }
+    if VertexSet::CAPACITY <= v {
+        return;
+    }
+    clear_bit(rows, u, v);
+    clear_bit(rows, v, u);
 }

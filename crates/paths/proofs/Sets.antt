@@ -1,8 +1,9 @@
--- The vertices of a path as a set. Assumes nothing.
-use Prim.Native.Nat.{ℕ, _*_, _<_}
+-- The vertices of a path as a set, and a test of all vertices. Assumes nothing.
+use Prim.Native.Nat.{ℕ, zero, suc, _*_, _-_, _<_, _≤_}
 use mathlib.Core.List.{List, [], _∷_}
-use mathlib.Core.Bool.{Bool, _||_, or-false, or-assoc}
+use mathlib.Core.Bool.{Bool, true, _&&_, _||_, or-false, or-assoc}
 use mathlib.Core.Path.{_≡_, refl, sym, ap, _∙_}
+use native.Mathlib.Omega.{arith}
 use lib.ListN.{length}
 use lib.Dec.{eqb}
 use Rattle.record.specs.Read.{folded}
@@ -11,6 +12,7 @@ use Rattle.vertexset.specs.Set.{has, emptySet, inserted, wordCount}
 use Rattle.vertexset.specs.declared.VertexSet.{VertexSet}
 use Rattle.vertexset.proofs.Laws.{empty-has, inserted-has, inserted-length}
 use Rattle.connectivity.specs.Lists.{member}
+use Rattle.certificates.specs.Tests.{allBelow}
 
 pub taken-length : (B : VertexSet) (l : List ℕ) → length (B .words) ≡ wordCount → length (folded inserted B l .words) ≡ wordCount
 unfolding folded
@@ -28,3 +30,14 @@ taken-has B (v ∷ l) x h q =
 
 pub listed-has : (l : List ℕ) (x : ℕ) → All (λ v. v < 64 * wordCount) l → has (folded inserted emptySet l .words) x ≡ member x l
 listed-has l x q = taken-has emptySet l x refl q ∙ ap (λ (f : ℕ → Bool). f x || member x l) empty-has
+
+-- one vertex less to test, and none
+pub all-none : (t : ℕ → Bool) (v : ℕ) → v ≤ 0 → true ≡ allBelow v t
+unfolding allBelow
+all-none t zero h = refl
+all-none t (suc v) h = absurd (omega arith)
+
+pub all-step : (t : ℕ → Bool) (v : ℕ) → 0 < v → allBelow v t ≡ (t (v - 1) && allBelow (v - 1) t)
+unfolding allBelow
+all-step t zero h = absurd (omega arith)
+all-step t (suc v) h = let z : suc v - 1 ≡ v = omega arith in rw z

@@ -6,6 +6,7 @@ ghost use Rattle.record.specs.Read.{_needs⟨_⟩_, within};
 ghost use Rattle.record.specs.Loop.{runs};
 ghost use Rattle.vertexset.specs.Set.{has, capacity};
 ghost use Rattle.graph.specs.Rows.{adjacentIn};
+ghost use Rattle.certificates.specs.Tests.{allBelow};
 ghost use Rattle.certificates.specs.Records.{vertex, path};
 ghost use Rattle.paths.specs.Items.{itemRead, limited};
 ghost use Rattle.paths.specs.Paths.{pathRead, noPath};
@@ -203,6 +204,20 @@ fn read_path(
         return fault_path(y);
     };
     read_rest(s, rows, n, old, len, first, from)
+}
+
+// Every vertex below n is in the set.
+pub fn all_below(set: VertexSet, n: u16) -> bool
+    ensures { λ r. ⌜ r ≡ allBelow n (has (set .words)) ⌝ }
+{
+    let mut v = n;
+    while 0 < v {
+        v -= 1;
+        if !set.contains(v) {
+            return false;
+        }
+    }
+    true
 }
 
 // A path that may be a link: two vertices or more.

@@ -14,9 +14,9 @@ use Rattle.connectivity.proofs.Lists.{and-true, or-true, true-or, member-in, in
 use Rattle.connectivity.proofs.Paths.{both-ends, end-of, end-s, end-t, end-vertex, inner-in}
 use Rattle.certificates.specs.Tests.{anyLink, endsIn, endsApart, inBuild}
 use Rattle.build.specs.declared.Build.{Build}
-use Rattle.build.specs.declared.Addition.{Addition}
-use Rattle.build.specs.declared.Addition.the-variants.{Held, VertexVertex, EdgeVertex, EdgeEdge}
-use Rattle.build.specs.Ends.{linkEnd, sameLink, additionOf, held}
+use Rattle.links.specs.declared.Addition.{Addition}
+use Rattle.links.specs.declared.Addition.the-variants.{Held, VertexVertex, EdgeVertex, EdgeEdge}
+use Rattle.links.specs.Ends.{linkEnd, sameLink, additionOf, held}
 use Rattle.build.specs.State.{endOf, pathAddition}
 use Rattle.refinement.proofs.Tests.{iff-test, both-true, left-true, pair-tells, any-link, link-any, built-tells}
 use Rattle.refinement.proofs.Splits.{Joined}

@@ -6,11 +6,11 @@ use mathlib.Core.Path.{_≡_, refl, sym, ap, _∙_, fun-ext}
 use Rattle.record.specs.Read.{Read, Read.Got, Read.Refused, Reader, onRead, _▸_, into, many, check, folded}
 use Rattle.record.proofs.Loops.{then-same, many-same, many-kept}
 use Rattle.vertexset.specs.Set.{capacity}
-use Rattle.connectivity.specs.Graph.{Graph}
+use Rattle.connectivity.specs.Graph.{Graph, edgeCount}
 use Rattle.connectivity.specs.Path.{Path}
-use Rattle.connectivity.specs.Build.{taken, final}
+use Rattle.connectivity.specs.Build.{taken, final, furtherCount}
 use Rattle.certificates.specs.Tests.{allBelow, isBranch}
-use Rattle.certificates.specs.Records.{branchFour, startPaths, start, furtherPath, furtherCount, body}
+use Rattle.certificates.specs.Records.{branchFour, startPaths, start, furtherPath, body}
 use Rattle.paths.specs.Items.{endRead}
 use Rattle.build.specs.declared.Build.{Build}
 use Rattle.build.specs.State.{buildStart, startedBuild, buildPath, pathTaken, buildBody}
@@ -58,5 +58,5 @@ end-into {A} f R s at = go (R s at)
     go (Refused r p) = refl
 
 -- KIND 3
-pub kind-3 : (g : Graph) → g .n ≤ capacity → (s : List ℕ) (at : ℕ) → endRead (buildBody g (furtherCount g) s at) ≡ endRead (body g 3 s at)
-kind-3 g h s at = ap endRead (body-same g h (furtherCount g) s at) ∙ sym (end-into _ (linksBody g (furtherCount g)) s at)
+pub kind-3 : (g : Graph) → g .n ≤ capacity → (s : List ℕ) (at : ℕ) → endRead (buildBody g (furtherCount (edgeCount g) (g .n)) s at) ≡ endRead (body g 3 s at)
+kind-3 g h s at = ap endRead (body-same g h (furtherCount (edgeCount g) (g .n)) s at) ∙ sym (end-into _ (linksBody g (furtherCount (edgeCount g) (g .n))) s at)

@@ -22,7 +22,7 @@ use Rattle.connectivity.proofs.Paths.{ends-differ}
 use Rattle.certificates.specs.Tests.{pathAlong, pathNew, endsIn, endsApart, inBuild, each, distinct}
 use Rattle.certificates.specs.Records.{vertex, vertexList, path, linkOf, tailLink, furtherPath}
 use Rattle.build.specs.declared.Build.{Build}
-use Rattle.build.specs.Ends.{held}
+use Rattle.links.specs.Ends.{held}
 use Rattle.build.specs.State.{bothIn, buildPath, pathAddition, pathTaken}
 use Rattle.refinement.proofs.Tests.{distinct-tells, each-tells, built-tells}
 use Rattle.refinement.proofs.Shows.{Shows, everyEdge}
@@ -121,6 +121,6 @@ module _ (g : Graph) (links : List Path) (s : List ℕ) (at : ℕ) {P : Path} {n
 pub shows-path : (g : Graph) {b : Build} {links : List Path} → Shows b links → (s : List ℕ) (at : ℕ) → buildPath g b s at ≡ furtherPath g links s at
 unfolding buildPath furtherPath
 shows-path g {b} {links} sh s at =
-    needs-same (tested g (bothIn b) (has (b .built .words))) (tested g (endsIn links) (inBuild links)) 27 (λ P. not (held (pathAddition b P))) (endsApart links) s at
-    (tests-same g (bothIn b) (endsIn links) (has (b .built .words)) (inBuild links) (λ P. rw (sh .built (P .s), sh .built (P .t))) (sh .built) s at)
+    needs-same (tested g (bothIn b) (has (b .sets .built .words))) (tested g (endsIn links) (inBuild links)) 27 (λ P. not (held (pathAddition b P))) (endsApart links) s at
+    (tests-same g (bothIn b) (endsIn links) (has (b .sets .built .words)) (inBuild links) (λ P. rw (sh .built (P .s), sh .built (P .t))) (sh .built) s at)
     (λ P next e. let t = tests-tell g (endsIn links) (inBuild links) s at e in shows-apart sh P (t .fitting) (ends-differ P (t .is-path .nodup)))

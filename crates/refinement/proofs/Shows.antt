@@ -16,9 +16,9 @@ use Rattle.connectivity.proofs.Paths.{SamePair, end-or-inner, end-s, end-t, end
 use Rattle.connectivity.proofs.EdgeUse.{Tally, tally-simple}
 use Rattle.certificates.specs.Tests.{inBuild, isBranch}
 use Rattle.build.specs.declared.Build.{Build}
-use Rattle.build.specs.declared.Link.{Link}
-use Rattle.build.specs.declared.End.the-variants.{Branch, Inner}
-use Rattle.build.specs.Ends.{reach}
+use Rattle.links.specs.declared.Link.{Link}
+use Rattle.links.specs.declared.End.the-variants.{Branch, Inner}
+use Rattle.links.specs.Tables.{pointerCount, pointer, reach}
 use Rattle.build.specs.State.{endOf}
 use Rattle.refinement.proofs.Tests.{false-of, built-tells, branch-tells}
 use Rattle.refinement.proofs.Pointers.{Back, On, back-reach, on-reach}
@@ -30,10 +30,9 @@ everyEdge = record { n = capacity; adj = λ u v. true }
 
 -- the words and arrays have their lengths
 pub record Sizes (b : Build) : Type 0 where
-  pub branch : length (b .branch .words) ≡ wordCount
-  pub built : length (b .built .words) ≡ wordCount
-  pub before : length (b .before) ≡ capacity
-  pub after : length (b .after) ≡ capacity
+  pub branch : length (b .sets .branch .words) ≡ wordCount
+  pub built : length (b .sets .built .words) ≡ wordCount
+  pub pointers : length (b .pointers) ≡ pointerCount
 
 -- the table has a pair exactly where a link has these ends
 pub record Listed (linked : List ℕ) (links : List Path) : Type 0 where
@@ -41,8 +40,8 @@ pub record Listed (linked : List ℕ) (links : List Path) : Type 0 where
   pub tells : (u v : ℕ) → (adjacentIn linked u v ≡ true) ↔ Joined links u v
 
 -- the pointers run along each link
-abbrev pub Runs : List ℕ → List ℕ → List Path → Type 0
-Runs before after links = (L : Path) → In L links → Back before (L .s) (L .inner) × On after (L .inner) (L .t)
+abbrev pub Runs : List ℕ → List Path → Type 0
+Runs pointers links = (L : Path) → In L links → Back (pointer pointers 0) (L .s) (L .inner) × On (pointer pointers capacity) (L .inner) (L .t)
 
 abbrev pub AllLow : List ℕ → Type 0
 AllLow l = (w : ℕ) → In w l → w < capacity
@@ -50,10 +49,10 @@ AllLow l = (w : ℕ) → In w l → w < capacity
 -- THE BUILD SHOWS THE LINKS; `tally` is what the connectivity crate proves of the links after the start and after every step.
 pub record Shows (b : Build) (links : List Path) : Type 0 where
   pub sizes : Sizes b
-  pub branch : (v : ℕ) → has (b .branch .words) v ≡ isBranch links v
-  pub built : (v : ℕ) → has (b .built .words) v ≡ inBuild links v
+  pub branch : (v : ℕ) → has (b .sets .branch .words) v ≡ isBranch links v
+  pub built : (v : ℕ) → has (b .sets .built .words) v ≡ inBuild links v
   pub linked : Listed (b .linked) links
-  pub runs : Runs (b .before) (b .after) links
+  pub runs : Runs (b .pointers) links
   pub low : (L : Path) → In L links → AllLow (vertices L)
   pub steps : ℕ
   pub tally : Tally (Adj everyEdge) links steps
@@ -75,13 +74,13 @@ module _ {b : Build} {links : List Path} (sh : Shows b links) where
   pub sole-link : (L : Path) → In L links → (x : ℕ) → In x (L .inner) → Sole links x L
   sole-link L h x i = record { there = h; inside = i; only = λ M k j. sym (sh .tally .inner-once L M h k x i (inner-in x M j)); by-ends = λ M k e. same-ends M L k h e }
 
-  pub branch-shown : (v : ℕ) → (has (b .branch .words) v ≡ true) ↔ IsBranch v links
+  pub branch-shown : (v : ℕ) → (has (b .sets .branch .words) v ≡ true) ↔ IsBranch v links
   branch-shown v = (λ e. branch-tells links v .0 (sym (sh .branch v) ∙ e), λ r. sh .branch v ∙ branch-tells links v .1 r)
 
   pub not-inside : (v : ℕ) → IsBranch v links → (L : Path) → In L links → ¬ In v (L .inner)
   not-inside v r L h i = inner-not-end L (path-of L h) v i (rw (sh .tally .inner-once L (r .0) h (r .1) v i (end-vertex v (r .0) (r .2))) (r .2))
 
-  clear : (L : Path) → In L links → (w : ℕ) → In w (L .inner) → has (b .branch .words) w ≡ false
+  clear : (L : Path) → In L links → (w : ℕ) → In w (L .inner) → has (b .sets .branch .words) w ≡ false
   clear L h w i = false-of (λ e. not-inside w (branch-shown w .0 e) L h i)
 
   inner-length : (L : Path) → In L links → length (L .inner) ≤ capacity
@@ -93,10 +92,10 @@ module _ {b : Build} {links : List Path} (sh : Shows b links) where
 
   pub end-inner : (v : ℕ) (L : Path) → In L links → In v (L .inner) → endOf b v ≡ Inner v (ends L)
   end-inner v L h i =
-      let test = has (b .branch .words) in
+      let test = has (b .sets .branch .words) in
       let c = clear L h v i in
-      let s : reach (b .before) test capacity v ≡ L .s = back-reach (b .before) test (L .s) (L .inner) capacity (sh .runs L h .0) (clear L h) (branch-shown (L .s) .1 (L, h, inl refl)) (inner-length L h) v i in
-      let t : reach (b .after) test capacity v ≡ L .t = on-reach (b .after) test (L .inner) (L .t) capacity (sh .runs L h .1) (clear L h) (branch-shown (L .t) .1 (L, h, inr refl)) (inner-length L h) v i in
+      let s : reach (pointer (b .pointers) 0) test capacity v ≡ L .s = back-reach (pointer (b .pointers) 0) test (L .s) (L .inner) capacity (sh .runs L h .0) (clear L h) (branch-shown (L .s) .1 (L, h, inl refl)) (inner-length L h) v i in
+      let t : reach (pointer (b .pointers) capacity) test capacity v ≡ L .t = on-reach (pointer (b .pointers) capacity) test (L .inner) (L .t) capacity (sh .runs L h .1) (clear L h) (branch-shown (L .t) .1 (L, h, inr refl)) (inner-length L h) v i in
       rw (c, s, t)
 
   -- a vertex of the build is a branch vertex, or inside a link

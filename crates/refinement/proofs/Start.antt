@@ -46,7 +46,7 @@ sixOf b = sixPairs (b .0) (b .1 .0) (b .1 .1 .0) (b .1 .1 .1)
 record Beside (st : BuildStart) (t : Start) : Type 0 where
   ends : st .ends ≡ t .ends
   sizes : Sizes (st .build)
-  built : (v : ℕ) → has (st .build .built .words) v ≡ member v (t .built)
+  built : (v : ℕ) → has (st .build .sets .built .words) v ≡ member v (t .built)
   ends-in : (e : ℕ × ℕ) → In e (t .ends) → In (e .0) (t .built) × In (e .1) (t .built)
 
 -- a start path that was read
@@ -68,7 +68,7 @@ module _ (g : Graph) (t : Start) (s : List ℕ) (at : ℕ) {P : Path} {next : �
 
 item-same : (g : Graph) (st : BuildStart) (t : Start) → Beside st t → (s : List ℕ) (at : ℕ) → startOn g st s at ≡ startPath g t s at
 unfolding startOn startPath
-item-same g st t h s at = tests-same g (startEnds (st .ends)) (startEnds (t .ends)) (has (st .build .built .words)) (λ v. member v (t .built)) (λ P. ap (λ (l : List (ℕ × ℕ)). startEnds l P) (h .ends)) (h .built) s at
+item-same g st t h s at = tests-same g (startEnds (st .ends)) (startEnds (t .ends)) (has (st .build .sets .built .words)) (λ v. member v (t .built)) (λ P. ap (λ (l : List (ℕ × ℕ)). startEnds l P) (h .ends)) (h .built) s at
 
 item-kept : (g : Graph) → g .n ≤ capacity → (st : BuildStart) (t : Start) → Beside st t → (s : List ℕ) (at : ℕ) (P : Path) (next : ℕ) → startPath g t s at ≡ Got P next
     → Beside (startEntered st P) (startTaken t P)
@@ -88,12 +88,12 @@ item-kept g low st t h s at P next e = record {
     on : (v : ℕ) → In v (vertices P) → In v (P .inner ++ t .built)
     on v i = ⊎-elim (λ k. in-right v (P .inner) (t .built) (⊎-elim (λ z. rw z (own .0)) (λ z. rw z (own .1)) k)) (in-left v (P .inner) (t .built)) (end-or-inner P v i)
 
-    there : (v : ℕ) → (has (st .build .built .words) v || member v (vertices P)) ≡ true → member v (P .inner ++ t .built) ≡ true
+    there : (v : ℕ) → (has (st .build .sets .built .words) v || member v (vertices P)) ≡ true → member v (P .inner ++ t .built) ≡ true
     there v k = in-member v (P .inner ++ t .built) (⊎-elim (λ z. in-right v (P .inner) (t .built) (member-in v (t .built) (sym (h .built v) ∙ z))) (λ z. on v (member-in v (vertices P) z))
-        (or-true (has (st .build .built .words) v) (member v (vertices P)) k))
+        (or-true (has (st .build .sets .built .words) v) (member v (vertices P)) k))
 
-    back : (v : ℕ) → member v (P .inner ++ t .built) ≡ true → (has (st .build .built .words) v || member v (vertices P)) ≡ true
-    back v k = ⊎-elim (λ i. true-or (has (st .build .built .words) v) (member v (vertices P)) (in-member v (vertices P) (inner-in v P i))) (λ i. left-true (member v (vertices P)) (h .built v ∙ in-member v (t .built) i))
+    back : (v : ℕ) → member v (P .inner ++ t .built) ≡ true → (has (st .build .sets .built .words) v || member v (vertices P)) ≡ true
+    back v k = ⊎-elim (λ i. true-or (has (st .build .sets .built .words) v) (member v (vertices P)) (in-member v (vertices P) (inner-in v P i))) (λ i. left-true (member v (vertices P)) (h .built v ∙ in-member v (t .built) i))
         (in-append v (P .inner) (t .built) (member-in v (P .inner ++ t .built) k))
 
 -- four ascending vertices that were read
@@ -139,7 +139,7 @@ four-low n b h a w (inr (inr (inr (inr e)))) = absurd e
 
 bare-sizes : (b : Four) → Sizes (bareBuild (fourSet b))
 unfolding folded
-bare-sizes b = let l = members-length emptySet (fourOf b) refl in record { branch = l; built = l; before = refl; after = refl }
+bare-sizes b = let l = members-length emptySet (fourOf b) refl in record { branch = l; built = l; pointers = refl }
 
 -- each pair of the six is of two of the four
 six-four : (b : Four) (e : ℕ × ℕ) → In e (sixOf b) → In (e .0) (fourOf b) × In (e .1) (fourOf b)
@@ -218,7 +218,7 @@ in-onto (P ∷ ps) done L (inr i) = in-onto ps (P ∷ done) L (inr (inr i))
 record Carries (b : Build) (links : List Path) : Type 0 where
   sizes : Sizes b
   linked : Listed (b .linked) links
-  runs : Runs (b .before) (b .after) links
+  runs : Runs (b .pointers) links
 
 carries-more : (B : List ℕ) (ps done : List Path) (st : BuildStart) → Starts (Adj everyEdge) B ps → ((L : Path) → In L ps → AllLow (vertices L)) → ((L : Path) → In L done → (w : ℕ) → In w (L .inner) → In w B)
     → Carries (st .build) done → Carries (folded startEntered st ps .build) (onto ps done)
@@ -229,7 +229,7 @@ carries-more B (P ∷ ps) done st starts low inner c =
     (record {
       sizes = entered-sizes (st .build) (c .sizes) P;
       linked = listed-more (st .build .linked) done (c .linked) P (low P (inl refl));
-      runs = runs-more (st .build .before) (st .build .after) done (c .runs) (c .sizes .before) (c .sizes .after) P (starts .0 .nodup) (low P (inl refl)) (λ L i w k j. starts .1 w j (inner L i w k));
+      runs = runs-more (st .build .pointers) done (c .runs) (c .sizes .pointers) P (starts .0 .nodup) (low P (inl refl)) (λ L i w k j. starts .1 w j (inner L i w k));
     })
   where
     within : (L : Path) → In L (P ∷ done) → (w : ℕ) → In w (L .inner) → In w (P .inner ++ B)
@@ -237,17 +237,17 @@ carries-more B (P ∷ ps) done st starts low inner c =
     within L (inr h) w i = in-right w (P .inner) B (inner L h w i)
 
 -- the branch vertices and the vertices that are in, after the paths
-started-branch : (st : BuildStart) (ps : List Path) → folded startEntered st ps .build .branch ≡ st .build .branch
+started-branch : (st : BuildStart) (ps : List Path) → folded startEntered st ps .build .sets .branch ≡ st .build .sets .branch
 unfolding folded
 started-branch st [] = refl
 started-branch st (P ∷ ps) = started-branch (startEntered st P) ps
 
-started-built : (st : BuildStart) (ps : List Path) → Sizes (st .build) → ((L : Path) → In L ps → AllLow (vertices L)) → (v : ℕ) → has (folded startEntered st ps .build .built .words) v ≡ (has (st .build .built .words) v || inBuild ps v)
+started-built : (st : BuildStart) (ps : List Path) → Sizes (st .build) → ((L : Path) → In L ps → AllLow (vertices L)) → (v : ℕ) → has (folded startEntered st ps .build .sets .built .words) v ≡ (has (st .build .sets .built .words) v || inBuild ps v)
 unfolding folded anyLink
-started-built st [] z low v = sym (or-false (has (st .build .built .words) v))
+started-built st [] z low v = sym (or-false (has (st .build .sets .built .words) v))
 started-built st (P ∷ ps) z low v =
     started-built (startEntered st P) ps (entered-sizes (st .build) z P) (λ L i. low L (inr i)) v
-    ∙ ap (λ (t : Bool). t || inBuild ps v) (built-more (st .build) z P (low P (inl refl)) v) ∙ or-assoc (has (st .build .built .words) v) (member v (vertices P)) (inBuild ps v)
+    ∙ ap (λ (t : Bool). t || inBuild ps v) (built-more (st .build) z P (low P (inl refl)) v) ∙ or-assoc (has (st .build .sets .built .words) v) (member v (vertices P)) (inBuild ps v)
 
 bare-listed : Listed bareRows []
 bare-listed = record { long = refl; tells = λ u v. (λ e. absurd (clash (bare u v e) (has-empty rowWords (u * capacity + v))), λ r. absurd (r .1)) }

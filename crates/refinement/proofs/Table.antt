@@ -11,9 +11,8 @@ use lib.ListN.{length, length-set}
 use borrow.Author.Tests.{eqb-true, eq-eqb, lt-ltb, ltb-true, not-true}
 use Rattle.vertexset.specs.Set.{has, withBit, capacity}
 use Rattle.vertexset.proofs.Laws.{has-insert, has-remove}
-use Rattle.graph.specs.Rows.{adjacentIn, rowWords, joined, joinedRows}
+use Rattle.graph.specs.Rows.{adjacentIn, rowWords, joined, joinedRows, withoutBit, partedRows}
 use Rattle.connectivity.proofs.Lists.{and-true, or-true, true-or, clash}
-use Rattle.build.specs.State.{linkedWithout, withoutBit}
 use Rattle.connectivity.proofs.Paths.{SamePair}
 use Rattle.refinement.proofs.Tests.{same-test, samePair, pair-tells, both-true, left-true, false-of}
 
@@ -92,7 +91,7 @@ module _ (T : List ℕ) (long : length T ≡ rowWords) (x y : ℕ) (h : Low x y)
   pub with-length : length (joinedRows T x y) ≡ rowWords
   with-length = rw (lt-ltb x capacity (h .0), lt-ltb y capacity (h .1)) (simp length-set long)
 
-  pub without-length : length (linkedWithout T x y) ≡ rowWords
+  pub without-length : length (partedRows T x y) ≡ rowWords
   without-length = rw (lt-ltb x capacity (h .0), lt-ltb y capacity (h .1)) (simp length-set long)
 
   -- one link more
@@ -106,8 +105,8 @@ module _ (T : List ℕ) (long : length T ≡ rowWords) (x y : ℕ) (h : Low x y)
           ∙ ap (λ (t : ℕ → Bool). t i || eqb i (y * capacity + x)) (has-insert T (x * capacity + y) first-place) ∙ or-assoc (has T i) (eqb i (x * capacity + y)) (eqb i (y * capacity + x))
 
   -- one link fewer
-  linked-without : (u v : ℕ) → adjacentIn (linkedWithout T x y) u v ≡ (adjacentIn T u v && not (samePair u v x y))
-  linked-without = changed x y h (λ t c. t && not c) refl T (linkedWithout T x y) (λ i. rw (lt-ltb x capacity (h .0), lt-ltb y capacity (h .1)) (at i))
+  linked-without : (u v : ℕ) → adjacentIn (partedRows T x y) u v ≡ (adjacentIn T u v && not (samePair u v x y))
+  linked-without = changed x y h (λ t c. t && not c) refl T (partedRows T x y) (λ i. rw (lt-ltb x capacity (h .0), lt-ltb y capacity (h .1)) (at i))
     where
       at : (i : ℕ) → has (withoutBit (withoutBit T (x * capacity + y)) (y * capacity + x)) i ≡ (has T i && not (eqb i (x * capacity + y) || eqb i (y * capacity + x)))
       at i =
@@ -118,7 +117,7 @@ module _ (T : List ℕ) (long : length T ≡ rowWords) (x y : ℕ) (h : Low x y)
   pub with-tells : (u v : ℕ) → (adjacentIn (joinedRows T x y) u v ≡ true) ↔ ((adjacentIn T u v ≡ true) ⊎ SamePair u v x y)
   with-tells u v = (λ e. ⊎-map (λ k. k) (pair-tells u v x y .0) (or-true (adjacentIn T u v) (samePair u v x y) (sym (linked-with u v) ∙ e)), λ k. linked-with u v ∙ ⊎-elim (left-true (samePair u v x y)) (λ p. true-or (adjacentIn T u v) (samePair u v x y) (pair-tells u v x y .1 p)) k)
 
-  pub without-tells : (u v : ℕ) → (adjacentIn (linkedWithout T x y) u v ≡ true) ↔ ((adjacentIn T u v ≡ true) × (¬ SamePair u v x y))
+  pub without-tells : (u v : ℕ) → (adjacentIn (partedRows T x y) u v ≡ true) ↔ ((adjacentIn T u v ≡ true) × (¬ SamePair u v x y))
   without-tells u v = (
     λ e. let r = and-true (adjacentIn T u v) (not (samePair u v x y)) (sym (linked-without u v) ∙ e) in (r .0, λ p. clash (pair-tells u v x y .1 p) (not-true (samePair u v x y) (r .1))),
     λ k. linked-without u v ∙ both-true (k .0) (let z : samePair u v x y ≡ false = false-of (λ e. k .1 (pair-tells u v x y .0 e)) in rw z),

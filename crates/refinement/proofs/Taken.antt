@@ -12,7 +12,7 @@ use Rattle.record.specs.Read.{folded}
 use Rattle.vertexset.specs.Set.{has, emptySet, inserted, wordCount, capacity}
 use Rattle.vertexset.specs.declared.VertexSet.{VertexSet}
 use Rattle.vertexset.proofs.Laws.{has-empty, has-union, inserted-has, inserted-length, wordwise-length}
-use Rattle.graph.specs.Rows.{adjacentIn, joinedRows}
+use Rattle.graph.specs.Rows.{adjacentIn, joinedRows, partedRows}
 use Rattle.connectivity.specs.Lists.{In, NoDup, member}
 use Rattle.connectivity.specs.Graph.{Adj}
 use Rattle.connectivity.specs.Path.{vertices, End, Path}
@@ -23,11 +23,12 @@ use Rattle.connectivity.proofs.Split.{Piece, Piece.whole, Piece.front, Piece.ba
 use Rattle.connectivity.proofs.EdgeUse.{tally-step}
 use Rattle.certificates.specs.Tests.{inBuild, isBranch}
 use Rattle.build.specs.declared.Build.{Build}
-use Rattle.build.specs.declared.Addition.the-variants.{VertexVertex, EdgeVertex, EdgeEdge}
-use Rattle.build.specs.Ends.{linkEnd, sameLink}
-use Rattle.build.specs.State.{pathAddition, linkedWithout, splitAt, splitBy, pointBack, pointOn, entered, raised, pathTaken}
+use Rattle.links.specs.declared.Addition.the-variants.{VertexVertex, EdgeVertex, EdgeEdge}
+use Rattle.links.specs.Ends.{linkEnd, sameLink}
+use Rattle.links.specs.Tables.{splitRows, splitBy, pointer, pointerCount, pointAlong}
+use Rattle.build.specs.State.{pathAddition, entered, raised, pathTaken}
 use Rattle.refinement.proofs.Tests.{iff-test, false-of, left-true, built-tells, branch-tells}
-use Rattle.refinement.proofs.Pointers.{Back, On, back-cut, on-cut, back-same, on-same, back-other, on-other, back-set, on-set, back-length, on-length}
+use Rattle.refinement.proofs.Pointers.{Back, On, Half.before, Half.after, back-cut, on-cut, back-same, on-same, along-other, along-set, along-length}
 use Rattle.refinement.proofs.Table.{Low, with-length, without-length, with-tells, without-tells}
 use Rattle.refinement.proofs.Splits.{Sole, split-joined, split-none, split-swap, piece-there, branch-kept, branch-split}
 use Rattle.refinement.proofs.Shows.{Shows, Sizes, Listed, Runs, AllLow, ends, end-branch, end-inner, not-inside, sole-link, placed, Placed, everyEdge, branch-shown}
@@ -35,12 +36,12 @@ use Rattle.refinement.proofs.Apart.{Holds, branch-branch, branch-inner,
 
 -- the table with a link that is split, and with one more
 module _ (T : List ℕ) (links : List Path) (h : Listed T links) where
-  pub listed-split : (x : ℕ) (K : Path) → Sole links x K → AllLow (vertices K) → Listed (splitAt T x (ends K)) (splitLinks x links)
+  pub listed-split : (x : ℕ) (K : Path) → Sole links x K → AllLow (vertices K) → Listed (splitRows T x (ends K)) (splitLinks x links)
   listed-split x K one low =
       let a = low (K .s) (end-s K) in
       let b = low (K .t) (end-t K) in
       let c = low x (inner-in x K (one .inside)) in
-      let T1 = linkedWithout T (K .s) (K .t) in
+      let T1 = partedRows T (K .s) (K .t) in
       let l1 = without-length T (h .long) (K .s) (K .t) (a, b) in
       let T2 = joinedRows T1 (K .s) x in
       let l2 = with-length T1 l1 (K .s) x (a, c) in
@@ -72,32 +73,35 @@ module _ (T : List ℕ) (links : List Path) (h : Listed T links) where
       old u v L (inr i) k = inl (h .tells u v .1 (L, i, k))
 
 -- the pointers along links that are split, and along one more
-module _ (p q : List ℕ) (links : List Path) (h : Runs p q links) where
-  pub runs-split : (x : ℕ) → Runs p q (splitLinks x links)
+module _ (p : List ℕ) (links : List Path) (h : Runs p links) where
+  abbrev to-before : ℕ → ℕ
+  to-before = pointer p 0
+
+  abbrev to-after : ℕ → ℕ
+  to-after = pointer p capacity
+
+  pub runs-split : (x : ℕ) → Runs p (splitLinks x links)
   runs-split x M m = let r = piece-of x links M m in go (r .0) (r .1) (r .2)
     where
-      parts : (L : Path) → In L links → In x (L .inner) → (Back p (L .s) (takeBefore x (L .inner)) × Back p x (takeAfter x (L .inner))) × (On q (takeBefore x (L .inner)) x × On q (takeAfter x (L .inner)) (L .t))
+      parts : (L : Path) → In L links → In x (L .inner) → (Back to-before (L .s) (takeBefore x (L .inner)) × Back to-before x (takeAfter x (L .inner))) × (On to-after (takeBefore x (L .inner)) x × On to-after (takeAfter x (L .inner)) (L .t))
       parts L i k =
           let c = split-list x (L .inner) k in
-          (back-cut p (L .s) (takeBefore x (L .inner)) x (takeAfter x (L .inner)) (subst (λ (l : List ℕ). Back p (L .s) l) c (h L i .0)), on-cut q (takeBefore x (L .inner)) x (takeAfter x (L .inner)) (L .t) (subst (λ (l : List ℕ). On q l (L .t)) c (h L i .1)))
+          (back-cut to-before (L .s) (takeBefore x (L .inner)) x (takeAfter x (L .inner)) (subst (λ (l : List ℕ). Back to-before (L .s) l) c (h L i .0)), on-cut to-after (takeBefore x (L .inner)) x (takeAfter x (L .inner)) (L .t) (subst (λ (l : List ℕ). On to-after l (L .t)) c (h L i .1)))
 
-      go : (L : Path) → In L links → Piece x L M → Back p (M .s) (M .inner) × On q (M .inner) (M .t)
+      go : (L : Path) → In L links → Piece x L M → Back to-before (M .s) (M .inner) × On to-after (M .inner) (M .t)
       go L i (whole n e) = rw e (h L i)
       go L i (front k e) = rw e (parts L i k .0 .0, parts L i k .1 .0)
       go L i (back k e) = rw e (parts L i k .0 .1, parts L i k .1 .1)
 
-  pub runs-more : length p ≡ capacity → length q ≡ capacity → (P : Path) → NoDup (vertices P) → AllLow (vertices P) → ((L : Path) → In L links → (w : ℕ) → In w (L .inner) → ¬ In w (P .inner))
-      → Runs (pointBack p (P .s) (P .inner)) (pointOn q (P .inner) (P .t)) (P ∷ links)
-  runs-more lp lq P nd low new M m = go m
+  pub runs-more : length p ≡ pointerCount → (P : Path) → NoDup (vertices P) → AllLow (vertices P) → ((L : Path) → In L links → (w : ℕ) → In w (L .inner) → ¬ In w (P .inner))
+      → Runs (pointAlong p (vertices P)) (P ∷ links)
+  runs-more long P nd low new M m = go m
     where
-      n : NoDup (P .inner)
-      n = nodup-inner P nd
-
-      go : In M (P ∷ links) → Back (pointBack p (P .s) (P .inner)) (M .s) (M .inner) × On (pointOn q (P .inner) (P .t)) (M .inner) (M .t)
-      go (inl e) = rw e (back-set p (P .s) (P .inner) n (λ w i. rw lp (low w (inner-in w P i))), on-set q (P .inner) (P .t) n (λ w i. rw lq (low w (inner-in w P i))))
+      go : In M (P ∷ links) → Back (pointer (pointAlong p (vertices P)) 0) (M .s) (M .inner) × On (pointer (pointAlong p (vertices P)) capacity) (M .inner) (M .t)
+      go (inl e) = rw e (along-set (P .t) p (P .s) (P .inner) long (nodup-inner P nd) (λ w i. low w (inner-in w P i)))
       go (inr i) = (
-        back-same p (pointBack p (P .s) (P .inner)) (M .s) (M .inner) (λ w k. back-other p (P .s) (P .inner) w (new M i w k)) (h M i .0),
-        on-same q (pointOn q (P .inner) (P .t)) (M .inner) (M .t) (λ w k. on-other q (P .inner) (P .t) w (new M i w k)) (h M i .1),
+        back-same to-before (pointer (pointAlong p (vertices P)) 0) (M .s) (M .inner) (λ w k. along-other p (P .s) (P .inner) (P .t) 0 w before (new M i w k)) (h M i .0),
+        on-same to-after (pointer (pointAlong p (vertices P)) capacity) (M .inner) (M .t) (λ w k. along-other p (P .s) (P .inner) (P .t) capacity w after (new M i w k)) (h M i .1),
       )
 
 -- the vertices of a list as a set
@@ -114,17 +118,16 @@ has-members s (a ∷ l) h low v =
     ∙ ap (λ (t : ℕ → Bool). t v || member v l) (inserted-has s a h (low a (inl refl))) ∙ or-assoc (has (s .words) v) (eqb v a) (member v l)
 
 -- what entering a path does to the vertices that are in, and to the lengths
-pub built-more : (b : Build) → Sizes b → (P : Path) → AllLow (vertices P) → (v : ℕ) → has (entered b P .built .words) v ≡ (has (b .built .words) v || member v (vertices P))
+pub built-more : (b : Build) → Sizes b → (P : Path) → AllLow (vertices P) → (v : ℕ) → has (entered b P .sets .built .words) v ≡ (has (b .sets .built .words) v || member v (vertices P))
 built-more b z P low v =
-    has-union (b .built .words) (folded inserted emptySet (vertices P) .words) (z .built ∙ sym (members-length emptySet (vertices P) refl)) v
-    ∙ ap (λ (t : Bool). has (b .built .words) v || t) (has-members emptySet (vertices P) refl low v ∙ ap (λ (t : Bool). t || member v (vertices P)) (has-empty wordCount v))
+    has-union (b .sets .built .words) (folded inserted emptySet (vertices P) .words) (z .built ∙ sym (members-length emptySet (vertices P) refl)) v
+    ∙ ap (λ (t : Bool). has (b .sets .built .words) v || t) (has-members emptySet (vertices P) refl low v ∙ ap (λ (t : Bool). t || member v (vertices P)) (has-empty wordCount v))
 
 pub entered-sizes : (b : Build) → Sizes b → (P : Path) → Sizes (entered b P)
 entered-sizes b z P = record {
   branch = z .branch;
-  built = wordwise-length bitOr (b .built) (folded inserted emptySet (vertices P)) (z .built) (members-length emptySet (vertices P) refl);
-  before = back-length (b .before) (P .s) (P .inner) ∙ z .before;
-  after = on-length (b .after) (P .inner) (P .t) ∙ z .after;
+  built = wordwise-length bitOr (b .sets .built) (folded inserted emptySet (vertices P)) (z .built) (members-length emptySet (vertices P) refl);
+  pointers = along-length (b .pointers) (P .s) (P .inner) (P .t) ∙ z .pointers;
 }
 
 -- THE STEP
@@ -197,7 +200,7 @@ module _ {b : Build} {links : List Path} (sh : Shows b links) (P : Path) (bg : B
   raised-listed : Listed (splitBy (b .linked) (pathAddition b P)) rest
   raised-listed = go (placed sh (P .s) (bg .from)) (placed sh (P .t) (bg .upto))
     where
-      at : (x : ℕ) (L : Path) → In L links → In x (L .inner) → Listed (splitAt (b .linked) x (ends L)) (splitLinks x links)
+      at : (x : ℕ) (L : Path) → In L links → In x (L .inner) → Listed (splitRows (b .linked) x (ends L)) (splitLinks x links)
       at x L h i = listed-split (b .linked) links (sh .linked) x L (sole-link sh L h x i) (sh .low L h)
 
       go : Placed sh (P .s) → Placed sh (P .t) → Listed (splitBy (b .linked) (pathAddition b P)) rest
@@ -206,7 +209,7 @@ module _ {b : Build} {links : List Path} (sh : Shows b links) (P : Path) (bg : B
       go (inr p) (inl q) = rw (first-inner (p .0) (p .1) (p .2) q, none-last q) (at (P .s) (p .0) (p .1) (p .2))
       go (inr p) (inr q) =
           rw (both-inner (p .0) (q .0) (p .1) (q .1) (p .2) (q .2), split-swap (P .s) (P .t) links (λ L h i j. apart (L, h, inner-in (P .s) L i, inner-in (P .t) L j)))
-          (listed-split (splitAt (b .linked) (P .s) (ends (p .0))) (splitLinks (P .s) links) (at (P .s) (p .0) (p .1) (p .2)) (P .t) (q .0) (still-sole (q .0) (q .1) (q .2)) (sh .low (q .0) (q .1)))
+          (listed-split (splitRows (b .linked) (P .s) (ends (p .0))) (splitLinks (P .s) links) (at (P .s) (p .0) (p .1) (p .2)) (P .t) (q .0) (still-sole (q .0) (q .1) (q .2)) (sh .low (q .0) (q .1)))
 
   low-first : P .s < capacity
   low-first = low (P .s) (end-s P)
@@ -215,50 +218,50 @@ module _ {b : Build} {links : List Path} (sh : Shows b links) (P : Path) (bg : B
   low-last = low (P .t) (end-t P)
 
   raised-sizes : Sizes (raised b P)
-  raised-sizes = record { branch = inserted-length (inserted (b .branch) (P .s)) (P .t) (inserted-length (b .branch) (P .s) (sh .sizes .branch)); built = sh .sizes .built; before = sh .sizes .before; after = sh .sizes .after }
+  raised-sizes = record { branch = inserted-length (inserted (b .sets .branch) (P .s)) (P .t) (inserted-length (b .sets .branch) (P .s) (sh .sizes .branch)); built = sh .sizes .built; pointers = sh .sizes .pointers }
 
-  taken-branch : (v : ℕ) → has (pathTaken b P .branch .words) v ≡ isBranch (taken links P) v
+  taken-branch : (v : ℕ) → has (pathTaken b P .sets .branch .words) v ≡ isBranch (taken links P) v
   taken-branch v = iff-test (there, back) (branch-tells (taken links P) v)
     where
-      set : has (pathTaken b P .branch .words) v ≡ (has (b .branch .words) v || eqb v (P .s) || eqb v (P .t))
-      set = ap (λ (t : ℕ → Bool). t v) (inserted-has (inserted (b .branch) (P .s)) (P .t) (inserted-length (b .branch) (P .s) (sh .sizes .branch)) low-last)
-          ∙ ap (λ (t : ℕ → Bool). t v || eqb v (P .t)) (inserted-has (b .branch) (P .s) (sh .sizes .branch) low-first)
+      set : has (pathTaken b P .sets .branch .words) v ≡ (has (b .sets .branch .words) v || eqb v (P .s) || eqb v (P .t))
+      set = ap (λ (t : ℕ → Bool). t v) (inserted-has (inserted (b .sets .branch) (P .s)) (P .t) (inserted-length (b .sets .branch) (P .s) (sh .sizes .branch)) low-last)
+          ∙ ap (λ (t : ℕ → Bool). t v || eqb v (P .t)) (inserted-has (b .sets .branch) (P .s) (sh .sizes .branch) low-first)
 
       old : IsBranch v links → IsBranch v (taken links P)
       old r = let q = branch-kept (P .s) (splitLinks (P .t) links) v (branch-kept (P .t) links v r) in (q .0, inr (q .1), q .2)
 
-      there : has (pathTaken b P .branch .words) v ≡ true → IsBranch v (taken links P)
-      there e = ⊎-elim (λ k. ⊎-elim (λ j. old (branch-shown sh v .0 j)) (λ j. (P, inl refl, inl (eqb-true v (P .s) j))) (or-true (has (b .branch .words) v) (eqb v (P .s)) k))
-          (λ k. (P, inl refl, inr (eqb-true v (P .t) k))) (or-true (has (b .branch .words) v || eqb v (P .s)) (eqb v (P .t)) (sym set ∙ e))
+      there : has (pathTaken b P .sets .branch .words) v ≡ true → IsBranch v (taken links P)
+      there e = ⊎-elim (λ k. ⊎-elim (λ j. old (branch-shown sh v .0 j)) (λ j. (P, inl refl, inl (eqb-true v (P .s) j))) (or-true (has (b .sets .branch .words) v) (eqb v (P .s)) k))
+          (λ k. (P, inl refl, inr (eqb-true v (P .t) k))) (or-true (has (b .sets .branch .words) v || eqb v (P .s)) (eqb v (P .t)) (sym set ∙ e))
 
-      first : (has (b .branch .words) v || eqb v (P .s)) ≡ true → has (pathTaken b P .branch .words) v ≡ true
+      first : (has (b .sets .branch .words) v || eqb v (P .s)) ≡ true → has (pathTaken b P .sets .branch .words) v ≡ true
       first e = set ∙ left-true (eqb v (P .t)) e
 
-      at-first : v ≡ P .s → has (pathTaken b P .branch .words) v ≡ true
-      at-first e = first (true-or (has (b .branch .words) v) (eqb v (P .s)) (eq-eqb v (P .s) e))
+      at-first : v ≡ P .s → has (pathTaken b P .sets .branch .words) v ≡ true
+      at-first e = first (true-or (has (b .sets .branch .words) v) (eqb v (P .s)) (eq-eqb v (P .s) e))
 
-      at-last : v ≡ P .t → has (pathTaken b P .branch .words) v ≡ true
-      at-last e = set ∙ true-or (has (b .branch .words) v || eqb v (P .s)) (eqb v (P .t)) (eq-eqb v (P .t) e)
+      at-last : v ≡ P .t → has (pathTaken b P .sets .branch .words) v ≡ true
+      at-last e = set ∙ true-or (has (b .sets .branch .words) v || eqb v (P .s)) (eqb v (P .t)) (eq-eqb v (P .t) e)
 
-      back : IsBranch v (taken links P) → has (pathTaken b P .branch .words) v ≡ true
+      back : IsBranch v (taken links P) → has (pathTaken b P .sets .branch .words) v ≡ true
       back r = go (r .0) (r .1) (r .2)
         where
-          go : (L : Path) → In L (taken links P) → End v L → has (pathTaken b P .branch .words) v ≡ true
+          go : (L : Path) → In L (taken links P) → End v L → has (pathTaken b P .sets .branch .words) v ≡ true
           go L (inl e) k = ⊎-elim at-first at-last (rw e at k)
           go L (inr i) k = ⊎-elim at-first (λ q. ⊎-elim at-last (λ j. first (left-true (eqb v (P .s)) (branch-shown sh v .1 j))) (branch-split (P .t) links v q)) (branch-split (P .s) (splitLinks (P .t) links) v (L, i, k))
 
-  taken-built : (v : ℕ) → has (pathTaken b P .built .words) v ≡ inBuild (taken links P) v
+  taken-built : (v : ℕ) → has (pathTaken b P .sets .built .words) v ≡ inBuild (taken links P) v
   taken-built v = iff-test (there, λ r. back (r .0) (r .1) (r .2)) (built-tells (taken links P) v)
     where
-      set : has (pathTaken b P .built .words) v ≡ (has (b .built .words) v || member v (vertices P))
+      set : has (pathTaken b P .sets .built .words) v ≡ (has (b .sets .built .words) v || member v (vertices P))
       set = built-more (raised b P) raised-sizes P low v
 
-      there : has (pathTaken b P .built .words) v ≡ true → InBuild v (taken links P)
+      there : has (pathTaken b P .sets .built .words) v ≡ true → InBuild v (taken links P)
       there e = ⊎-elim (λ k. let r = split-kept (P .s) v (splitLinks (P .t) links) (split-kept (P .t) v links (built-tells links v .0 (sym (sh .built v) ∙ k))) in (r .0, inr (r .1), r .2))
-          (λ k. (P, inl refl, member-in v (vertices P) k)) (or-true (has (b .built .words) v) (member v (vertices P)) (sym set ∙ e))
+          (λ k. (P, inl refl, member-in v (vertices P) k)) (or-true (has (b .sets .built .words) v) (member v (vertices P)) (sym set ∙ e))
 
-      back : (L : Path) → In L (taken links P) → In v (vertices L) → has (pathTaken b P .built .words) v ≡ true
-      back L (inl e) k = set ∙ true-or (has (b .built .words) v) (member v (vertices P)) (in-member v (vertices P) (rw e at k))
+      back : (L : Path) → In L (taken links P) → In v (vertices L) → has (pathTaken b P .sets .built .words) v ≡ true
+      back L (inl e) k = set ∙ true-or (has (b .sets .built .words) v) (member v (vertices P)) (in-member v (vertices P) (rw e at k))
       back L (inr i) k = set ∙ left-true (member v (vertices P)) (sh .built v ∙ built-tells links v .1 (rest-built v (L, i, k)))
 
   pub shows-taken : Shows (pathTaken b P) (taken links P)
@@ -267,7 +270,7 @@ module _ {b : Build} {links : List Path} (sh : Shows b links) (P : Path) (bg : B
     branch = taken-branch;
     built = taken-built;
     linked = listed-more (splitBy (b .linked) (pathAddition b P)) rest raised-listed P low;
-    runs = runs-more (b .before) (b .after) rest (runs-split (b .before) (b .after) (splitLinks (P .t) links) (runs-split (b .before) (b .after) links (sh .runs) (P .t)) (P .s)) (sh .sizes .before) (sh .sizes .after) P (bg .is-path .nodup) low
+    runs = runs-more (b .pointers) rest (runs-split (b .pointers) (splitLinks (P .t) links) (runs-split (b .pointers) links (sh .runs) (P .t)) (P .s)) (sh .sizes .pointers) P (bg .is-path .nodup) low
         (λ L h w i j. bg .new w j (rest-built w (L, h, inner-in w L i)));
     low = all-low;
     steps = suc (sh .steps);

@@ -8,10 +8,10 @@ use lib.Dec.{leb, eqb}
 use lib.ListN.{length, getD}
 use borrow.Author.Tests.{le-leb, lt-leb, eq-eqb, ne-eqb}
 use Rattle.record.specs.declared.Answer.{Answer}
-use Rattle.build.specs.declared.Session.{Session}
-use Rattle.build.specs.declared.Stepped.{Stepped}
-use Rattle.build.specs.declared.Opened.{Opened}
-use Rattle.build.specs.Session.{opening, closeStep}
+use Rattle.sessions.specs.declared.Session.{Session}
+use Rattle.sessions.specs.declared.Stepped.{Stepped}
+use Rattle.sessions.specs.declared.Opened.{Opened}
+use Rattle.sessions.specs.Session.{opening, closeStep}
 use Rattle.script.specs.declared.Part.{Part}
 use Rattle.script.specs.declared.Part.the-variants.{Within, Cut}
 use Rattle.script.specs.declared.Replayed.{Replayed}

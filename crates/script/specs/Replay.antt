@@ -7,9 +7,9 @@ use lib.Dec.{leb, eqb}
 use Rattle.record.specs.Write.{overwritten}
 use Rattle.record.specs.declared.Answer.{Answer}
 use Rattle.record.specs.declared.Answer.the-variants.{Accepted, Grade, PlanFault, CertificateFault}
-use Rattle.build.specs.declared.Session.{Session}
-use Rattle.build.specs.declared.Stepped.{Stepped}
-use Rattle.build.specs.Session.{opening, startStep, pathStep, closeStep}
+use Rattle.sessions.specs.declared.Session.{Session}
+use Rattle.sessions.specs.declared.Stepped.{Stepped}
+use Rattle.sessions.specs.Session.{opening, startStep, pathStep, closeStep}
 use Rattle.script.specs.declared.Part.{Part}
 use Rattle.script.specs.declared.Part.the-variants.{Within, Cut}
 use Rattle.script.specs.declared.Replayed.{Replayed}

@@ -4,9 +4,9 @@ ghost use Prim.Native.Nat.{_<_};
 ghost use lib.ListN.{length};
 ghost use Rattle.script.specs.Script.{partAt};
 ghost use Rattle.script.specs.Replay.{word, answerWord, hasRoomFor, answered, stepOf, replayOn, replayOf, replayedOf};
-use build::Session;
-use build::Stepped;
 use record::Answer;
+use sessions::Session;
+use sessions::Stepped;
 
 // Where a part begins and ends; or that the script ends before it does.
 pub enum Part {
@@ -140,7 +140,7 @@ pub fn replay<'a>(s: &'a [u8], out: &'a mut [u8]) -> Replayed
             status: 1,
         };
     };
-    let opened = build::open(&s[start..end]);
+    let opened = sessions::open(&s[start..end]);
     let answer = opened.answer;
     let session = opened.session;
     let put = put_answer(out, 0, answer);

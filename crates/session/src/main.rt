@@ -1,12 +1,12 @@
 // Replays a session script from standard input and prints a line for each call, the opening first.
 // A script is a plan record with its length before it, then calls: `s` or `p` with a part, its length before it, or `c`.
 // A length is two bytes, the lower first. A script that ends inside a call, or has another call, ends the output.
-use build::Session;
-use build::Stepped;
 use libc::STDIN_FILENO;
 use libc::STDOUT_FILENO;
 use record::Answer;
 use script::Part;
+use sessions::Session;
+use sessions::Stepped;
 
 // the longest script, in bytes
 const LIMIT: usize = 65536;
@@ -107,7 +107,7 @@ fn replay(s: &[u8]) {
         io::write_all(STDOUT_FILENO, b"script cut short\n");
         return;
     };
-    let opened = build::open(&s[start..end]);
+    let opened = sessions::open(&s[start..end]);
     let answer = opened.answer;
     print_answer(answer);
     let session = opened.session;

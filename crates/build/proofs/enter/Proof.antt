@@ -1,27 +1,22 @@
 -- `build::enter` meets its contract. Assumes nothing.
-use mathlib.Core.Path.{_≡_, refl}
+use mathlib.Core.Path.{refl, sym}
 use borrow.Author.Needs.{needs}
-use native.Mathlib.Omega.{arith}
-use lib.ListN.{length}
-use Rattle.vertexset.specs.Set.{capacity}
-use Rattle.build.proofs.Ways.{same-build}
+use lib.Seq.{length-take-le}
+use Rattle.build.proofs.Taking.{same-build, same-sets}
 use Rattle.build.proofs.enter.Statement.{statement}
 use Rattle.build.proofs.enter.Tie as tie
 
-point-back-requires : tie.Need-point-back-requires
-point-back-requires c κs =
-    let l : length (c .before .before .before .args .x .list) ≡ capacity = search needs in
-    (search needs, (search needs, omega arith))
-
-point-on-requires : tie.Need-point-on-requires
-point-on-requires c κs =
-    let l : length (c .before .before .before .before .before .before .args .x .list) ≡ capacity = search needs in
-    (search needs, (search needs, omega arith))
-
 returns : tie.Need-returns
 returns c =
-    let p = c .before .before .before in
-    (refl, same-build refl (c .union .ensures) (p .before .before .before .point-back .ensures) (p .point-on .ensures) (c .before .join .ensures))
+    let j = c .before .before .before in
+    (refl, same-build (same-sets refl (c .union .ensures)) (j .before .before .point-along .ensures) (j .join .ensures))
+
+-- the front of the array has the path's length
+slice-aggregate-point-along : tie.Need-slice-aggregate-point-along
+slice-aggregate-point-along c =
+    let k = c .before .before .before .before in
+    sym (length-take-le (k .args .x .len) (k .args .x .list) (k .pre))
 
 pub enter-spec : {M : Type 1} → statement M
-enter-spec = tie.close (tie.spec point-back-requires point-on-requires (λ c κs. search needs) (λ c κs. search needs) returns)
+enter-spec = tie.close (tie.spec
+    (λ c. search needs) (λ c. search needs) slice-aggregate-point-along (λ c κs. search needs) (λ c κs. search needs) (λ c κs. search needs) returns)

@@ -3,59 +3,61 @@ use mathlib.Core.Path.{refl, ap, _∙_}
 use borrow.Author.Needs.{needs}
 use Rattle.vertexset.specs.Set.{inserted}
 use Rattle.vertexset.specs.declared.VertexSet.{VertexSet}
-use Rattle.build.specs.State.{splitBy, endOf}
-use Rattle.build.specs.Ends.{held}
+use Rattle.links.specs.Ends.{held}
+use Rattle.links.specs.Tables.{splitBy}
+use Rattle.build.specs.State.{endOf}
 use Rattle.build.specs.Code.{buildIn, enteredFrom}
-use Rattle.build.proofs.Ways.{same-build}
-use Rattle.build.proofs.Taking.{leaves-unread, leaves-refused, leaves-taken, len-low, further-takes, fault-same, addition-same}
+use Rattle.build.proofs.Taking.{same-build, same-sets, leaves-unread, leaves-refused, leaves-taken, len-low, further-takes, fault-same, addition-same}
 use Rattle.build.proofs.take_path.Statement.{statement}
 use Rattle.build.proofs.take_path.Tie as tie
 
 returns : tie.Need-returns
 returns c =
     let k = c .before .before in
-    let a = k .before .before .args in
-    let b = buildIn (a .branch) (a .built) (a .before .now) (a .after .now) (a .linked .now) in
+    let a = k .before .before .before .before .args in
+    let b = buildIn (a .sets) (a .pointers .now) (a .linked .now) in
     let T = further-takes (a .n) (a .rows .now) (a .s .now) (a .at) b in
     leaves-unread T (k .read-link-path .ensures) (c .enum-told2 .given .1) refl refl
 
 returns-2 : tie.Need-returns-2
 returns-2 c =
     let h = c .before .before .before .before .before in
-    let f = h .before .before .before .before .before in
-    let k = f .before .before .before .before .before in
-    let a = k .before .before .args in
-    let b = buildIn (a .branch) (a .built) (a .before .now) (a .after .now) (a .linked .now) in
+    let f = h .before .before .before .before in
+    let k = f .before .before .before .before in
+    let a = k .before .before .before .before .args in
+    let b = buildIn (a .sets) (a .pointers .now) (a .linked .now) in
     let T = further-takes (a .n) (a .rows .now) (a .s .now) (a .at) b in
     let x = k .read-link-path .result in
     let add = addition-same (a .linked .now) _ _ (endOf b (x .first)) (endOf b (x .last)) (h .addition .ensures) (f .end-of .ensures) (h .before .before .end-of2 .ensures) in
     let fault = c .before .path-fault .ensures ∙ fault-same (x .along) (x .new) _ _ _ _ _ _ (c .before .before .before .before .contains .ensures) (c .before .before .before .contains2 .ensures) (c .before .before .is-held .ensures ∙ ap held add) in
-    leaves-refused T (k .read-link-path .ensures) (f .before .before .before .enum-told .given .1) fault (c .if1 .taken) refl refl
+    leaves-refused T (k .read-link-path .ensures) (f .before .before .enum-told .given .1) fault (c .if1 .taken) refl refl
 
 enter-requires : tie.Need-enter-requires
 enter-requires c κs =
-    let k = c .before .before .before .before .before .before .before .before .before .before .before .before .before .before .before .before .before .before .before .before .before .before in
-    let a = k .before .before .args in
-    let b = buildIn (a .branch) (a .built) (a .before .now) (a .after .now) (a .linked .now) in
+    let m = c .before .before .before .before .before .before .before .before .before .before .before .before .before .before .before .before .before in
+    let k = m .before .before in
+    let a = k .before .before .before .before .args in
+    let b = buildIn (a .sets) (a .pointers .now) (a .linked .now) in
     let T = further-takes (a .n) (a .rows .now) (a .s .now) (a .at) b in
-    (search needs, (search needs, len-low T (k .read-link-path .ensures) (c .before .before .before .before .before .before .before .before .before .before .before .before .before .before .before .before .before .before .before .before .enum-told .given .1)))
+    len-low T (k .read-link-path .ensures) (m .enum-told .given .1)
 
 returns-3 : tie.Need-returns-3
 returns-3 c =
-    let g = c .before .before .before .before .before .before .before .before in
+    let i = c .before .before .before in
+    let g = i .before .before .before .before in
     let h = g .before .before .before .before .before in
-    let f = h .before .before .before .before .before in
-    let k = f .before .before .before .before .before in
-    let a = k .before .before .args in
-    let b = buildIn (a .branch) (a .built) (a .before .now) (a .after .now) (a .linked .now) in
+    let f = h .before .before .before .before in
+    let k = f .before .before .before .before in
+    let a = k .before .before .before .before .args in
+    let b = buildIn (a .sets) (a .pointers .now) (a .linked .now) in
     let T = further-takes (a .n) (a .rows .now) (a .s .now) (a .at) b in
     let x = k .read-link-path .result in
     let add = addition-same (a .linked .now) _ _ (endOf b (x .first)) (endOf b (x .last)) (h .addition .ensures) (f .end-of .ensures) (h .before .before .end-of2 .ensures) in
     let fault = g .before .path-fault .ensures ∙ fault-same (x .along) (x .new) _ _ _ _ _ _ (g .before .before .before .before .contains .ensures) (g .before .before .before .contains2 .ensures) (g .before .before .is-held .ensures ∙ ap held add) in
-    let branch = c .before .before .before .before .insert2 .ensures ∙ ap (λ (s : VertexSet). inserted s (x .last)) (c .before .before .before .before .before .insert .ensures) in
-    let split = c .before .before .before .before .before .before .split-by .ensures ∙ ap (splitBy (a .linked .now)) add in
-    leaves-taken T (k .read-link-path .ensures) (f .before .before .before .enum-told .given .1) fault (g .if1 .left) (c .enter .ensures .0)
-    (c .enter .ensures .1 ∙ ap (enteredFrom x) (same-build branch refl refl refl split))
+    let branch = i .insert2 .ensures ∙ ap (λ (s : VertexSet). inserted s (x .last)) (i .before .insert .ensures) in
+    let split = i .before .before .split-by .ensures ∙ ap (splitBy (a .linked .now)) add in
+    leaves-taken T (k .read-link-path .ensures) (f .before .before .enum-told .given .1) fault (g .if1 .left) (c .enter .ensures .0)
+    (c .enter .ensures .1 ∙ ap (enteredFrom x) (same-build (same-sets branch refl) refl split))
 
 pub take-path-spec : {M : Type 1} → statement M
 take-path-spec = tie.close (tie.spec

@@ -9,31 +9,32 @@ use Rattle.build.proofs.take_start_path.Tie as tie
 returns : tie.Need-returns
 returns c =
     let k = c .before .before in
-    let a = k .before .before .args in
-    let T = start-takes (a .n) (a .rows .now) (a .s .now) (a .at) (a .first) (a .last) (buildIn (a .branch) (a .built) (a .before .now) (a .after .now) (a .linked .now)) in
+    let a = k .before .before .before .args in
+    let T = start-takes (a .n) (a .rows .now) (a .s .now) (a .at) (a .ends) (buildIn (a .sets) (a .pointers .now) (a .linked .now)) in
     leaves-unread T (k .read-link-path .ensures) (c .enum-told2 .given .1) refl refl
 
 returns-2 : tie.Need-returns-2
 returns-2 c =
-    let k = c .before .before .before .before .before .before in
-    let a = k .before .before .args in
-    let T = start-takes (a .n) (a .rows .now) (a .s .now) (a .at) (a .first) (a .last) (buildIn (a .branch) (a .built) (a .before .now) (a .after .now) (a .linked .now)) in
-    leaves-refused T (k .read-link-path .ensures) (c .before .before .before .before .enum-told .given .1) (c .before .path-fault .ensures) (c .if1 .taken) refl refl
+    let k = c .before .before .before .before .before .before .before .before in
+    let a = k .before .before .before .args in
+    let T = start-takes (a .n) (a .rows .now) (a .s .now) (a .at) (a .ends) (buildIn (a .sets) (a .pointers .now) (a .linked .now)) in
+    leaves-refused T (k .read-link-path .ensures) (c .before .before .before .before .before .before .enum-told .given .1) (c .before .path-fault .ensures) (c .if1 .taken) refl refl
 
 enter-requires : tie.Need-enter-requires
 enter-requires c κs =
-    let k = c .before .before .before .before .before .before .before .before .before in
-    let a = k .before .before .args in
-    let T = start-takes (a .n) (a .rows .now) (a .s .now) (a .at) (a .first) (a .last) (buildIn (a .branch) (a .built) (a .before .now) (a .after .now) (a .linked .now)) in
-    (search needs, (search needs, len-low T (k .read-link-path .ensures) (c .before .before .before .before .before .before .before .enum-told .given .1)))
+    let m = c .before .before .before .before .before .before .before .before in
+    let k = m .before .before in
+    let a = k .before .before .before .args in
+    let T = start-takes (a .n) (a .rows .now) (a .s .now) (a .at) (a .ends) (buildIn (a .sets) (a .pointers .now) (a .linked .now)) in
+    len-low T (k .read-link-path .ensures) (m .enum-told .given .1)
 
 returns-3 : tie.Need-returns-3
 returns-3 c =
-    let h = c .before .before .before .before in
-    let k = h .before .before .before .before .before .before in
-    let a = k .before .before .args in
-    let T = start-takes (a .n) (a .rows .now) (a .s .now) (a .at) (a .first) (a .last) (buildIn (a .branch) (a .built) (a .before .now) (a .after .now) (a .linked .now)) in
-    leaves-taken T (k .read-link-path .ensures) (h .before .before .before .before .enum-told .given .1) (h .before .path-fault .ensures) (h .if1 .left) (c .enter .ensures .0) (c .enter .ensures .1)
+    let h = c .before .before .before in
+    let k = h .before .before .before .before .before .before .before .before in
+    let a = k .before .before .before .args in
+    let T = start-takes (a .n) (a .rows .now) (a .s .now) (a .at) (a .ends) (buildIn (a .sets) (a .pointers .now) (a .linked .now)) in
+    leaves-taken T (k .read-link-path .ensures) (h .before .before .before .before .before .before .enum-told .given .1) (h .before .path-fault .ensures) (h .if1 .left) (c .enter .ensures .0) (c .enter .ensures .1)
 
 pub take-start-path-spec : {M : Type 1} → statement M
 take-start-path-spec = tie.close (tie.spec

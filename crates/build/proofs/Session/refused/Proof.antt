@@ -1,7 +1,0 @@
--- `build::Session::refused` meets its contract. Assumes nothing.
-use borrow.Author.Needs.{needs}
-use Rattle.build.proofs.Session.refused.Statement.{statement}
-use Rattle.build.proofs.Session.refused.Tie as tie
-
-pub refused-spec : {M : Type 1} → statement M
-refused-spec = tie.close (tie.spec (λ c. search needs))

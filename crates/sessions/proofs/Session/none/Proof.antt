@@ -1,0 +1,10 @@
+-- `sessions::Session::none` meets its contract. Assumes nothing.
+use borrow.Author.Needs.{needs}
+use Rattle.sessions.proofs.Session.none.Statement.{statement}
+use Rattle.sessions.proofs.Session.none.Tie as tie
+
+returns : tie.Need-returns
+returns c = rw (c .before .before .none .ensures, c .bare .ensures, c .before .empty .ensures)
+
+pub none-spec : {M : Type 1} → statement M
+none-spec = tie.close (tie.spec (λ c κs. search needs) (λ c κs. search needs) (λ c κs. search needs) returns)

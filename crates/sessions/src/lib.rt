@@ -1,0 +1,236 @@
+// The building session: opening, start, path, closing.
+ghost use mathlib.Core.Path.{_≡_};
+ghost use Prim.Native.Nat.{_<_};
+ghost use lib.ListN.{drop};
+ghost use Rattle.sessions.specs.Session.{noSession, opening, refusedStep, unreadStep, startStep, pathCount, dueStep, pathStep, closing, closeStep, startRest, pathRest};
+use build::Build;
+use graph::GraphTable;
+use paths::Item;
+use record::Answer;
+use vertexset::VertexSet;
+
+pub struct Session {
+    pub graph: GraphTable,
+    // opened, and no start accepted yet
+    pub ready: bool,
+    pub started: bool,
+    pub taken: u16,
+    pub build: Build,
+}
+
+pub struct Opened {
+    pub answer: Answer,
+    pub session: Session,
+}
+
+// The session after a call, its answer, and how many bytes of the part were read.
+pub struct Stepped {
+    pub session: Session,
+    pub answer: Answer,
+    pub read: usize,
+}
+
+impl Session {
+    // A session never opened.
+    fn none() -> Self
+        ensures { λ r. ⌜ r ≡ noSession ⌝ }
+    {
+        let graph = GraphTable::none();
+        let build = Build::bare(VertexSet::empty());
+        Session {
+            graph,
+            ready: false,
+            started: false,
+            taken: 0,
+            build,
+        }
+    }
+
+    // Refused: the session as it was, and nothing read.
+    fn refused(self, r: u8, p: usize) -> Stepped
+        ensures { λ x. ⌜ x ≡ refusedStep self r p ⌝ }
+    {
+        Stepped {
+            session: self,
+            answer: Answer::CertificateFault(r, p),
+            read: 0,
+        }
+    }
+
+    fn unread(self, end: Item) -> Stepped
+        ensures { λ x. ⌜ x ≡ unreadStep self end ⌝ }
+    {
+        match end {
+            Item::Value(_, _) => self.refused(0, 0),
+            Item::Fault(r, p) => self.refused(r, p),
+        }
+    }
+
+    // Four branch vertices and six paths; 31 before reading where a start was accepted already or the session never opened.
+    pub fn start(self, part: &[u8]) -> Stepped
+        ensures { λ x. ⌜ x ≡ startStep self (now (part .entry)) ⌝ }
+    {
+        let ready = self.ready;
+        if !ready {
+            return self.refused(31, 0);
+        }
+        let graph = self.graph;
+        let x = build::read_start(part, &graph.rows, graph.n, 0);
+        let end = x.end;
+        let Item::Value(_, next) = end else {
+            return self.unread(end);
+        };
+        let build = x.build;
+        let session = Session {
+            graph,
+            ready: false,
+            started: true,
+            taken: 0,
+            build,
+        };
+        Stepped {
+            session,
+            answer: Answer::Accepted,
+            read: next,
+        }
+    }
+
+    // One further path; 31 before reading where none is due.
+    pub fn path(self, part: &[u8]) -> Stepped
+        ensures { λ x. ⌜ x ≡ pathStep self (now (part .entry)) ⌝ }
+    {
+        let started = self.started;
+        if !started {
+            return self.refused(31, 0);
+        }
+        let graph = self.graph;
+        if build::further_count(graph.m, graph.n) <= self.taken {
+            return self.refused(31, 0);
+        }
+        self.take(part)
+    }
+
+    // The path that is due.
+    fn take(mut self, part: &[u8]) -> Stepped
+        requires { ⌜ self .taken < pathCount self ⌝ }
+        ensures { λ x. ⌜ x ≡ dueStep self (now (part .entry)) ⌝ }
+    {
+        let graph = self.graph;
+        let b = self.build;
+        let mut pointers = b.pointers;
+        let mut linked = b.linked;
+        let x = build::take_path(
+            part,
+            &graph.rows,
+            graph.n,
+            0,
+            b.sets,
+            &mut pointers,
+            &mut linked,
+        );
+        let end = x.end;
+        let Item::Value(_, next) = end else {
+            return self.unread(end);
+        };
+        self.taken += 1;
+        let sets = x.sets;
+        let build = Build {
+            sets,
+            pointers,
+            linked,
+        };
+        self.build = build;
+        Stepped {
+            session: self,
+            answer: Answer::Accepted,
+            read: next,
+        }
+    }
+
+    fn closing(self) -> Answer
+        ensures { λ r. ⌜ r ≡ closing self ⌝ }
+    {
+        let started = self.started;
+        if !started {
+            return Answer::CertificateFault(31, 0);
+        }
+        let graph = self.graph;
+        if self.taken != build::further_count(graph.m, graph.n) {
+            return Answer::CertificateFault(31, 0);
+        }
+        let build = self.build;
+        let sets = build.sets;
+        if paths::all_below(sets.branch, graph.n) {
+            return Answer::Grade(3);
+        }
+        Answer::CertificateFault(28, 0)
+    }
+
+    // Grade 3 where every vertex is a branch vertex after the last path; the session stays as it is.
+    pub fn close(self) -> Stepped
+        ensures { λ x. ⌜ x ≡ closeStep self ⌝ }
+    {
+        let answer = self.closing();
+        Stepped {
+            session: self,
+            answer,
+            read: 0,
+        }
+    }
+}
+
+// A session on a whole plan record; a refused opening gives a session never opened.
+pub fn open(plan: &[u8]) -> Opened
+    ensures { λ r. ⌜ r ≡ opening (now (plan .entry)) ⌝ }
+{
+    let x = reading::read_plan(plan);
+    let answer = x.answer;
+    let Answer::Accepted = answer else {
+        let session = Session::none();
+        return Opened { answer, session };
+    };
+    let graph = x.graph;
+    if (graph.m as usize) < graph.n as usize + 2 {
+        let session = Session::none();
+        return Opened {
+            answer: Answer::PlanFault(29, 0),
+            session,
+        };
+    }
+    let build = Build::bare(VertexSet::empty());
+    let session = Session {
+        graph,
+        ready: true,
+        started: false,
+        taken: 0,
+        build,
+    };
+    Opened { answer, session }
+}
+
+// What stands from a place on.
+fn rest<'a>(part: &'a [u8], at: usize) -> &'a [u8]
+    ensures { λ r. ⌜ now r ≡ drop at (now (part .entry)) ⌝ }
+{
+    if at <= part.len() {
+        &part[at..]
+    } else {
+        &part[..0]
+    }
+}
+
+// What a start leaves unread of the caller's record.
+pub fn start_rest<'a>(session: Session, part: &'a [u8]) -> &'a [u8]
+    ensures { λ r. ⌜ now r ≡ startRest session (now (part .entry)) ⌝ }
+{
+    let x = session.start(part);
+    rest(part, x.read)
+}
+
+// What a path leaves unread of the caller's record.
+pub fn path_rest<'a>(session: Session, part: &'a [u8]) -> &'a [u8]
+    ensures { λ r. ⌜ now r ≡ pathRest session (now (part .entry)) ⌝ }
+{
+    let x = session.path(part);
+    rest(part, x.read)
+}
