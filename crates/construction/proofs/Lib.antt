@@ -29,3 +29,5 @@ pub mod Standing
 pub mod SameAnswers
 pub mod WithoutWords
 pub mod PlainExamples
+pub mod Alike
+pub mod AlikeSearch
