@@ -101,7 +101,7 @@ pub record AlikeReach (s : Sides) (t : ℕ → ℕ → Bool) (S G R : VertexSet)
   pub visiting : Visiting s t S G R (r .seeds) (r .order) (r .from) (r .shut) (r .last)
   pub ending : ((r .last < length (r .order)) × (G (r .goal) ≡ true)) ⊎ ((r .last ≡ length (r .order)) × (r .goal ≡ s .a .vertices))
 
-both : {A B : Type 0} (R : A → B → Type 0) {x y : A} {z w : B} → x ≡ y → z ≡ w → R x z → R y w
+pub both : {A B : Type 0} (R : A → B → Type 0) {x y : A} {z w : B} → x ≡ y → z ≡ w → R x z → R y w
 both R {x} {y} {z} {w} d e h = subst (λ c. R y c) e (subst (λ c. R c z) d h)
 
 or-right : (a b : Bool) → a ≡ true → a || b ≡ true

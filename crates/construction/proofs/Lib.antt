@@ -31,3 +31,5 @@ pub mod WithoutWords
 pub mod PlainExamples
 pub mod Alike
 pub mod AlikeSearch
+pub mod AlikeEars
+pub mod AlikeStart
