@@ -1,22 +1,20 @@
 -- The way out and back, the cycle through vertex 0 and the ears are alike under two bounds: each ear has a new vertex, so there are fewer than n.
-use Prim.Native.Nat.{ℕ, zero, suc, _+_, _-_, _<_, _≤_}
+use Prim.Native.Nat.{ℕ, zero, suc, _+_, _<_, _≤_}
 use mathlib.Core.Path.{_≡_, refl, sym, ap, subst, _∙_}
-use mathlib.Core.Bool.{Bool, true, false, cond, not, _&&_, _||_}
+use mathlib.Core.Bool.{Bool, true, false, cond, _&&_, _||_}
 use mathlib.Core.Logic.{_⊎_, inl, inr, ⊎-elim}
 use mathlib.Core.List.{List, [], _∷_, _++_}
 use native.Mathlib.Omega.{arith}
-use native.Mathlib.Decide.{ℕ-discrete}
 use lib.Dec.{ltb, eqb}
-use lib.ListN.{length, getD}
+use lib.ListN.{length}
 use borrow.Author.Tests.{ltb-true, ltb-false, lt-ltb, eq-eqb, not-false}
 use Rattle.record.specs.Read.{folded}
-use Rattle.connectivity.specs.Lists.{In, NoDup}
-use Rattle.connectivity.proofs.Lists.{bool?, clash, true-or, in-left, in-right, in-single, fewer, at-most, beside}
-use Rattle.construction.specs.Sets.{lastOf}
-use Rattle.construction.specs.Construction.{Bounds, VertexSet, Reach, Found, found, failed, Eared, eared, cut, noCut, emptySet, minus, common, inserted, single, pair, withAll, setOf, members, count, least, empty, explore, isFound, route, isCut, answered, wayOut, backFrom, detour, cycle, addPath, earsOn, ears}
+use Rattle.connectivity.specs.Lists.{In}
+use Rattle.connectivity.proofs.Lists.{bool?, clash, true-or, in-left, in-right, fewer, at-most, beside}
+use Rattle.construction.specs.Construction.{Bounds, VertexSet, Reach, Found, failed, Eared, eared, noCut, emptySet, minus, common, inserted, single, pair, withAll, members, count, least, empty, explore, isFound, route, isCut, answered, wayOut, backFrom, detour, cycle, earsOn, ears}
 use Rattle.construction.proofs.Places.{in-place}
-use Rattle.construction.proofs.Alike.{Sides, AlikeNumber, vertex, none, AlikeList, end, more, AlikeSet, AlikeTable, AlikeCut, choice, zero-alike, vertex-test, is-vertex, row-alike, empty-alike, minus-alike, common-alike, inserted-is, single-alike, all-alike, members-alike, count-alike, none-left, least-alike, no-cut, cut-alike, add-alike}
-use Rattle.construction.proofs.AlikeSearch.{AlikeReach, AlikeFound, next-meets, next-is, members-in, in-members, members-nodup, some-left, nothing-left, and-on, minus-is, common-is, explore-alike, rest, at-goal, last-rest, last-seed, answered-alike, uncut, found-path, both}
+use Rattle.construction.proofs.Alike.{Sides, AlikeNumber, vertex, none, AlikeList, end, more, AlikeSet, AlikeTable, AlikeCut, choice, zero-alike, vertex-test, row-alike, empty-alike, minus-alike, common-alike, inserted-is, single-alike, all-alike, members-alike, count-alike, none-left, least-alike, no-cut, cut-alike, add-alike}
+use Rattle.construction.proofs.AlikeSearch.{AlikeReach, AlikeFound, next-meets, next-is, members-in, in-members, members-nodup, some-left, nothing-left, and-on, minus-is, common-is, explore-alike, rest, last-rest, last-seed, answered-alike, uncut, found-path, both}
 
 -- ---- the members of small sets
 

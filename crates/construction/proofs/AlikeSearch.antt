@@ -8,16 +8,16 @@ use native.Mathlib.Omega.{arith}
 use native.Mathlib.Decide.{ℕ-discrete}
 use lib.Dec.{ltb}
 use lib.ListN.{length, getD, replicate, length-append, length-replicate, getD-replicate, List·getD-append, List·getD-eq-default}
-use borrow.Author.Tests.{ltb-true, ltb-false, lt-ltb, le-ltb, not-false, not-true}
+use borrow.Author.Tests.{ltb-true, ltb-false, le-ltb, not-false, not-true}
 use Rattle.vertexset.specs.Set.{firstFrom}
-use Rattle.connectivity.specs.Lists.{In, NoDup, select, upFrom, below, any}
-use Rattle.connectivity.proofs.Lists.{bool?, clash, or-true, true-or, and-true, any-true, true-any, below-in, in-below, select-in, in-select, select-nodup, nodup-below, nodup-append, in-append, in-left, in-right, at-most, below?}
+use Rattle.connectivity.specs.Lists.{In, NoDup, select, below}
+use Rattle.connectivity.proofs.Lists.{bool?, clash, or-true, true-or, and-true, any-true, true-any, below-in, select-in, in-select, select-nodup, nodup-below, nodup-append, in-append, in-left, at-most, below?}
 use Rattle.construction.specs.Sets.{added, lastOf}
 use Rattle.construction.specs.Search.{back}
-use Rattle.construction.specs.Construction.{Bounds, VertexSet, Reach, reach, Found, found, failed, cut, plus, minus, common, members, membersFrom, next, least, empty, visit, explore, isFound, route, reached, isCut, answered}
+use Rattle.construction.specs.Construction.{Bounds, VertexSet, Reach, reach, Found, found, failed, cut, plus, minus, common, members, next, least, empty, visit, explore, isFound, route, reached, isCut, answered}
 use Rattle.construction.proofs.SetLaws.{added-room, last-in}
 use Rattle.construction.proofs.Places.{place-in, in-place, place-past}
-use Rattle.construction.proofs.Alike.{Sides, AlikeNumber, vertex, none, AlikeList, end, more, AlikeSet, AlikeTable, AlikeCut, choice, zero-alike, vertex-test, is-vertex, row-alike, plus-alike, minus-alike, common-alike, select-far, members-alike, least-alike, no-cut, append-alike}
+use Rattle.construction.proofs.Alike.{Sides, AlikeNumber, vertex, none, AlikeList, end, more, AlikeSet, AlikeTable, AlikeCut, choice, zero-alike, vertex-test, row-alike, minus-alike, common-alike, select-far, members-alike, least-alike, no-cut, append-alike}
 
 -- ---- members, and the least of them
 

@@ -1,19 +1,19 @@
 -- The start of a build is alike under two bounds: where nothing is cut it has four branch vertices, so that every link has its ends.
-use Prim.Native.Nat.{ℕ, zero, suc, _+_, _-_, _<_, _≤_}
+use Prim.Native.Nat.{ℕ, _+_, _<_, _≤_}
 use mathlib.Core.Path.{_≡_, refl, sym, ap, subst, _∙_}
-use mathlib.Core.Bool.{Bool, true, false, cond, not, _&&_, _||_}
+use mathlib.Core.Bool.{Bool, true, false}
 use mathlib.Core.Logic.{_⊎_, inl, inr, ⊎-elim}
 use mathlib.Core.List.{List, [], _∷_, _++_, append-nil}
 use native.Mathlib.Omega.{arith}
 use native.Mathlib.Decide.{ℕ-discrete}
-use lib.Dec.{ltb, eqb}
+use lib.Dec.{ltb}
 use lib.ListN.{length, getD}
-use borrow.Author.Tests.{ltb-true, ltb-false, lt-ltb}
+use borrow.Author.Tests.{ltb-true, ltb-false}
 use Rattle.connectivity.specs.Lists.{In, NoDup}
-use Rattle.connectivity.proofs.Lists.{bool?, clash, in-append, in-left, in-right, in-single, fewer, at-most, beside, below?}
+use Rattle.connectivity.proofs.Lists.{clash, in-append, in-left, in-right, in-single, fewer, at-most, beside, below?}
 use Rattle.construction.specs.Sets.{lastOf}
-use Rattle.construction.specs.Construction.{Bounds, VertexSet, Reach, Cut, Found, Begun, broken, cut, emptySet, minus, bare, inserted, single, pair, setOf, members, count, next, least, nextAfter, explore, isFound, route, isCut, answered, cycle, addPath, marked, addLink, sorted, threePaths, fourOf, startOn, across, thirdPath, crossed, thirded, around, begin}
-use Rattle.construction.proofs.Alike.{Sides, AlikeNumber, vertex, none, AlikeList, end, more, AlikeSet, AlikeTable, AlikeCut, choice, zero-alike, is-vertex, row-alike, empty-alike, minus-alike, inserted-alike, single-alike, pair-alike, set-alike, count-alike, least-alike, after-alike, no-cut, cut-alike, at-alike, last-alike, add-alike, bare-alike, marked-alike}
+use Rattle.construction.specs.Construction.{Bounds, VertexSet, Reach, Cut, Begun, broken, emptySet, minus, inserted, single, pair, setOf, members, count, next, least, nextAfter, explore, isFound, route, isCut, cycle, addLink, sorted, threePaths, fourOf, startOn, across, thirdPath, crossed, around, begin}
+use Rattle.construction.proofs.Alike.{Sides, AlikeNumber, AlikeList, end, more, AlikeSet, AlikeTable, AlikeCut, choice, zero-alike, row-alike, empty-alike, minus-alike, inserted-alike, single-alike, pair-alike, set-alike, count-alike, least-alike, after-alike, no-cut, cut-alike, at-alike, last-alike, add-alike, bare-alike, marked-alike}
 use Rattle.construction.proofs.AlikeSearch.{AlikeReach, AlikeFound, next-meets, next-is, members-in, members-nodup, and-on, minus-is, explore-alike, rest, rest-in, at-goal, last-same, last-rest, last-seed, route-alike, answered-alike, uncut, found-path}
 use Rattle.construction.proofs.AlikeEars.{off-one, on-inserted, inserted-keep, single-is, on-single, pair-is, all-is, on-all, cycleSearch, cycle-search, cycle-alike, cycle-found}
 

@@ -33,3 +33,5 @@ pub mod Alike
 pub mod AlikeSearch
 pub mod AlikeEars
 pub mod AlikeStart
+pub mod AlikeBuild
+pub mod AnyWords
