@@ -49,15 +49,15 @@ pub record AlikeCut (s : Sides) (c d : Cut) : Type 0 where
   pub side : AlikeSet s (c .side) (d .side)
 
 -- two choices by the same test, which is known in each
-pub choice : {A B : Type 0} (R : A → B → Type 0) {t u : Bool} {x y : A} {z w : B} → t ≡ u → (t ≡ true → R x z) → (t ≡ false → R y w) → R (cond t x y) (cond u z w)
-choice R {t} {u} {x} {y} {z} {w} e h k = subst (λ (c : Bool). R (cond t x y) (cond c z w)) e (go t refl)
+pub known-choice : {A B : Type 0} (R : A → B → Type 0) {t u : Bool} {x y : A} {z w : B} → t ≡ u → (t ≡ true → R x z) → (t ≡ false → R y w) → R (cond t x y) (cond u z w)
+known-choice R {t} {u} {x} {y} {z} {w} e h k = subst (λ (c : Bool). R (cond t x y) (cond c z w)) e (go t refl)
   where
     go : (c : Bool) → t ≡ c → R (cond c x y) (cond c z w)
     go true = h
     go false = k
 
-not-true : {b : Bool} → (b ≡ true → ⊥) → b ≡ false
-not-true {b} h = ⊎-elim (λ e. absurd (h e)) (λ e. e) (bool? b)
+pub off-one : {b : Bool} → (b ≡ true → ⊥) → b ≡ false
+off-one {b} h = ⊎-elim (λ e. absurd (h e)) (λ e. e) (bool? b)
 
 -- ---- numbers
 
@@ -65,7 +65,7 @@ module _ {s : Sides} where
   pub zero-alike : AlikeNumber s 0 0
   zero-alike = vertex refl (s .some)
 
-  pub same-test : {x y u v : ℕ} → AlikeNumber s x y → AlikeNumber s u v → eqb x u ≡ eqb y v
+  same-test : {x y u v : ℕ} → AlikeNumber s x y → AlikeNumber s u v → eqb x u ≡ eqb y v
   same-test (vertex e h) (vertex f k) = λ i. eqb (e i) (f i)
   same-test {x} {y} {u} {v} (vertex e h) (none f k) = ne-eqb x u (λ z. omega arith) ∙ sym (ne-eqb y v (λ z. omega arith))
   same-test {x} {y} {u} {v} (none e h) (vertex f k) = ne-eqb x u (λ z. omega arith) ∙ sym (ne-eqb y v (λ z. omega arith))
@@ -75,14 +75,10 @@ module _ {s : Sides} where
   vertex-test {x} {y} (vertex e h) = lt-ltb x (s .a .vertices) (omega arith) ∙ sym (lt-ltb y (s .b .vertices) (omega arith))
   vertex-test {x} {y} (none e h) = le-ltb x (s .a .vertices) (omega arith) ∙ sym (le-ltb y (s .b .vertices) (omega arith))
 
-  pub is-vertex : {x y : ℕ} → AlikeNumber s x y → ltb x (s .a .vertices) ≡ true → x < s .n
-  is-vertex (vertex e h) t = h
-  is-vertex {x} (none e h) t = absurd (omega (arith, ltb-true x (s .a .vertices) t))
-
   -- ---- sets
 
   pub off : {p q : VertexSet} → AlikeSet s p q → (x : ℕ) → s .n ≤ x → p x ≡ false
-  off h x k = not-true (λ e. omega (arith, h .low x e))
+  off h x k = off-one (λ e. omega (arith, h .low x e))
 
   pub member-alike : {p q : VertexSet} → AlikeSet s p q → {x y : ℕ} → AlikeNumber s x y → p x ≡ q y
   member-alike h (vertex e k) = λ i. h .same i (e i)
@@ -90,9 +86,6 @@ module _ {s : Sides} where
 
   pub empty-alike : AlikeSet s emptySet emptySet
   empty-alike = record { same = refl; low = λ x e. absurd (clash e refl) }
-
-  pub plus-alike : {p q u v : VertexSet} → AlikeSet s p q → AlikeSet s u v → AlikeSet s (plus p u) (plus q v)
-  plus-alike {p} {q} {u} h k = record { same = λ i. plus (h .same i) (k .same i); low = λ x e. ⊎-elim (h .low x) (k .low x) (or-true (p x) (u x) e) }
 
   pub minus-alike : {p q u v : VertexSet} → AlikeSet s p q → AlikeSet s u v → AlikeSet s (minus p u) (minus q v)
   minus-alike {p} {q} {u} h k = record { same = λ i. minus (h .same i) (k .same i); low = λ x e. h .low x (and-true (p x) (not (u x)) e .0) }
@@ -140,7 +133,7 @@ module _ {s : Sides} where
 
 module _ (p : VertexSet) (n : ℕ) (low : (x : ℕ) → p x ≡ true → x < n) where
   past : (v : ℕ) → n ≤ v → p v ≡ false
-  past v h = not-true (λ e. omega (arith, low v e))
+  past v h = off-one (λ e. omega (arith, low v e))
 
   select-past : (k v : ℕ) → n ≤ v → select p (upFrom v k) ≡ []
   select-past zero v h = refl
@@ -186,7 +179,7 @@ module _ {s : Sides} {p q : VertexSet} (h : AlikeSet s p q) where
       go : (k l v : ℕ) → s .n ≤ v + k → s .n ≤ v + l → AlikeNumber s (firstFrom p (s .a .vertices) k v) (firstFrom p (s .b .vertices) l v)
       go zero l v i j = none refl (first-past p (s .n) (h .low) (s .b .vertices) l v (omega arith))
       go (suc k) zero v i j = none (first-past p (s .n) (h .low) (s .a .vertices) (suc k) v (omega arith)) refl
-      go (suc k) (suc l) v i j = choice (AlikeNumber s) {t = p v} refl (λ e. vertex refl (h .low v e)) (λ e. go k l (suc v) (omega arith) (omega arith))
+      go (suc k) (suc l) v i j = known-choice (AlikeNumber s) {t = p v} refl (λ e. vertex refl (h .low v e)) (λ e. go k l (suc v) (omega arith) (omega arith))
 
   pub least-alike : AlikeNumber s (least (s .a) p) (least (s .b) q)
   least-alike = first-alike (s .a .vertices - 0) (s .b .vertices - 0) 0 (omega arith) (omega arith)
@@ -230,7 +223,7 @@ module _ {s : Sides} where
   last-alike (more e end) = e
   last-alike (more e (more f h)) = last-alike (more f h)
 
-  pub take-alike : (k : ℕ) {l m : List ℕ} → AlikeList s l m → AlikeList s (take k l) (take k m)
+  take-alike : (k : ℕ) {l m : List ℕ} → AlikeList s l m → AlikeList s (take k l) (take k m)
   take-alike zero h = end
   take-alike (suc k) end = end
   take-alike (suc k) (more e h) = more e (take-alike k h)
@@ -251,7 +244,7 @@ module _ {s : Sides} where
   pub turned-alike : {l m : List ℕ} {x y : ℕ} → AlikeList s l m → AlikeNumber s x y → AlikeList s (turned l x) (turned m y)
   turned-alike {l} {m} h e =
       let inner : AlikeList s (segment l 1 (length l - 1)) (segment m 1 (length m - 1)) = subst (λ (k : ℕ). AlikeList s (segment l 1 (length l - 1)) (segment m 1 (k - 1))) (length-alike h) (segment-alike 1 (length l - 1) h) in
-      choice (AlikeList s) (same-test e (at-alike h 0)) (λ z. inner) (λ z. reversed-alike inner)
+      known-choice (AlikeList s) (same-test e (at-alike h 0)) (λ z. inner) (λ z. reversed-alike inner)
 
   pub place-alike : (p q : VertexSet) → ((x y : ℕ) → AlikeNumber s x y → p x ≡ q y) → {l m : List ℕ} → AlikeList s l m → placeOf p l ≡ placeOf q m
   unfolding placeOf
@@ -268,10 +261,10 @@ module _ {s : Sides} where
   -- ---- lists of paths
 
   pub add-alike : {l m j k : List ℕ} → AlikeList s l m → AlikeList s j k → AlikeList s (addPath (s .a) l j) (addPath (s .b) m k)
-  add-alike g h = choice (AlikeList s) (λ i. leb (length-alike g i + suc (length-alike h i)) (s .numbers i)) (λ z. append-alike g (more (none refl refl) h)) (λ z. g)
+  add-alike g h = known-choice (AlikeList s) (λ i. leb (length-alike g i + suc (length-alike h i)) (s .numbers i)) (λ z. append-alike g (more (none refl refl) h)) (λ z. g)
 
   pub put-alike : {l m j k : List ℕ} (i : ℕ) → AlikeList s l m → AlikeList s j k → AlikeList s (putIn (s .a) l i j) (putIn (s .b) m i k)
-  put-alike i g h = choice (AlikeList s) (λ z. leb (length-alike g z + length-alike h z) (s .numbers z)) (λ z. append-alike (take-alike i g) (append-alike h (drop-alike i g))) (λ z. g)
+  put-alike i g h = known-choice (AlikeList s) (λ z. leb (length-alike g z + length-alike h z) (s .numbers z)) (λ z. append-alike (take-alike i g) (append-alike h (drop-alike i g))) (λ z. g)
 
   -- each stop is a length on both sides
   pub lengthened-alike : {l m : List ℕ} → AlikeList s l m → lengthened (s .a) l ≡ lengthened (s .b) m
@@ -310,7 +303,7 @@ module _ {s : Sides} where
   edge-alike {t} {r} h {x} {y} {u} {v} (none e k) f = past x u (omega arith) ∙ sym (past y v (omega arith)) ∙ (λ i. h .same i y v)
     where
       past : (x y : ℕ) → s .n ≤ x → t x y ≡ false
-      past x y k = not-true (λ e. omega (arith, h .low x y e))
+      past x y k = off-one (λ e. omega (arith, h .low x y e))
 
   -- an edge more; where an end is none nothing is joined
   joined-alike : {t r : ℕ → ℕ → Bool} → AlikeTable s t r → {u v x y : ℕ} → AlikeNumber s u x → AlikeNumber s v y → AlikeTable s (joined (s .a) t u v) (joined (s .b) r x y)

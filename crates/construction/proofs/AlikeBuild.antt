@@ -10,7 +10,7 @@ use Rattle.connectivity.specs.Lists.{In, upFrom, below}
 use Rattle.connectivity.proofs.Lists.{in-below, select-in}
 use Rattle.construction.specs.Sets.{lastOf, placeOf}
 use Rattle.construction.specs.Construction.{VertexSet, Cut, Found, Begun, State, stopped, minus, membersFrom, extended, offLink, linkTaken, runEnd, linkStep, besidePlace, reroute, outTaken, outStep, innerPlace, step, steps, firstState, build, addEdges, addRows, finish}
-use Rattle.construction.proofs.Alike.{Sides, AlikeNumber, vertex, AlikeList, end, more, AlikeSet, AlikeTable, AlikeCut, choice, member-alike, row-alike, minus-alike, inserted-alike, pair-alike, all-alike, set-alike, members-from, none-left, no-cut, cut-alike, length-alike, at-alike, last-alike, drop-alike, segment-alike, turned-alike, place-alike, beside-alike, edge-alike, add-alike, put-alike, bare-alike, marked-alike}
+use Rattle.construction.proofs.Alike.{Sides, AlikeNumber, vertex, AlikeList, end, more, AlikeSet, AlikeTable, AlikeCut, known-choice, member-alike, row-alike, minus-alike, inserted-alike, pair-alike, all-alike, set-alike, members-from, none-left, no-cut, cut-alike, length-alike, at-alike, last-alike, drop-alike, segment-alike, turned-alike, place-alike, beside-alike, edge-alike, add-alike, put-alike, bare-alike, marked-alike}
 use Rattle.construction.proofs.AlikeSearch.{AlikeFound, explore-alike, answered-alike}
 use Rattle.construction.proofs.AlikeEars.{detour-alike}
 use Rattle.construction.proofs.AlikeStart.{AlikeBegun}
@@ -38,7 +38,7 @@ module _ {s : Sides} where
   }
 
   taken-alike : {x y : State} {i j : ℕ} {f g : Found} → AlikeState s x y → i ≡ j → AlikeFound s f g → AlikeState s (linkTaken (s .a) x i f) (linkTaken (s .b) y j g)
-  taken-alike h e f = choice (AlikeState s) (cut-alike (f .cutBy)) (λ z. stopped-alike h (f .cutBy)) (λ z. extended-alike h (f .path) e)
+  taken-alike h e f = known-choice (AlikeState s) (cut-alike (f .cutBy)) (λ z. stopped-alike h (f .cutBy)) (λ z. extended-alike h (f .path) e)
 
   reroute-alike : {x y : State} {p q : List ℕ} (k : ℕ) → AlikeState s x y → AlikeList s p q → AlikeState s (reroute (s .a) x p k) (reroute (s .b) y q k)
   reroute-alike k h p = record {
@@ -74,15 +74,15 @@ module _ {s : Sides} where
     out-taken-alike : {x y : State} {f g : Found} → AlikeState s x y → AlikeFound s f g → AlikeState s (outTaken (s .a) adj x f) (outTaken (s .b) adj y g)
     out-taken-alike {x} {y} {f} {g} h k =
         let place = beside-place (last-alike (k .path)) (at-alike (k .path) 0) (h .flat) in
-        choice (AlikeState s) (cut-alike (k .cutBy)) (λ z. stopped-alike h (k .cutBy))
-        (λ z. choice (AlikeState s) (λ i. ltb (place i) (length-alike (h .flat) i))
+        known-choice (AlikeState s) (cut-alike (k .cutBy)) (λ z. stopped-alike h (k .cutBy))
+        (λ z. known-choice (AlikeState s) (λ i. ltb (place i) (length-alike (h .flat) i))
         (λ w. subst (λ (j : ℕ). AlikeState s (reroute (s .a) x (f .path) (besidePlace (s .a) adj (lastOf (f .path)) (getD (f .path) 0 0) (x .flat))) (reroute (s .b) y (g .path) j)) place (reroute-alike (besidePlace (s .a) adj (lastOf (f .path)) (getD (f .path) 0 0) (x .flat)) h (k .path)))
         (λ w. extended-alike h (k .path) (length-alike (h .flat))))
 
     module _ {full full′ : VertexSet} (hf : AlikeSet s full full′) where
       out-step-alike : {x y : State} → AlikeState s x y → AlikeState s (outStep (s .a) adj full x) (outStep (s .b) adj full′ y)
       unfolding outStep
-      out-step-alike h = choice (AlikeState s) (none-left (minus-alike hf (h .built))) (λ z. stopped-alike h no-cut) (λ z. out-taken-alike h (detour-alike d hf (h .built)))
+      out-step-alike h = known-choice (AlikeState s) (none-left (minus-alike hf (h .built))) (λ z. stopped-alike h no-cut) (λ z. out-taken-alike h (detour-alike d hf (h .built)))
 
       inner-alike : {x y : State} → AlikeState s x y → innerPlace (s .a) x ≡ innerPlace (s .b) y
       inner-alike {x} {y} h =
@@ -94,14 +94,14 @@ module _ {s : Sides} where
       unfolding step
       step-alike {x} {y} h =
           let place = inner-alike h in
-          choice (AlikeState s) (λ i. ltb (place i) (length-alike (h .flat) i))
+          known-choice (AlikeState s) (λ i. ltb (place i) (length-alike (h .flat) i))
           (λ z. subst (λ (j : ℕ). AlikeState s (linkStep (s .a) adj x (innerPlace (s .a) x)) (linkStep (s .b) adj y j)) place (link-step-alike (innerPlace (s .a) x) h))
           (λ z. out-step-alike h)
 
       steps-alike : (f : ℕ) {x y : State} → AlikeState s x y → AlikeState s (steps (s .a) adj full f x) (steps (s .b) adj full′ f y)
       unfolding steps
       steps-alike zero h = h
-      steps-alike (suc f) h = choice (AlikeState s) (h .going) (λ z. steps-alike f (step-alike h)) (λ z. h)
+      steps-alike (suc f) h = known-choice (AlikeState s) (h .going) (λ z. steps-alike f (step-alike h)) (λ z. h)
 
       pub build-alike : s .a .steps ≡ s .b .steps → {x y : Begun} → AlikeBegun s x y → AlikeState s (build (s .a) adj full x) (build (s .b) adj full′ y)
       unfolding build

@@ -13,13 +13,10 @@ use Rattle.connectivity.specs.Lists.{In}
 use Rattle.connectivity.proofs.Lists.{bool?, clash, true-or, in-left, in-right, fewer, at-most, beside}
 use Rattle.construction.specs.Construction.{Bounds, VertexSet, Reach, Found, failed, Eared, eared, noCut, emptySet, minus, common, inserted, single, pair, withAll, members, count, least, empty, explore, isFound, route, isCut, answered, wayOut, backFrom, detour, cycle, earsOn, ears}
 use Rattle.construction.proofs.Places.{in-place}
-use Rattle.construction.proofs.Alike.{Sides, AlikeNumber, vertex, none, AlikeList, end, more, AlikeSet, AlikeTable, AlikeCut, choice, zero-alike, vertex-test, row-alike, empty-alike, minus-alike, common-alike, inserted-is, single-alike, all-alike, members-alike, count-alike, none-left, least-alike, no-cut, cut-alike, add-alike}
+use Rattle.construction.proofs.Alike.{Sides, off-one, AlikeNumber, vertex, none, AlikeList, end, more, AlikeSet, AlikeTable, AlikeCut, known-choice, zero-alike, vertex-test, row-alike, empty-alike, minus-alike, common-alike, inserted-is, single-alike, all-alike, members-alike, count-alike, none-left, least-alike, no-cut, cut-alike, add-alike}
 use Rattle.construction.proofs.AlikeSearch.{AlikeReach, AlikeFound, next-meets, next-is, members-in, in-members, members-nodup, some-left, nothing-left, and-on, minus-is, common-is, explore-alike, rest, last-rest, last-seed, answered-alike, uncut, found-path, both}
 
 -- ---- the members of small sets
-
-pub off-one : {b : Bool} → (b ≡ true → ⊥) → b ≡ false
-off-one {b} h = ⊎-elim (λ e. absurd (h e)) (λ e. e) (bool? b)
 
 module _ (b : Bounds) where
   pub on-inserted : (p : VertexSet) (v : ℕ) → v < b .vertices → inserted b p v v ≡ true
@@ -42,7 +39,7 @@ module _ (b : Bounds) where
   all-is p [] x e = inl e
   all-is p (v ∷ l) x e = ⊎-elim (λ k. ⊎-elim inl (λ j. inr (inl (j .1))) (inserted-is b p v x k)) (λ k. inr (inr k)) (all-is (inserted b p v) l x e)
 
-  pub all-keep : (p : VertexSet) (l : List ℕ) (x : ℕ) → p x ≡ true → withAll b p l x ≡ true
+  all-keep : (p : VertexSet) (l : List ℕ) (x : ℕ) → p x ≡ true → withAll b p l x ≡ true
   unfolding folded
   all-keep p [] x e = e
   all-keep p (v ∷ l) x e = all-keep (inserted b p v) l x (inserted-keep p v x e)
@@ -56,11 +53,11 @@ module _ (b : Bounds) where
 -- ---- out and back
 
 -- a choice that is not cut, where its second part would be
-pub first-taken : (b : Bounds) (t : Bool) (f g : Found) → (isCut b (g .cutBy) ≡ false → ⊥) → isCut b (cond t f g .cutBy) ≡ false → (t ≡ true) × (isCut b (f .cutBy) ≡ false) × (cond t f g .path ≡ f .path)
+first-taken : (b : Bounds) (t : Bool) (f g : Found) → (isCut b (g .cutBy) ≡ false → ⊥) → isCut b (cond t f g .cutBy) ≡ false → (t ≡ true) × (isCut b (f .cutBy) ≡ false) × (cond t f g .path ≡ f .path)
 first-taken b true f g h e = (refl, e, refl)
 first-taken b false f g h e = absurd (h e)
 
-pub record AlikeEnds (s : Sides) (e f : ℕ × ℕ) : Type 0 where
+record AlikeEnds (s : Sides) (e f : ℕ × ℕ) : Type 0 where
   pub inside : AlikeNumber s (e .0) (f .0)
   pub outside : AlikeNumber s (e .1) (f .1)
 
@@ -75,7 +72,7 @@ module _ {s : Sides} {adj : ℕ → ℕ → Bool} (d : AlikeTable s adj adj) whe
   way-alike h [] low = record { inside = none refl refl; outside = none refl refl }
   way-alike h (c ∷ l) low =
       let goal = least-alike (common-alike (row-alike d c) h) in
-      choice (AlikeEnds s) (vertex-test goal) (λ e. record { inside = goal; outside = vertex refl (low c (inl refl)) }) (λ e. way-alike h l (λ w k. low w (inr k)))
+      known-choice (AlikeEnds s) (vertex-test goal) (λ e. record { inside = goal; outside = vertex refl (low c (inl refl)) }) (λ e. way-alike h l (λ w k. low w (inr k)))
 
   -- the way out goes from the set to a listed vertex
   way-is : {p q : VertexSet} → AlikeSet s p q → (l : List ℕ) → ltb (wayOut (s .a) adj p l .0) (s .a .vertices) ≡ true → (p (wayOut (s .a) adj p l .0) ≡ true) × In (wayOut (s .a) adj p l .1) l
@@ -91,10 +88,10 @@ module _ {s : Sides} {adj : ℕ → ℕ → Bool} (d : AlikeTable s adj adj) whe
       go x r true f old k = (f refl, inl refl)
       go x r false f old k = let z = old k in (z .0, inr (z .1))
 
-  back-alike : {p q : VertexSet} {e f : ℕ × ℕ} → AlikeSet s p q → AlikeEnds s e f → AlikeFound s (backFrom (s .a) adj p e) (backFrom (s .b) adj q f)
-  back-alike h e =
+  return-alike : {p q : VertexSet} {e f : ℕ × ℕ} → AlikeSet s p q → AlikeEnds s e f → AlikeFound s (backFrom (s .a) adj p e) (backFrom (s .b) adj q f)
+  return-alike h e =
       let x = single-alike (e .inside) in
-      choice (AlikeFound s) (vertex-test (e .inside))
+      known-choice (AlikeFound s) (vertex-test (e .inside))
       (λ z. answered-alike (explore-alike d (single-alike (e .outside)) (minus-alike h x) x) x (more (e .inside) end))
       (λ z. record { path = end; cutBy = record { removed = empty-alike; side = h } })
 
@@ -106,7 +103,7 @@ module _ {s : Sides} {adj : ℕ → ℕ → Bool} (d : AlikeTable s adj adj) whe
     unfolding detour
     detour-alike =
         let new = members-alike (minus-alike hf h) in
-        back-alike h (subst (λ (l : List ℕ). AlikeEnds s (wayOut (s .a) adj p (members (s .a) (minus full p))) (wayOut (s .b) adj q l)) new (way-alike h (members (s .a) (minus full p)) outside-low))
+        return-alike h (subst (λ (l : List ℕ). AlikeEnds s (wayOut (s .a) adj p (members (s .a) (minus full p))) (wayOut (s .b) adj q l)) new (way-alike h (members (s .a) (minus full p)) outside-low))
 
     -- where a set is not empty and nothing is cut, the way has a vertex that the set has not
     back-grows : (e f : ℕ × ℕ) → AlikeEnds s e f → ((ltb (e .0) (s .a .vertices) ≡ true) → (p (e .0) ≡ true) × (minus full p (e .1) ≡ true)) → (w : ℕ) → p w ≡ true → isCut (s .a) (backFrom (s .a) adj p e .cutBy) ≡ false
@@ -137,14 +134,14 @@ module _ {s : Sides} {adj : ℕ → ℕ → Bool} (d : AlikeTable s adj adj) whe
   abbrev pub cycleSearch : Reach
   cycleSearch = explore (s .a) adj (single (s .a) first) (minus (adj 0) (single (s .a) first)) (single (s .a) 0)
 
-  pub cycle-search : AlikeReach s adj (single (s .a) first) (minus (adj 0) (single (s .a) first)) (single (s .a) 0) cycleSearch
+  pub cycle-search : AlikeReach s adj (single (s .a) first) (minus (adj 0) (single (s .a) first)) cycleSearch
       (explore (s .b) adj (single (s .b) (least (s .b) (adj 0))) (minus (adj 0) (single (s .b) (least (s .b) (adj 0)))) (single (s .b) 0))
   cycle-search = let one = single-alike (least-alike (row-alike d 0)) in explore-alike d one (minus-alike (row-alike d 0) one) (single-alike zero-alike)
 
   pub cycle-alike : AlikeFound s (cycle (s .a) adj) (cycle (s .b) adj)
   unfolding cycle
   cycle-alike =
-      choice (AlikeFound s) (λ i. ltb (count-alike (row-alike d 0) i) 2)
+      known-choice (AlikeFound s) (λ i. ltb (count-alike (row-alike d 0) i) 2)
       (λ e. record { path = end; cutBy = record { removed = row-alike d 0; side = single-alike zero-alike } })
       (λ e. answered-alike cycle-search (single-alike zero-alike) (more zero-alike end))
 
@@ -152,7 +149,7 @@ module _ {s : Sides} {adj : ℕ → ℕ → Bool} (d : AlikeTable s adj adj) whe
   cycle-meets : 2 ≤ count (s .a) (adj 0) → isCut (s .a) (answered (s .a) cycleSearch (single (s .a) 0) (0 ∷ []) .cutBy) ≡ false → isFound (s .a) cycleSearch ≡ true
   cycle-meets two u = go (single (s .a) 0 first) refl
     where
-      m : AlikeReach s adj (single (s .a) first) (minus (adj 0) (single (s .a) first)) (single (s .a) 0) cycleSearch
+      m : AlikeReach s adj (single (s .a) first) (minus (adj 0) (single (s .a) first)) cycleSearch
           (explore (s .b) adj (single (s .b) (least (s .b) (adj 0))) (minus (adj 0) (single (s .b) (least (s .b) (adj 0)))) (single (s .b) 0))
       m = cycle-search
 
@@ -219,9 +216,9 @@ module _ {s : Sides} {adj : ℕ → ℕ → Bool} (d : AlikeTable s adj adj) whe
         both (AlikeEared s) (sym (ended (s .a) (suc f) flat k p full (all-in h j))) refl (record { flat = l; count = refl; cutBy = no-cut })
     ears-on (suc f) (suc g) k {flat} {flat′} {p} {q} l h w on i j =
         let way = detour-alike hf h in
-        choice (AlikeEared s) (none-left (minus-alike hf h))
+        known-choice (AlikeEared s) (none-left (minus-alike hf h))
         (λ e. record { flat = l; count = refl; cutBy = no-cut })
-        (λ e. choice (AlikeEared s) (cut-alike (way .cutBy))
+        (λ e. known-choice (AlikeEared s) (cut-alike (way .cutBy))
         (λ c. record { flat = l; count = refl; cutBy = way .cutBy })
         (λ c. let new = detour-grows hf h w on c in
         let less = fewer-left h (all-alike h (way .path)) (all-keep (s .a) p (detour (s .a) adj full p .path)) (new .0) (new .2) (on-all (s .a) p (detour (s .a) adj full p .path) (new .0) (omega (arith, minus-alike hf h .low (new .0) (new .2))) (new .1)) in
@@ -236,6 +233,6 @@ module _ {s : Sides} {adj : ℕ → ℕ → Bool} (d : AlikeTable s adj adj) whe
     ears-alike =
         let round = cycle-alike in
         let on = all-alike empty-alike (round .path) in
-        choice (AlikeEared s) (cut-alike (round .cutBy))
+        known-choice (AlikeEared s) (cut-alike (round .cutBy))
         (λ e. record { flat = end; count = refl; cutBy = round .cutBy })
         (λ e. ears-on (s .a .vertices) (s .b .vertices) 1 (add-alike end (round .path)) on 0 (on-all (s .a) emptySet (cycle (s .a) adj .path) 0 (omega arith) (zero-in e)) (omega (arith, few-left on)) (omega (arith, few-left on)))

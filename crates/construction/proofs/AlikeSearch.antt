@@ -17,7 +17,7 @@ use Rattle.construction.specs.Search.{back}
 use Rattle.construction.specs.Construction.{Bounds, VertexSet, Reach, reach, Found, found, failed, cut, plus, minus, common, members, next, least, empty, visit, explore, isFound, route, reached, isCut, answered}
 use Rattle.construction.proofs.SetLaws.{added-room, last-in}
 use Rattle.construction.proofs.Places.{place-in, in-place, place-past}
-use Rattle.construction.proofs.Alike.{Sides, AlikeNumber, vertex, none, AlikeList, end, more, AlikeSet, AlikeTable, AlikeCut, choice, zero-alike, vertex-test, row-alike, minus-alike, common-alike, select-far, members-alike, least-alike, no-cut, append-alike}
+use Rattle.construction.proofs.Alike.{Sides, AlikeNumber, vertex, none, AlikeList, end, more, AlikeSet, AlikeTable, AlikeCut, known-choice, zero-alike, vertex-test, row-alike, minus-alike, common-alike, select-far, members-alike, least-alike, no-cut, append-alike}
 
 -- ---- members, and the least of them
 
@@ -50,7 +50,7 @@ module _ {s : Sides} {p q : VertexSet} (h : AlikeSet s p q) where
   pub next-is : (v : ℕ) → next (s .a) p v < s .a .vertices → (p (next (s .a) p v) ≡ true) × (v ≤ next (s .a) p v)
   next-is v = next-found p (s .a .vertices) (s .a .vertices - v) v
 
-  pub least-none : ltb (least (s .a) p) (s .a .vertices) ≡ false → (w : ℕ) → p w ≡ false
+  least-none : ltb (least (s .a) p) (s .a .vertices) ≡ false → (w : ℕ) → p w ≡ false
   least-none e w = ⊎-elim (λ k. absurd (omega (arith, ltb-false (least (s .a) p) (s .a .vertices) e, next-meets 0 w k (omega arith), h .low w k))) (λ k. k) (bool? (p w))
 
   members-below : members (s .a) p ≡ select p (below (s .n))
@@ -73,8 +73,8 @@ module _ {s : Sides} {p q : VertexSet} (h : AlikeSet s p q) where
 
 -- ---- a search underway
 
--- what holds when the places below h are visited; S are the seeds, G the goals, R the removed
-pub record Visiting (s : Sides) (t : ℕ → ℕ → Bool) (S G R : VertexSet) (seeds : ℕ) (order from : List ℕ) (shut : VertexSet) (h : ℕ) : Type 0 where
+-- what holds when the places below h are visited; S are the seeds, G the goals
+pub record Visiting (s : Sides) (t : ℕ → ℕ → Bool) (S G : VertexSet) (seeds : ℕ) (order from : List ℕ) (shut : VertexSet) (h : ℕ) : Type 0 where
   pub nodup : NoDup order
   pub low : (w : ℕ) → In w order → w < s .n
   pub same-length : length order ≡ length from
@@ -86,19 +86,17 @@ pub record Visiting (s : Sides) (t : ℕ → ℕ → Bool) (S G R : VertexSet) (
   pub earlier : (i : ℕ) → seeds ≤ i → i < length order → getD from i 0 < i
   pub in-shut : (w : ℕ) → In w order → shut w ≡ true
   pub shut-low : (w : ℕ) → shut w ≡ true → w < s .n
-  pub removed-shut : (w : ℕ) → R w ≡ true → shut w ≡ true
   pub no-goal : ((x : ℕ) → S x ≡ true → G x ≡ false) → (w : ℕ) → In w order → G w ≡ false
-  pub no-removed : ((x : ℕ) → S x ≡ true → R x ≡ false) → (w : ℕ) → In w order → R w ≡ false
   pub passed : (i : ℕ) → i < h → (w : ℕ) → t (getD order i 0) w ≡ true → G w ≡ false
 
-pub record AlikeReach (s : Sides) (t : ℕ → ℕ → Bool) (S G R : VertexSet) (r q : Reach) : Type 0 where
+pub record AlikeReach (s : Sides) (t : ℕ → ℕ → Bool) (S G : VertexSet) (r q : Reach) : Type 0 where
   pub order : r .order ≡ q .order
   pub from : r .from ≡ q .from
   pub seeds : r .seeds ≡ q .seeds
   pub shut : AlikeSet s (r .shut) (q .shut)
   pub goal : AlikeNumber s (r .goal) (q .goal)
   pub last : r .last ≡ q .last
-  pub visiting : Visiting s t S G R (r .seeds) (r .order) (r .from) (r .shut) (r .last)
+  pub visiting : Visiting s t S G (r .seeds) (r .order) (r .from) (r .shut) (r .last)
   pub ending : ((r .last < length (r .order)) × (G (r .goal) ≡ true)) ⊎ ((r .last ≡ length (r .order)) × (r .goal ≡ s .a .vertices))
 
 pub both : {A B : Type 0} (R : A → B → Type 0) {x y : A} {z w : B} → x ≡ y → z ≡ w → R x z → R y w
@@ -123,7 +121,7 @@ common-is p q x e = and-true (p x) (q x) e
 
 module _ {s : Sides} {t : ℕ → ℕ → Bool} (d : AlikeTable s t t) {S G R : VertexSet} (hs : AlikeSet s S S) (hg : AlikeSet s G G) (hr : AlikeSet s R R) (seeds : ℕ) where
   -- one more is visited, and none of its neighbours is a goal
-  module _ {order from : List ℕ} {shut : VertexSet} {h : ℕ} (v : Visiting s t S G R seeds order from shut h) (here : h < length order) where
+  module _ {order from : List ℕ} {shut : VertexSet} {h : ℕ} (v : Visiting s t S G seeds order from shut h) (here : h < length order) where
     abbrev row : VertexSet
     row = t (getD order h 0)
 
@@ -159,7 +157,7 @@ module _ {s : Sides} {t : ℕ → ℕ → Bool} (d : AlikeTable s t t) {S G R : 
         go (no k) =
             rw (place-past from (replicate (length fresh) h) i (omega (arith, v .same-length)) ∙ getD-replicate (length fresh) (i - length from) h 0 (omega (arith, v .same-length, length-append order fresh))) (omega arith)
 
-    more-visited : ((w : ℕ) → row w ≡ true → G w ≡ false) → Visiting s t S G R seeds (order ++ fresh) farther (plus shut row) (h + 1)
+    more-visited : ((w : ℕ) → row w ≡ true → G w ≡ false) → Visiting s t S G seeds (order ++ fresh) farther (plus shut row) (h + 1)
     more-visited g = record {
       nodup = more-nodup;
       low = more-low;
@@ -172,9 +170,7 @@ module _ {s : Sides} {t : ℕ → ℕ → Bool} (d : AlikeTable s t t) {S G R : 
       earlier = more-earlier;
       in-shut = λ w m. ⊎-elim (λ k. or-right (shut w) (row w) (v .in-shut w k)) (λ k. true-or (shut w) (row w) (fresh-is w k .0)) (in-append w order fresh m);
       shut-low = λ w e. ⊎-elim (v .shut-low w) (λ k. d .low (getD order h 0) w k .1) (or-true (shut w) (row w) e);
-      removed-shut = λ w e. or-right (shut w) (row w) (v .removed-shut w e);
       no-goal = λ a w m. ⊎-elim (v .no-goal a w) (λ k. g w (fresh-is w k .0)) (in-append w order fresh m);
-      no-removed = λ a w m. ⊎-elim (v .no-removed a w) (λ k. ⊎-elim (λ e. absurd (clash (v .removed-shut w e) (fresh-is w k .1))) (λ e. e) (bool? (R w))) (in-append w order fresh m);
       passed = λ i l w e. go i l w (ℕ-discrete i h) (rw (List·getD-append order fresh 0 i (omega arith)) at e);
     }
       where
@@ -187,8 +183,8 @@ module _ {s : Sides} {t : ℕ → ℕ → Bool} (d : AlikeTable s t t) {S G R : 
   ended b zero order from shut h e = refl
   ended b (suc k) order from shut h e = rw (le-ltb h (length order) e)
 
-  nothing-more : {order from : List ℕ} {shut : VertexSet} {h : ℕ} → Visiting s t S G R seeds order from shut h → length order ≤ h
-      → AlikeReach s t S G R (reach order from seeds shut (s .a .vertices) h) (reach order from seeds shut (s .b .vertices) h)
+  nothing-more : {order from : List ℕ} {shut : VertexSet} {h : ℕ} → Visiting s t S G seeds order from shut h → length order ≤ h
+      → AlikeReach s t S G (reach order from seeds shut (s .a .vertices) h) (reach order from seeds shut (s .b .vertices) h)
   nothing-more v e = record {
     order = refl;
     from = refl;
@@ -200,9 +196,9 @@ module _ {s : Sides} {t : ℕ → ℕ → Bool} (d : AlikeTable s t t) {S G R : 
     ending = inr (omega (arith, v .begun), refl);
   }
 
-  met : {order from : List ℕ} {shut : VertexSet} {h : ℕ} → Visiting s t S G R seeds order from shut h → h < length order
+  met : {order from : List ℕ} {shut : VertexSet} {h : ℕ} → Visiting s t S G seeds order from shut h → h < length order
       → ltb (least (s .a) (common (t (getD order h 0)) G)) (s .a .vertices) ≡ true
-      → AlikeReach s t S G R (reach order from seeds shut (least (s .a) (common (t (getD order h 0)) G)) h) (reach order from seeds shut (least (s .b) (common (t (getD order h 0)) G)) h)
+      → AlikeReach s t S G (reach order from seeds shut (least (s .a) (common (t (getD order h 0)) G)) h) (reach order from seeds shut (least (s .b) (common (t (getD order h 0)) G)) h)
   met {order} {from} {shut} {h} v here e =
       let goals = common-alike (row-alike d (getD order h 0)) hg in
       let is = next-is goals 0 (ltb-true (least (s .a) (common (t (getD order h 0)) G)) (s .a .vertices) e) .0 in
@@ -217,12 +213,12 @@ module _ {s : Sides} {t : ℕ → ℕ → Bool} (d : AlikeTable s t t) {S G R : 
         ending = inl (here, common-is (t (getD order h 0)) G (least (s .a) (common (t (getD order h 0)) G)) is .1);
       }
 
-  goes-on : {order from : List ℕ} {shut : VertexSet} {h : ℕ} (v : Visiting s t S G R seeds order from shut h) (here : h < length order) (k l : ℕ) → ((w : ℕ) → common (t (getD order h 0)) G w ≡ false)
-      → (Visiting s t S G R seeds (order ++ fresh v here) (farther v here) (plus shut (row v here)) (h + 1)
-      → AlikeReach s t S G R (visit (s .a) t G seeds k (order ++ fresh v here) (farther v here) (plus shut (row v here)) (h + 1)) (visit (s .b) t G seeds l (order ++ fresh v here) (farther v here) (plus shut (row v here)) (h + 1)))
-      → AlikeReach s t S G R (visit (s .a) t G seeds k (added (s .a .vertices) order (members (s .a) (minus (row v here) shut))) (added (s .a .vertices) from (replicate (length (members (s .a) (minus (row v here) shut))) h)) (plus shut (row v here)) (h + 1))
+  goes-on : {order from : List ℕ} {shut : VertexSet} {h : ℕ} (v : Visiting s t S G seeds order from shut h) (here : h < length order) (k l : ℕ) → ((w : ℕ) → common (t (getD order h 0)) G w ≡ false)
+      → (Visiting s t S G seeds (order ++ fresh v here) (farther v here) (plus shut (row v here)) (h + 1)
+      → AlikeReach s t S G (visit (s .a) t G seeds k (order ++ fresh v here) (farther v here) (plus shut (row v here)) (h + 1)) (visit (s .b) t G seeds l (order ++ fresh v here) (farther v here) (plus shut (row v here)) (h + 1)))
+      → AlikeReach s t S G (visit (s .a) t G seeds k (added (s .a .vertices) order (members (s .a) (minus (row v here) shut))) (added (s .a .vertices) from (replicate (length (members (s .a) (minus (row v here) shut))) h)) (plus shut (row v here)) (h + 1))
       (visit (s .b) t G seeds l (added (s .b .vertices) order (members (s .b) (minus (row v here) shut))) (added (s .b .vertices) from (replicate (length (members (s .b) (minus (row v here) shut))) h)) (plus shut (row v here)) (h + 1))
-  goes-on {order} {from} {shut} {h} v here k l g rest = both (AlikeReach s t S G R) (grown (s .a) k (s .low-a)) (grown (s .b) l (s .low-b) ∙ other) (rest (more-visited v here (λ w e. no-goal w e (g w))))
+  goes-on {order} {from} {shut} {h} v here k l g rest = both (AlikeReach s t S G) (grown (s .a) k (s .low-a)) (grown (s .b) l (s .low-b) ∙ other) (rest (more-visited v here (λ w e. no-goal w e (g w))))
     where
       no-goal : (w : ℕ) → row v here w ≡ true → row v here w && G w ≡ false → G w ≡ false
       no-goal w e f = (λ i. sym e i && G w) ∙ f
@@ -238,22 +234,21 @@ module _ {s : Sides} {t : ℕ → ℕ → Bool} (d : AlikeTable s t t) {S G R : 
           ≡ visit (s .b) t G seeds l (added (s .b .vertices) order (members (s .b) (minus (row v here) shut))) (added (s .b .vertices) from (replicate (length (members (s .b) (minus (row v here) shut))) h)) (plus shut (row v here)) (h + 1)
       other = let m = members-alike (fresh-alike v here) in λ i. visit (s .b) t G seeds l (added (s .b .vertices) order (m i)) (added (s .b .vertices) from (replicate (length (m i)) h)) (plus shut (row v here)) (h + 1)
 
-  visit-alike : (k l : ℕ) {order from : List ℕ} {shut : VertexSet} {h : ℕ} → Visiting s t S G R seeds order from shut h → s .n ≤ h + k → s .n ≤ h + l
-      → AlikeReach s t S G R (visit (s .a) t G seeds k order from shut h) (visit (s .b) t G seeds l order from shut h)
+  visit-alike : (k l : ℕ) {order from : List ℕ} {shut : VertexSet} {h : ℕ} → Visiting s t S G seeds order from shut h → s .n ≤ h + k → s .n ≤ h + l
+      → AlikeReach s t S G (visit (s .a) t G seeds k order from shut h) (visit (s .b) t G seeds l order from shut h)
   unfolding visit
   visit-alike zero l {order} {from} {shut} {h} v i j =
       let full : length order ≤ h = omega (arith, at-most (s .n) order (v .nodup) (v .low)) in
-      both (AlikeReach s t S G R) refl (sym (ended (s .b) l order from shut h full)) (nothing-more v full)
+      both (AlikeReach s t S G) refl (sym (ended (s .b) l order from shut h full)) (nothing-more v full)
   visit-alike (suc k) zero {order} {from} {shut} {h} v i j =
       let full : length order ≤ h = omega (arith, at-most (s .n) order (v .nodup) (v .low)) in
-      both (AlikeReach s t S G R) (sym (ended (s .a) (suc k) order from shut h full)) refl (nothing-more v full)
+      both (AlikeReach s t S G) (sym (ended (s .a) (suc k) order from shut h full)) refl (nothing-more v full)
   visit-alike (suc k) (suc l) {order} {from} {shut} {h} v i j =
       let goals = common-alike (row-alike d (getD order h 0)) hg in
-      choice (AlikeReach s t S G R) {t = ltb h (length order)} refl
-      (λ e. choice (AlikeReach s t S G R) (vertex-test (least-alike goals)) (met v (ltb-true h (length order) e)) (λ f. goes-on v (ltb-true h (length order) e) k l (least-none goals f) (λ w. visit-alike k l w (omega arith) (omega arith))))
-      (λ e. nothing-more v (ltb-false h (length order) e))
+      ⊎-elim (λ e. rw e (known-choice (AlikeReach s t S G) (vertex-test (least-alike goals)) (met v (ltb-true h (length order) e)) (λ f. goes-on v (ltb-true h (length order) e) k l (least-none goals f) (λ w. visit-alike k l w (omega arith) (omega arith)))))
+      (λ e. rw e (nothing-more v (ltb-false h (length order) e))) (bool? (ltb h (length order)))
 
-  first-places : (l : List ℕ) → NoDup l → ((w : ℕ) → In w l → S w ≡ true) → ((w : ℕ) → S w ≡ true → In w l) → seeds ≡ length l → Visiting s t S G R seeds l (replicate (length l) 0) (plus S R) 0
+  first-places : (l : List ℕ) → NoDup l → ((w : ℕ) → In w l → S w ≡ true) → ((w : ℕ) → S w ≡ true → In w l) → seeds ≡ length l → Visiting s t S G seeds l (replicate (length l) 0) (plus S R) 0
   first-places l nd sound all e = record {
     nodup = nd;
     low = λ w k. hs .low w (sound w k);
@@ -266,9 +261,7 @@ module _ {s : Sides} {t : ℕ → ℕ → Bool} (d : AlikeTable s t t) {S G R : 
     earlier = λ i k j. absurd (omega arith);
     in-shut = λ w k. or-right (S w) (R w) (sound w k);
     shut-low = λ w k. ⊎-elim (hs .low w) (hr .low w) (or-true (S w) (R w) k);
-    removed-shut = λ w k. true-or (S w) (R w) k;
     no-goal = λ a w k. a w (sound w k);
-    no-removed = λ a w k. a w (sound w k);
     passed = λ i k. absurd (omega arith);
   }
 
@@ -277,11 +270,11 @@ itself h = record { same = refl; low = h .low }
 
 -- THE SEARCH
 pub explore-alike : {s : Sides} {t u : ℕ → ℕ → Bool} {S G R S′ G′ R′ : VertexSet} → AlikeTable s t u → AlikeSet s S S′ → AlikeSet s G G′ → AlikeSet s R R′
-    → AlikeReach s t S G R (explore (s .a) t S G R) (explore (s .b) u S′ G′ R′)
+    → AlikeReach s t S G (explore (s .a) t S G R) (explore (s .b) u S′ G′ R′)
 unfolding explore
 explore-alike {s} {t} {u} {S} {G} {R} d hs hg hr =
     let l = members-alike hs in
-    both (AlikeReach s t S G R) refl (λ i. visit (s .b) (d .same i) (hg .same i) (length (l i)) (s .b .vertices) (l i) (replicate (length (l i)) 0) (plus (hs .same i) (hr .same i)) 0)
+    both (AlikeReach s t S G) refl (λ i. visit (s .b) (d .same i) (hg .same i) (length (l i)) (s .b .vertices) (l i) (replicate (length (l i)) 0) (plus (hs .same i) (hr .same i)) 0)
     (visit-alike (record { same = refl; low = d .low }) (itself hs) (itself hg) (itself hr) (length (members (s .a) S)) (s .a .vertices) (s .b .vertices)
     (first-places (record { same = refl; low = d .low }) (itself hs) (itself hg) (itself hr) (length (members (s .a) S)) (members (s .a) S) (members-nodup hs) (members-in hs) (in-members hs) refl)
     (omega arith) (omega arith))
@@ -302,14 +295,14 @@ some-last : (l : List ℕ) → 0 < length l → In (lastOf l) l
 some-last [] h = absurd (omega arith)
 some-last (a ∷ l) h = last-in a l
 
-module _ {s : Sides} {t : ℕ → ℕ → Bool} {S G R : VertexSet} {seeds : ℕ} {order from : List ℕ} {shut : VertexSet} {h : ℕ} (v : Visiting s t S G R seeds order from shut h) where
+module _ {s : Sides} {t : ℕ → ℕ → Bool} {S G : VertexSet} {seeds : ℕ} {order from : List ℕ} {shut : VertexSet} {h : ℕ} (v : Visiting s t S G seeds order from shut h) where
   back-alike : (k l i : ℕ) → i < k → i < l → i < length order → AlikeList s (back k order from seeds i) (back l order from seeds i)
   unfolding back
   back-alike zero l i a b e = absurd (omega arith)
   back-alike (suc k) zero i a b e = absurd (omega arith)
   back-alike (suc k) (suc l) i a b e =
       more (vertex refl (v .low (getD order i 0) (place-in order i e)))
-      (choice (AlikeList s) {t = ltb i seeds} refl (λ f. end) (λ f. let g = v .earlier i (ltb-false i seeds f) e in back-alike k l (getD from i 0) (omega arith) (omega arith) (omega arith)))
+      (known-choice (AlikeList s) {t = ltb i seeds} refl (λ f. end) (λ f. let g = v .earlier i (ltb-false i seeds f) e in back-alike k l (getD from i 0) (omega arith) (omega arith) (omega arith)))
 
   back-in : (k i w : ℕ) → i < length order → In w (back k order from seeds i) → In w order
   unfolding back
@@ -336,7 +329,7 @@ module _ {s : Sides} {t : ℕ → ℕ → Bool} {S G R : VertexSet} {seeds : ℕ
 
 -- ---- the path that was found, and the answer
 
-module _ {s : Sides} {t : ℕ → ℕ → Bool} {S G R : VertexSet} {r q : Reach} (m : AlikeReach s t S G R r q) where
+module _ {s : Sides} {t : ℕ → ℕ → Bool} {S G : VertexSet} {r q : Reach} (m : AlikeReach s t S G r q) where
   abbrev pub rest : List ℕ
   rest = back (s .a .vertices) (r .order) (r .from) (r .seeds) (r .last)
 
@@ -359,7 +352,7 @@ module _ {s : Sides} {t : ℕ → ℕ → Bool} {S G R : VertexSet} {r q : Reach
       from (suc k) zero i j = absurd (omega arith)
       from (suc k) (suc l) i j =
           more (subst (λ (x : ℕ). AlikeNumber s x x) (sym (List·getD-eq-default (r .order) 0 {n = r .last} (omega arith))) zero-alike)
-          (choice (AlikeList s) {t = ltb (r .last) (r .seeds)} refl (λ f. end)
+          (known-choice (AlikeList s) {t = ltb (r .last) (r .seeds)} refl (λ f. end)
           (λ f. subst (λ (x : ℕ). AlikeList s (back k (r .order) (r .from) (r .seeds) x) (back l (r .order) (r .from) (r .seeds) x)) (sym (List·getD-eq-default (r .from) 0 {n = r .last} (omega (arith, m .visiting .same-length))))
           (back-alike (m .visiting) k l 0 (omega arith) (omega arith) (omega (arith, m .visiting .seeds-fit)))))
 
@@ -389,9 +382,9 @@ pub record AlikeFound (s : Sides) (f g : Found) : Type 0 where
   pub path : AlikeList s (f .path) (g .path)
   pub cutBy : AlikeCut s (f .cutBy) (g .cutBy)
 
-module _ {s : Sides} {t : ℕ → ℕ → Bool} {S G R R′ : VertexSet} {r q : Reach} (m : AlikeReach s t S G R r q) (hr : AlikeSet s R R′) where
+module _ {s : Sides} {t : ℕ → ℕ → Bool} {S G R R′ : VertexSet} {r q : Reach} (m : AlikeReach s t S G r q) (hr : AlikeSet s R R′) where
   pub answered-alike : {k l : List ℕ} → AlikeList s k l → AlikeFound s (answered (s .a) r R k) (answered (s .b) q R′ l)
-  answered-alike h = choice (AlikeFound s) (vertex-test (m .goal))
+  answered-alike h = known-choice (AlikeFound s) (vertex-test (m .goal))
       (λ e. record { path = append-alike (from-place m (at-goal m e .0)) h; cutBy = no-cut })
       (λ e. record { path = end; cutBy = record { removed = hr; side = minus-alike (m .shut) hr } })
 

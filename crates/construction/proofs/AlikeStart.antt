@@ -13,9 +13,9 @@ use Rattle.connectivity.specs.Lists.{In, NoDup}
 use Rattle.connectivity.proofs.Lists.{clash, in-append, in-left, in-right, in-single, fewer, at-most, beside, below?}
 use Rattle.construction.specs.Sets.{lastOf}
 use Rattle.construction.specs.Construction.{Bounds, VertexSet, Reach, Cut, Begun, broken, emptySet, minus, inserted, single, pair, setOf, members, count, next, least, nextAfter, explore, isFound, route, isCut, cycle, addLink, sorted, threePaths, fourOf, startOn, across, thirdPath, crossed, around, begin}
-use Rattle.construction.proofs.Alike.{Sides, AlikeNumber, AlikeList, end, more, AlikeSet, AlikeTable, AlikeCut, choice, zero-alike, row-alike, empty-alike, minus-alike, inserted-alike, single-alike, pair-alike, set-alike, count-alike, least-alike, after-alike, no-cut, cut-alike, at-alike, last-alike, add-alike, bare-alike, marked-alike}
+use Rattle.construction.proofs.Alike.{Sides, off-one, AlikeNumber, AlikeList, end, more, AlikeSet, AlikeTable, AlikeCut, known-choice, zero-alike, row-alike, empty-alike, minus-alike, inserted-alike, single-alike, pair-alike, set-alike, count-alike, least-alike, after-alike, no-cut, cut-alike, at-alike, last-alike, add-alike, bare-alike, marked-alike}
 use Rattle.construction.proofs.AlikeSearch.{AlikeReach, AlikeFound, next-meets, next-is, members-in, members-nodup, and-on, minus-is, explore-alike, rest, rest-in, at-goal, last-same, last-rest, last-seed, route-alike, answered-alike, uncut, found-path}
-use Rattle.construction.proofs.AlikeEars.{off-one, on-inserted, inserted-keep, single-is, on-single, pair-is, all-is, on-all, cycleSearch, cycle-search, cycle-alike, cycle-found}
+use Rattle.construction.proofs.AlikeEars.{on-inserted, inserted-keep, single-is, on-single, pair-is, all-is, on-all, cycleSearch, cycle-search, cycle-alike, cycle-found}
 
 pub record AlikeBegun (s : Sides) (e f : Begun) : Type 0 where
   pub four : AlikeSet s (e .four) (f .four)
@@ -73,19 +73,19 @@ module _ {s : Sides} {t r : ℕ → ℕ → Bool} (d : AlikeTable s t r) {p q : 
       let e = after-alike h c in
       link-alike (link-alike (link-alike (link-alike (link-alike (link-alike end a b (omega arith)) a c (omega arith)) a e (f .3)) b c (omega arith)) b e (f .3)) c e (f .3)
 
-pub broken-alike : {s : Sides} {c e : Cut} → AlikeCut s c e → AlikeBegun s (broken c) (broken e)
+broken-alike : {s : Sides} {c e : Cut} → AlikeCut s c e → AlikeBegun s (broken c) (broken e)
 broken-alike h = record { four = empty-alike; flat = end; cutBy = h }
 
 -- ---- the three paths of the start
 
 -- the cycle misses a neighbour of 0
-pub record Around (s : Sides) (adj : ℕ → ℕ → Bool) (C : List ℕ) : Type 0 where
+record Around (s : Sides) (adj : ℕ → ℕ → Bool) (C : List ℕ) : Type 0 where
   pub zero-in : setOf (s .a) C 0 ≡ true
   pub missed : ℕ
   pub is-missed : minus (adj 0) (setOf (s .a) C) missed ≡ true
 
 -- the third path begins at another vertex of the cycle than 0, and its inner vertices, of which there is one, are not on the cycle
-pub record Third (s : Sides) (C T : List ℕ) : Type 0 where
+record Third (s : Sides) (C T : List ℕ) : Type 0 where
   pub begins : setOf (s .a) C (getD T 0 0) ≡ true
   pub not-zero : getD T 0 0 ≡ 0 → ⊥
   pub inner : ℕ
@@ -96,7 +96,7 @@ in-set : (b : Bounds) (l : List ℕ) (x : ℕ) → setOf b l x ≡ true → In x
 in-set b l x e = ⊎-elim (λ k. absurd (clash k refl)) (λ k. k) (all-is b emptySet l x e)
 
 -- what stands in a path that was found
-module _ {s : Sides} {t : ℕ → ℕ → Bool} {S G R : VertexSet} {r q : Reach} (m : AlikeReach s t S G R r q) (met : isFound (s .a) r ≡ true) (apart : (x : ℕ) → S x ≡ true → G x ≡ false) where
+module _ {s : Sides} {t : ℕ → ℕ → Bool} {S G : VertexSet} {r q : Reach} (m : AlikeReach s t S G r q) (met : isFound (s .a) r ≡ true) (apart : (x : ℕ) → S x ≡ true → G x ≡ false) where
   rest-off : (w : ℕ) → In w (rest m) → G w ≡ false
   rest-off w k = m .visiting .no-goal apart w (rest-in m met w k)
 
@@ -138,7 +138,7 @@ module _ {s : Sides} {adj : ℕ → ℕ → Bool} (d : AlikeTable s adj adj) whe
     abbrev thirdSearch : Reach
     thirdSearch = explore (s .a) adj (single (s .a) z) (minus (setOf (s .a) C) (single (s .a) 0)) (single (s .a) 0)
 
-    third-search : AlikeReach s adj (single (s .a) z) (minus (setOf (s .a) C) (single (s .a) 0)) (single (s .a) 0) thirdSearch
+    third-search : AlikeReach s adj (single (s .a) z) (minus (setOf (s .a) C) (single (s .a) 0)) thirdSearch
         (explore (s .b) adj (single (s .b) (least (s .b) (minus (adj 0) (setOf (s .b) D)))) (minus (setOf (s .b) D) (single (s .b) 0)) (single (s .b) 0))
     third-search = explore-alike d (single-alike (least-alike (minus-alike (row-alike d 0) (set-alike hc)))) (minus-alike (set-alike hc) (single-alike zero-alike)) (single-alike zero-alike)
 
@@ -200,7 +200,7 @@ module _ {s : Sides} {adj : ℕ → ℕ → Bool} (d : AlikeTable s adj adj) whe
     ends-alike : AlikeSet s ends (pair (s .b) 0 (getD U 0 0))
     ends-alike = pair-alike zero-alike (at-alike ht 0)
 
-    across-search : AlikeReach s adj (minus (setOf (s .a) T) ends) (minus (setOf (s .a) C) ends) ends acrossSearch
+    across-search : AlikeReach s adj (minus (setOf (s .a) T) ends) (minus (setOf (s .a) C) ends) acrossSearch
         (explore (s .b) adj (minus (setOf (s .b) U) (pair (s .b) 0 (getD U 0 0))) (minus (setOf (s .b) D) (pair (s .b) 0 (getD U 0 0))) (pair (s .b) 0 (getD U 0 0)))
     across-search = explore-alike d (minus-alike (set-alike ht) ends-alike) (minus-alike (set-alike hc) ends-alike) ends-alike
 
@@ -261,7 +261,7 @@ module _ {s : Sides} {adj : ℕ → ℕ → Bool} (d : AlikeTable s adj adj) whe
       branch-on w (inr (inr (inr (inr k)))) = absurd k
 
     crossed-alike : 3 ≤ s .n → AlikeBegun s (crossed (s .a) C T (across (s .a) adj C T)) (crossed (s .b) D U (across (s .b) adj D U))
-    crossed-alike big = choice (AlikeBegun s) (cut-alike (across-alike .cutBy)) (λ e. broken-alike (across-alike .cutBy)) (λ e. started e)
+    crossed-alike big = known-choice (AlikeBegun s) (cut-alike (across-alike .cutBy)) (λ e. broken-alike (across-alike .cutBy)) (λ e. started e)
       where
         started : isCut (s .a) (across (s .a) adj C T .cutBy) ≡ false → AlikeBegun s (startOn (s .a) C T (across (s .a) adj C T .path)) (startOn (s .b) D U (across (s .b) adj D U .path))
         started u =
@@ -279,11 +279,11 @@ module _ {s : Sides} {adj : ℕ → ℕ → Bool} (d : AlikeTable s adj adj) whe
   begun-alike three =
       let round = cycle-alike d in
       let big = at-most (s .n) (members (s .a) (adj 0)) (members-nodup (row-alike d 0)) (λ w k. row-alike d 0 .low w (members-in (row-alike d 0) w k)) in
-      choice (AlikeBegun s) (cut-alike (round .cutBy)) (λ u. broken-alike (round .cutBy))
+      known-choice (AlikeBegun s) (cut-alike (round .cutBy)) (λ u. broken-alike (round .cutBy))
       (λ u. let a = cycle-around three u in let t = third-alike (round .path) a in
-      choice (AlikeBegun s) (cut-alike (t .cutBy)) (λ v. broken-alike (t .cutBy)) (λ v. crossed-alike (round .path) (t .path) (third-is (round .path) a v) (omega arith)))
+      known-choice (AlikeBegun s) (cut-alike (t .cutBy)) (λ v. broken-alike (t .cutBy)) (λ v. crossed-alike (round .path) (t .path) (third-is (round .path) a v) (omega arith)))
 
   -- THE START
   pub begin-alike : AlikeBegun s (begin (s .a) adj) (begin (s .b) adj)
   unfolding begin
-  begin-alike = choice (AlikeBegun s) (λ i. ltb (count-alike (row-alike d 0) i) 3) (λ e. broken-alike (record { removed = row-alike d 0; side = single-alike zero-alike })) (λ e. begun-alike (ltb-false (count (s .a) (adj 0)) 3 e))
+  begin-alike = known-choice (AlikeBegun s) (λ i. ltb (count-alike (row-alike d 0) i) 3) (λ e. broken-alike (record { removed = row-alike d 0; side = single-alike zero-alike })) (λ e. begun-alike (ltb-false (count (s .a) (adj 0)) 3 e))

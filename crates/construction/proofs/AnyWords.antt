@@ -19,13 +19,13 @@ use Rattle.construction.specs.Certificate as by-rows
 use Rattle.construction.specs.Certificate.{pairsFrom}
 use Rattle.construction.specs.Construction.{Bounds, codeBounds, VertexSet, Reach, Cut, Eared, Begun, State, treeNumbers, cutNumbers, cutCertificate, buildCertificate, begunCertificate, treeCertificate, certificateNumbers, certificate}
 use Rattle.construction.proofs.WithoutWords.{plan-without-words}
-use Rattle.construction.proofs.Alike.{Sides, end, AlikeSet, AlikeTable, AlikeCut, choice, zero-alike, empty-alike, minus-alike, single-alike, set-alike, members-alike, count-alike, none-left, no-cut, cut-alike, vertices-alike, lengthened-alike}
+use Rattle.construction.proofs.Alike.{Sides, end, AlikeSet, AlikeTable, AlikeCut, known-choice, zero-alike, empty-alike, minus-alike, single-alike, set-alike, members-alike, count-alike, none-left, no-cut, cut-alike, vertices-alike, lengthened-alike}
 use Rattle.construction.proofs.AlikeSearch.{AlikeReach, explore-alike}
 use Rattle.construction.proofs.AlikeEars.{AlikeEared, ears-alike}
 use Rattle.construction.proofs.AlikeStart.{AlikeBegun, begin-alike}
 use Rattle.construction.proofs.AlikeBuild.{AlikeState, build-alike, finish-alike}
 
-module _ {s : Sides} {adj : ℕ → ℕ → Bool} {S G R : VertexSet} {r q : Reach} (m : AlikeReach s adj S G R r q) where
+module _ {s : Sides} {adj : ℕ → ℕ → Bool} {S G : VertexSet} {r q : Reach} (m : AlikeReach s adj S G r q) where
   tree-same : treeNumbers (s .a) r ≡ treeNumbers (s .b) q
   tree-same = λ i. 0 ∷ pairsFrom (m .order i) (m .from i) (length (m .order i) - 1) 1
 
@@ -41,7 +41,7 @@ module _ {s : Sides} {adj : ℕ → ℕ → Bool} {S G R : VertexSet} {r q : Rea
     cut-same c =
         let e = ears-alike d hf in
         let without = numbers-same (record { flat = end; count = refl; cutBy = no-cut }) c in
-        let with-ears = numbers-same e (choice (AlikeCut s) (cut-alike (e .cutBy)) (λ z. e .cutBy) (λ z. c)) in
+        let with-ears = numbers-same e (known-choice (AlikeCut s) (cut-alike (e .cutBy)) (λ z. e .cutBy) (λ z. c)) in
         λ i. cond (ltb (count-alike (c .removed) i) 2) (without i) (with-ears i)
 
     build-same : {four four′ : VertexSet} {x y : State} → AlikeSet s four four′ → AlikeState s x y → buildCertificate (s .a) r adj (s .n) full four x ≡ buildCertificate (s .b) q adj (s .n) full′ four′ y
