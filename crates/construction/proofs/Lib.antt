@@ -29,3 +29,9 @@ pub mod Standing
 pub mod SameAnswers
 pub mod WithoutWords
 pub mod PlainExamples
+pub mod Alike
+pub mod AlikeSearch
+pub mod AlikeEars
+pub mod AlikeStart
+pub mod AlikeBuild
+pub mod AnyWords

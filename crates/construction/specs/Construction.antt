@@ -441,3 +441,7 @@ module _ (b : Bounds) where
   -- THE NUMBERS OF THE CERTIFICATE of the graph with n vertices and this adjacency test
   unfoldable pub certificateNumbers : ℕ → (ℕ → ℕ → Bool) → List ℕ
   certificateNumbers n adj = treeCertificate adj n (fullSet n) (explore adj (single 0) emptySet emptySet)
+
+-- THE CERTIFICATE without words: no vertex is as large as n
+abbrev pub certificate : (numbers steps : ℕ) → ℕ → (ℕ → ℕ → Bool) → List ℕ
+certificate numbers steps n adj = certificateNumbers (record { vertices = n; numbers = numbers; steps = steps }) n adj
