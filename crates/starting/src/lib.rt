@@ -41,7 +41,13 @@ fn third_path<'a>(
 {
     let set = detours::with_all(VertexSet::empty(), around);
     let z = graph::row(rows, 0).minus(set).next_from(0);
-    detours::find_on(rows, space, detours::single(z), set.minus(detours::single(0)), 0)
+    detours::find_on(
+        rows,
+        space,
+        detours::single(z),
+        set.minus(detours::single(0)),
+        0,
+    )
 }
 
 // A path from inside the third path across to the cycle.
@@ -90,7 +96,13 @@ fn add_link<'a>(
     ensures { λ r. ⌜ now (flat .exit) ≡ placed (now (flat .entry)) len (stop ∷ linkIn (now (table .entry)) four u w) ⌝ }
     ensures { λ r. ⌜ r ≡ placedEnd (now (flat .entry)) len (stop ∷ linkIn (now (table .entry)) four u w) ⌝ }
 {
-    let r = search::explore(table, space, detours::single(w), detours::single(u), four.minus(detours::pair(u, w)));
+    let r = search::explore(
+        table,
+        space,
+        detours::single(w),
+        detours::single(u),
+        four.minus(detours::pair(u, w)),
+    );
     let p = search::route(space, r);
     detours::add_path(flat, len, detours::front(&p.vertices, p.count))
 }
@@ -140,7 +152,8 @@ fn start_on<'a>(
     requires { ⌜ (length (now space) ≡ searchSpace) × (length (now around) ≤ pathRoom) ⌝ }
     ensures { λ r. ⌜ r ≡ startOf (startOn (now (around .entry)) (now (third .entry)) (now (across .entry))) ⌝ }
 {
-    let four = detours::pair(0, detours::number_at(third, 0)).insert(detours::number_at(across, 0))
+    let four = detours::pair(0, detours::number_at(third, 0))
+        .insert(detours::number_at(across, 0))
         .insert(detours::last_of(across));
     let t = table_of(around, third, across);
     let table = t.rows;
@@ -162,7 +175,12 @@ fn begin_across<'a>(
     if c.is_cut() {
         return broken(c);
     }
-    start_on(space, around, third, detours::front(&f.path.vertices, f.path.count))
+    start_on(
+        space,
+        around,
+        third,
+        detours::front(&f.path.vertices, f.path.count),
+    )
 }
 
 // The start on a cycle through vertex 0; or a cut.
@@ -179,7 +197,12 @@ fn begin_around<'a>(
     if c.is_cut() {
         return broken(c);
     }
-    begin_across(rows, space, around, detours::front(&f.path.vertices, f.path.count))
+    begin_across(
+        rows,
+        space,
+        around,
+        detours::front(&f.path.vertices, f.path.count),
+    )
 }
 
 // THE START: four branch vertices and six links; or a cut. All searches share one space.
@@ -199,5 +222,9 @@ pub fn begin(rows: &[u64; Graph::ROW_WORDS]) -> Start
     if c.is_cut() {
         return broken(c);
     }
-    begin_around(rows, &mut space, detours::front(&f.path.vertices, f.path.count))
+    begin_around(
+        rows,
+        &mut space,
+        detours::front(&f.path.vertices, f.path.count),
+    )
 }

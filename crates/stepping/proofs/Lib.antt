@@ -3,3 +3,4 @@ pub mod Turns
 pub mod States
 pub mod Stepping
 pub mod Edges
+pub mod Building

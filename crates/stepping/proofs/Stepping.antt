@@ -98,9 +98,9 @@ out-step : (rows : List ℕ) (full : VertexSet) (st : State) → outStep rows fu
 unfolding outStep
 out-step rows full st = refl
 
-module _ (rows : List ℕ) (full : VertexSet) (flat : List ℕ) (b : Progress) (kept : Kept flat (b .len)) {left : VertexSet} (l : left ≡ minus full (b .built)) {done : Bool} (d : done ≡ empty left) where
+module _ (rows : List ℕ) (full : VertexSet) (flat : List ℕ) (b : Progress) (kept : Kept flat (b .len)) {left : VertexSet} (r : left ≡ minus full (b .built)) {done : Bool} (d : done ≡ empty left) where
   done-is : done ≡ empty (minus full (b .built))
-  done-is = d ∙ ap empty l
+  done-is = d ∙ ap empty r
 
   pub out-done : done ≡ true → {none : Cut} → none ≡ cutOf noCut → {r : Progress} → r ≡ stoppedAs b none → Shows flat r (outStep rows full (stateIn flat b))
   out-done h n {r} q =

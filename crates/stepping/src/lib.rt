@@ -72,7 +72,10 @@ fn off_link<'a>(
     requires { ⌜ (length (now space) ≡ searchSpace) × ((i ≤ j) × (j ≤ length (now list))) ⌝ }
     ensures { λ r. ⌜ r ≡ foundOf (offLink (now (rows .entry)) (state (now (list .entry)) built built 0) i j) ⌝ }
 {
-    let ends = detours::pair(detours::number_at(list, before(i)), detours::number_at(list, j));
+    let ends = detours::pair(
+        detours::number_at(list, before(i)),
+        detours::number_at(list, j),
+    );
     let inner = detours::with_all(VertexSet::empty(), &list[i..j]);
     detours::find(rows, space, inner, built.minus(inner).minus(ends), ends)
 }
@@ -101,7 +104,9 @@ fn extend<'a>(flat: &'a mut [u16], b: Progress, path: &'a [u16], at: usize) -> P
     let branch = b.branch;
     let built = b.built;
     Progress {
-        branch: branch.insert(detours::number_at(path, 0)).insert(detours::last_of(path)),
+        branch: branch
+            .insert(detours::number_at(path, 0))
+            .insert(detours::last_of(path)),
         built: detours::with_all(built, path),
         len,
         at,
@@ -264,7 +269,12 @@ fn out_step<'a>(
     }
     let path = detours::front(&f.path.vertices, f.path.count);
     let len = b.len;
-    let k = beside(rows, &flat[0..len], detours::last_of(path), detours::number_at(path, 0));
+    let k = beside(
+        rows,
+        &flat[0..len],
+        detours::last_of(path),
+        detours::number_at(path, 0),
+    );
     if k < len {
         return reroute(flat, b, path, k);
     }

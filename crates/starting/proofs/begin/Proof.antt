@@ -39,9 +39,11 @@ begin-around-requires c κs =
     let b = f .before .before in
     let n = b .before in
     let r = n .before in
-    let a = r .before .args in
-    (search needs, cycle-low (a .rows .now) (r .row .result) (r .row .ensures) (n .size .result) (n .size .ensures) (b .if1 .left) (f .cycle .result)
-    (cycle-told (replicate searchSpace 0) zeros (a .rows .now) (f .cycle .ensures .1)) (i .before .is-cut .ensures) (c .front .ensures))
+    let a = r .before .args in (
+      search needs,
+      cycle-low (a .rows .now) (r .row .result) (r .row .ensures) (n .size .result) (n .size .ensures) (b .if1 .left) (f .cycle .result)
+          (cycle-told (replicate searchSpace 0) zeros (a .rows .now) (f .cycle .ensures .1)) (i .before .is-cut .ensures) (c .front .ensures),
+    )
 
 returns-3 : tie.Need-returns-3
 returns-3 c =

@@ -1,59 +1,46 @@
+-- `stepping::reroute` meets its contract. Assumes nothing.
+use Prim.Native.Nat.{ℕ, _+_, _≤_}
+use mathlib.Core.List.{List}
+use mathlib.Core.Path.{ap, _∙_}
+use native.Mathlib.Omega.{arith}
 use borrow.Author.Needs.{needs}
+use lib.ListN.{length, getD}
+use Rattle.construction.specs.Steps.{turned}
+use Rattle.detours.proofs.Kept.{kept-length, path-front}
+use Rattle.stepping.specs.Code.{putBetween, putBetweenEnd}
+use Rattle.stepping.proofs.States.{reroute-shows}
 use Rattle.stepping.proofs.reroute.Statement.{statement}
 use Rattle.stepping.proofs.reroute.Tie as tie
-use Rattle.stepping.proofs.reroute.Reads as reads
-use Rattle.stepping.proofs.reroute.Lts as lts
-use Rattle.detours.proofs.Cut.none.Reads as none-reads
-use Rattle.detours.proofs.front.Reads as front-reads
-use Rattle.detours.proofs.with_all.Reads as with-all-reads
-use Rattle.stepping.proofs.put_between.Reads as put-between-reads
-use Rattle.stepping.proofs.turned.Reads as turned-reads
-
-mul-turned : tie.Need-mul-turned
-mul-turned c = search needs
 
 slice-read-turned : tie.Need-slice-read-turned
-slice-read-turned c = search needs
-
-turned-requires : tie.Need-turned-requires
-turned-requires c κs = search needs
-
-add-put-between : tie.Need-add-put-between
-add-put-between c = search needs
-
-front-requires : tie.Need-front-requires
-front-requires c κs = search needs
+slice-read-turned c =
+    let s = c .before .before .before in
+    let a = s .args in
+    omega (arith, kept-length (a .flat .now) (a .b .len) (s .pre .0), s .pre .0 .1, s .pre .1 .0)
 
 put-between-requires : tie.Need-put-between-requires
-put-between-requires c κs = search needs
-
-with-all-requires : tie.Need-with-all-requires
-with-all-requires c κs = search needs
-
-add-t10 : tie.Need-add-t10
-add-t10 c = search needs
-
-none-requires : tie.Need-none-requires
-none-requires c κs = search needs
-
-same-length : tie.Need-same-length
-same-length c = search needs
+put-between-requires c κs =
+    let s = c .before .before .before .before .before .before .before .before in
+    let a = s .args in
+    let h : a .k + 1 ≤ a .b .len = omega (arith, s .pre .1 .0) in
+    let m : a .b .len ≤ length (a .flat .now) = omega (arith, s .pre .0 .1, kept-length (a .flat .now) (a .b .len) (s .pre .0)) in
+    (h, m)
 
 returns : tie.Need-returns
-returns c = search needs
+returns c =
+    let s = c .before .before .before .before .before .before .before .before .before .before .before .before .before .before .before in
+    let a = s .args in
+    let t = c .before .before .before .before .before .before .before .before .before .before .before .turned in
+    let p = c .before .before .before .before .before .before .put-between in
+    let e = c .before .before .before .before .before .before .before .front .ensures ∙ path-front (t .result) (turned (a .path .now) (getD (a .flat .now) (a .k) 0)) (t .ensures) in
+    reroute-shows (a .flat .now) (a .b) (a .path .now) (s .pre .0) (a .k) (s .pre .1 .0)
+    (p .ensures .0 ∙ ap (λ (l : List ℕ). putBetween (a .flat .now) (a .b .len) (a .k + 1) l) e)
+    (p .ensures .1 ∙ ap (λ (l : List ℕ). putBetweenEnd (a .flat .now) (a .b .len) l) e)
+    (c .before .with-all .ensures) (c .none .ensures)
 
 pub reroute-spec : {M : Type 1} → statement M
 reroute-spec =
     tie.close
     (tie.spec
-    mul-turned
-    slice-read-turned
-    turned-requires
-    add-put-between
-    front-requires
-    put-between-requires
-    with-all-requires
-    add-t10
-    none-requires
-    same-length
-    returns)
+    (λ c. search needs) slice-read-turned (λ c κs. search needs) (λ c. search needs) (λ c κs. search needs) put-between-requires
+    (λ c κs. search needs) (λ c. search needs) (λ c κs. search needs) (λ c. search needs) returns)
