@@ -7,29 +7,22 @@ use native.Mathlib.Numerals.{add-one}
 use native.Mathlib.Omega.{arith}
 use lib.Dec.{eqb}
 use lib.ListN.{length, getD, set, take, drop, replicate, length-append, length-take, length-set, length-drop, drop-of-length-le, take-append-drop}
-use lib.Seq.{drop-cons, take-suc, getD-take, append-snoc, set-at, set-split, take-at, getD-at, length-take-le}
-use borrow.Author.Tests.{eq-eqb, ne-eqb, lt-ltb, le-ltb, le-leb}
+use lib.Seq.{drop-cons, take-suc, getD-take, append-snoc, set-at, take-at, getD-at, length-take-le}
+use borrow.Author.Tests.{eq-eqb, ne-eqb}
 use Rattle.record.specs.Number.{numberBytes, listBytes}
 use Rattle.record.specs.Write.{hasRoom, overwritten, canWrite, writtenNumber, withNumber}
 use Rattle.record.specs.declared.Written.{Written}
 use Rattle.record.specs.declared.Written.the-variants.{Next, Nothing}
 use Rattle.record.proofs.Write.{can-write, put-told, put-fails, overwritten-none, overwritten-length, overwritten-more}
-use Rattle.vertexset.specs.Set.{emptySet, has, wordCount, next, capacity}
+use Rattle.vertexset.specs.Set.{emptySet, has, next, capacity}
 use Rattle.vertexset.specs.declared.VertexSet.{VertexSet}
-use Rattle.graph.specs.Rows.{rowOf, bareRows, joinedRows}
 use Rattle.connectivity.specs.Lists.{upFrom, select}
 use Rattle.connectivity.proofs.Lists.{length-below}
-use Rattle.construction.specs.Sets.{stop, single, minus, members, membersFrom, added}
-use Rattle.construction.specs.Ears.{pathSpace, addPath}
-use Rattle.construction.specs.Start.{marked, threePaths}
+use Rattle.construction.specs.Sets.{stop, single, members}
+use Rattle.construction.specs.Ears.{pathSpace}
 use Rattle.construction.specs.Certificate.{lengthened, pairsFrom, treeNumbers}
-use Rattle.construction.specs.Steps.{addEdges, addRows, finish}
-use Rattle.construction.proofs.SetLaws.{added-room}
-use Rattle.search.specs.Arrays.{padded, placed, placedEnd}
-use Rattle.search.proofs.Placed.{padded-length, padded-take, padded-none, padded-set, added-length, placed-padded, placed-end-padded}
+use Rattle.search.specs.Arrays.{placed, placedEnd}
 use Rattle.search.proofs.Filling.{Filling, fill-start, fill-length, fill-place, fill-turn, fill-done}
-use Rattle.search.proofs.Members.{members-next, after}
-use Rattle.search.specs.Code.{pathRoom}
 use Rattle.search.proofs.Sizes.{explore-sized}
 use Rattle.detours.specs.declared.Ears.{Ears}
 use Rattle.detours.proofs.Filled.{Put, Filled, filled-length, filled-put, filled-first, first-put, first-end}

@@ -32,11 +32,5 @@ module _ (r : Reach) (removed : VertexSet) where
   answer-length more true = omega (arith, length-append (route r) more)
   answer-length more false = omega arith
 
-  pub answered-short : (more : List ℕ) → length more ≤ 1 → length (answered r removed more .path) ≤ pathRoom
-  answered-short more h = omega (arith, route-short r, answer-length more (isFound r))
-
-  pub answered-none : length (answered r removed [] .path) ≤ pathRoom
-  answered-none = answered-short [] (omega arith)
-
   pub answered-one : (x : ℕ) → length (answered r removed (x ∷ []) .path) ≤ pathRoom
-  answered-one x = answered-short (x ∷ []) (omega arith)
+  answered-one x = omega (arith, route-short r, answer-length (x ∷ []) (isFound r))

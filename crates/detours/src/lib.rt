@@ -42,7 +42,7 @@ pub struct Ears {
 }
 
 impl Ears {
-    // an edge takes three numbers at most, in a path of its own
+    // a path takes a stop and its vertices: at most three numbers for each of its edges
     pub const ROOM: usize = 3 * Graph::MAX_EDGES as usize;
 }
 

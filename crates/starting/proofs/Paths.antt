@@ -4,7 +4,6 @@ use mathlib.Core.Path.{_≡_, refl, ap, subst}
 use mathlib.Core.List.{List, [], _∷_}
 use native.Mathlib.Omega.{arith}
 use lib.ListN.{length, take, replicate}
-use Rattle.search.specs.Arrays.{placed, placedEnd}
 use Rattle.search.specs.Code.{pathRoom}
 use Rattle.construction.specs.Sets.{stop}
 use Rattle.construction.specs.Ears.{pathSpace, addPath}

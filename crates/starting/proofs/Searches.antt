@@ -9,7 +9,7 @@ use Rattle.vertexset.specs.Set.{emptySet, count}
 use Rattle.vertexset.specs.declared.VertexSet.{VertexSet}
 use Rattle.graph.specs.Rows.{rowOf}
 use Rattle.search.specs.Code.{pathRoom}
-use Rattle.construction.specs.Sets.{minus, single, pair, withAll, setOf, least}
+use Rattle.construction.specs.Sets.{minus, single, pair, withAll, least}
 use Rattle.construction.specs.Search.{explore}
 use Rattle.construction.specs.Ears.{cut, isCut, answered, cycle}
 use Rattle.construction.specs.Start.{broken, thirdPath, across, startOn, crossed, thirded, around, begin}

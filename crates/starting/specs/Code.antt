@@ -1,5 +1,4 @@
 -- What the functions give: the start of the definition, its paths at the front of an array.
-use mathlib.Core.List.{List}
 use lib.ListN.{length}
 use Rattle.construction.specs.Start as construction
 use Rattle.detours.specs.Code.{cutOf, flatOf}

@@ -1,25 +1,20 @@
 -- Lists as the loops of the steps take them: what is left of a list, and what stands at the front of an array. Assumes nothing.
-use Prim.Native.Nat.{ℕ, suc, _+_, _-_, _/_, _%_, _^_, _≤_, _<_}
+use Prim.Native.Nat.{ℕ, suc, _+_, _-_, _≤_, _<_}
 use mathlib.Core.Path.{_≡_, refl, sym, ap, _∙_}
 use mathlib.Core.Bool.{Bool, true, false, cond, not, _&&_, _||_, Bool·beq}
 use mathlib.Core.List.{List, [], _∷_, _++_}
-use native.Mathlib.Numerals.{add-one}
 use native.Mathlib.Omega.{arith}
-use lib.Bits.{bitOr}
 use lib.Dec.{eqb}
 use lib.ListN.{length, take, drop, getD, set, replicate, length-append, length-drop, drop-of-length-le, take-append-drop, List·getD-append}
-use lib.Seq.{set-out, take-suc, append-snoc, set-at, length-take-le, getD-take}
-use borrow.Author.Tests.{lt-ltb}
-use Rattle.record.specs.Read.{folded}
-use Rattle.vertexset.specs.Set.{has, inserted}
+use lib.Seq.{take-suc, append-snoc, set-at, length-take-le, getD-take}
+use Rattle.vertexset.specs.Set.{has}
 use Rattle.vertexset.specs.declared.VertexSet.{VertexSet}
 use Rattle.vertexset.proofs.Steps.{drop-next}
-use Rattle.connectivity.specs.Lists.{upFrom}
 use Rattle.search.specs.Arrays.{padded, placed, placedEnd}
 use Rattle.search.specs.Code.{pathOf, pathRoom}
 use Rattle.search.proofs.Placed.{padded-set, placed-padded, placed-end-padded, padded-none}
 use Rattle.search.proofs.Back.{pathIn}
-use Rattle.construction.specs.Sets.{withAll, reversed, lastOf, placeOf}
+use Rattle.construction.specs.Sets.{reversed, placeOf}
 use Rattle.construction.specs.Steps.{pairPlace}
 use Rattle.construction.proofs.SetLaws.{added-room}
 use Rattle.stepping.specs.Code.{sideOf}

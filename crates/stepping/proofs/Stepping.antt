@@ -14,7 +14,7 @@ use Rattle.construction.specs.Sets.{pair, withAll, minus, lastOf, placeOf, empt
 use Rattle.construction.specs.Search.{explore}
 use Rattle.construction.specs.Ears as construction
 use Rattle.construction.specs.Ears.{noCut, isCut, answered, detour}
-use Rattle.construction.specs.Steps.{State, state, stopped, extended, segment, linkEnds, offLink, linkTaken, runEnd, linkStep, besidePlace, reroute, outTaken, outStep, innerPlace, step, steps}
+use Rattle.construction.specs.Steps.{State, state, stopped, extended, segment, offLink, linkTaken, runEnd, linkStep, besidePlace, reroute, outTaken, outStep, innerPlace, step, steps}
 use Rattle.detours.specs.Code.{cutOf, cutIn, foundOf, Kept}
 use Rattle.detours.specs.declared.Cut.{Cut}
 use Rattle.detours.specs.declared.Found.{Found}

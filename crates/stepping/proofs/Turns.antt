@@ -9,7 +9,6 @@ use lib.ListN.{length, drop, getD, length-take, length-drop}
 use borrow.Author.Tests.{eq-eqb, ne-eqb}
 use Rattle.construction.specs.Sets.{reversed}
 use Rattle.construction.specs.Steps.{turned, segment}
-use Rattle.stepping.proofs.Lists.{reversed-length}
 
 pub inner-length : (path : List ℕ) → length (segment path 1 (length path - 1)) ≤ length path
 inner-length path = omega (arith, length-take (length path - 1 - 1) (drop 1 path), length-drop 1 path)
@@ -28,10 +27,3 @@ module _ (path : List ℕ) (z : ℕ) where
 
   pub turned-other : (z ≡ getD path 0 0 → ⊥) → turned path z ≡ reversed (segment path 1 (length path - 1))
   turned-other h = rw (ne-eqb z (getD path 0 0) h)
-
-  pub turned-length : length (turned path z) ≤ length path
-  turned-length = go (eqb z (getD path 0 0))
-    where
-      go : (b : Bool) → length (cond b (segment path 1 (length path - 1)) (reversed (segment path 1 (length path - 1)))) ≤ length path
-      go true = inner-length path
-      go false = omega (arith, inner-length path, reversed-length (segment path 1 (length path - 1)))
