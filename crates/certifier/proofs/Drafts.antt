@@ -17,13 +17,13 @@ use Rattle.record.specs.declared.Answer.{Answer}
 use Rattle.record.specs.declared.Answer.the-variants.{Accepted, Grade, PlanFault, CertificateFault}
 use Rattle.record.proofs.Answer.{the-type}
 use Rattle.record.proofs.Write.{some-bytes, overwritten-none}
-use Rattle.graph.specs.Code.{wholePlan}
-use Rattle.graph.specs.declared.Graph.{Graph}
-use Rattle.graph.specs.declared.PlanRead.{PlanRead}
-use Rattle.graph.proofs.Plans.{accepted}
+use Rattle.reading.specs.Code.{wholePlan}
+use Rattle.graph.specs.declared.GraphTable.{GraphTable}
+use Rattle.reading.specs.declared.PlanRead.{PlanRead}
+use Rattle.reading.proofs.Plans.{accepted}
 use Rattle.certificates.proofs.Accepted.{kind-low}
 use Rattle.construction.specs.Certificate.{certificateNumbers}
-use Rattle.construction.proofs.CertificateLaws.{Certified, certified}
+use Rattle.construction.proofs.CertificateLaws.{Constructed, certified}
 use Rattle.construction.proofs.PlanLaws.{plan-drawn, plan-edges}
 use Rattle.search.proofs.Placed.{padded-at}
 use Rattle.detours.proofs.Filled.{Filled, filled-length, filled-take}
@@ -50,7 +50,7 @@ module _ (s : List ℕ) (room : ℕ) {x : PlanRead} (e : x ≡ wholePlan s) wher
   unfolding draftBy
   draft-refused k h = drafted (h ∙ go (x .answer) (x .graph) k)
     where
-      go : (a : Answer) (g : Graph) → OneOf (1 ∷ 2 ∷ 3 ∷ []) (tagOf the-type a) → draftOf a [] ≡ draftBy room a g
+      go : (a : Answer) (g : GraphTable) → OneOf (1 ∷ 2 ∷ 3 ∷ []) (tagOf the-type a) → draftOf a [] ≡ draftBy room a g
       go Accepted g (inl i) = absurd (omega arith)
       go Accepted g (inr (inl i)) = absurd (omega arith)
       go Accepted g (inr (inr i)) = absurd (omega arith)
@@ -67,11 +67,11 @@ module _ (s : List ℕ) (bytes : Bytes s) {x : PlanRead} (e : x ≡ wholePlan s)
   abbrev numbers : List ℕ
   numbers = certificateNumbers (x .graph .rows) (x .graph .n)
 
-  read-certified : Certified (x .graph .rows) (x .graph .n)
+  read-certified : Constructed (x .graph .rows) (x .graph .n)
   read-certified =
       let p = accepted s bytes (ap (λ (y : PlanRead). y .answer) (sym e) ∙ f) in
       let d = plan-drawn (p .0) (p .1) in
-      subst (λ (g : Graph). Certified (g .rows) (g .n)) (sym (ap (λ (y : PlanRead). y .graph) e ∙ p .3)) (certified _ _ d (plan-edges (p .0) (p .1)))
+      subst (λ (g : GraphTable). Constructed (g .rows) (g .n)) (sym (ap (λ (y : PlanRead). y .graph) e ∙ p .3)) (certified _ _ d (plan-edges (p .0) (p .1)))
 
   module _ {c : Numbers} (k : c ≡ numbersOf numbers) where
     first : getD (c .items) 0 0 ≡ getD numbers 0 0
@@ -107,7 +107,7 @@ decided-none buffer answer = record {
   filled = overwritten-none buffer 0;
 }
 
-decided-by : (buffer : List ℕ) (a : Answer) (g : Graph) → (a ≡ Accepted → Certified (g .rows) (g .n)) → Decided buffer (draftBy (length buffer) a g) (madeBy buffer a g) (filledBy buffer a g)
+decided-by : (buffer : List ℕ) (a : Answer) (g : GraphTable) → (a ≡ Accepted → Constructed (g .rows) (g .n)) → Decided buffer (draftBy (length buffer) a g) (madeBy buffer a g) (filledBy buffer a g)
 unfolding draftBy madeBy filledBy
 decided-by buffer Accepted g w = go (ltb (length buffer) roomAsked) refl
   where

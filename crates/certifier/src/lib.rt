@@ -16,7 +16,7 @@ ghost use Rattle.certifier.specs.Code.{numbersOf, treeIn, evidenceIn, cu
 ghost use Rattle.certifier.specs.Made.{madeFrom, filledFrom, draftOf, draftFrom};
 use detours::Cut;
 use detours::Ears;
-use graph::Graph;
+use graph::GraphTable;
 use record::Answer;
 use record::Number;
 use record::Written;
@@ -94,7 +94,7 @@ fn put_tree<'a>(items: &'a mut [u16], at: usize, space: &'a [u16], count: usize)
 
 // What stands between the removed vertices and the side: nothing, the tree, or the ears.
 fn put_evidence<'a>(
-    rows: &'a [u64; Graph::ROW_WORDS],
+    rows: &'a [u64; GraphTable::ROW_WORDS],
     space: &'a mut [u16],
     items: &'a mut [u16],
     at: usize,
@@ -127,7 +127,7 @@ fn put_evidence<'a>(
 
 // Kinds 0 to 2.
 fn cut_numbers<'a>(
-    rows: &'a [u64; Graph::ROW_WORDS],
+    rows: &'a [u64; GraphTable::ROW_WORDS],
     space: &'a mut [u16],
     e: Ears,
     c: Cut,
@@ -160,7 +160,7 @@ fn no_ears() -> Ears
 
 // The certificate of a cut; where two vertices are removed, ears are asked for.
 fn cut_certificate<'a>(
-    rows: &'a [u64; Graph::ROW_WORDS],
+    rows: &'a [u64; GraphTable::ROW_WORDS],
     space: &'a mut [u16],
     full: VertexSet,
     c: Cut,
@@ -194,7 +194,7 @@ fn build_numbers(four: VertexSet, list: &[u16]) -> Numbers
 
 // The certificate of a build, or of the cut that it met.
 fn build_certificate<'a>(
-    rows: &'a [u64; Graph::ROW_WORDS],
+    rows: &'a [u64; GraphTable::ROW_WORDS],
     space: &'a mut [u16],
     n: u16,
     full: VertexSet,
@@ -218,7 +218,7 @@ fn build_certificate<'a>(
 }
 
 // THE CERTIFICATE, as its numbers. The first search and the tree share a space.
-fn certificate(rows: &[u64; Graph::ROW_WORDS], n: u16) -> Numbers
+fn certificate(rows: &[u64; GraphTable::ROW_WORDS], n: u16) -> Numbers
     ensures { λ r. ⌜ r ≡ numbersOf (certificateNumbers (now (rows .entry)) n) ⌝ }
 {
     let mut space = [0u16; Reach::SPACE];
@@ -282,7 +282,7 @@ fn no_draft(answer: Answer) -> Draft
 fn decide(plan: &[u8], room: usize) -> Draft
     ensures { λ r. ⌜ r ≡ draftFrom (now (plan .entry)) room ⌝ }
 {
-    let p = graph::read_plan(plan);
+    let p = reading::read_plan(plan);
     let answer = p.answer;
     let Answer::Accepted = answer else {
         return no_draft(answer);

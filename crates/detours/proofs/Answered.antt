@@ -11,7 +11,7 @@ use Rattle.vertexset.specs.Set.{emptySet, count, capacity}
 use Rattle.vertexset.specs.declared.VertexSet.{VertexSet}
 use Rattle.graph.specs.Rows.{rowOf}
 use Rattle.search.specs.Code.{pathOf, reachOf, searchSpace, leftIn, answerIn, noReach, routeIn}
-use Rattle.search.specs.declared.Path.{Path}
+use Rattle.search.specs.declared.VertexList.{VertexList}
 use Rattle.search.specs.declared.Reach.{Reach}
 use Rattle.search.proofs.Lent.{answer-is, routed}
 use Rattle.construction.specs.Sets.{minus, single, least, members}
@@ -25,7 +25,7 @@ use Rattle.detours.specs.declared.Found.{Found}
 use Rattle.detours.proofs.Lists.{pushed-path}
 use Rattle.detours.proofs.Routes.{route-short}
 
-abbrev pub foundAt : Path → Cut → Found
+abbrev pub foundAt : VertexList → Cut → Found
 foundAt path cut = record { path = path; cut = cut }
 
 abbrev pub cutAt : VertexSet → VertexSet → Cut
@@ -49,7 +49,7 @@ unsized space m t e = e ∙ rw t
 
 -- ---- a search, answered
 
-found-with : (m : searching.Reach) (removed : VertexSet) → isFound m ≡ true → (more : List ℕ) (p : Path) (c : Cut) → p ≡ pathOf (route m ++ more) → c ≡ cutOf noCut
+found-with : (m : searching.Reach) (removed : VertexSet) → isFound m ≡ true → (more : List ℕ) (p : VertexList) (c : Cut) → p ≡ pathOf (route m ++ more) → c ≡ cutOf noCut
     → foundAt p c ≡ foundOf (answered m removed more)
 found-with m removed t more p c q n = rw (t, q, n)
 
@@ -60,10 +60,10 @@ module _ (m : searching.Reach) (removed : VertexSet) (r : Reach) (e : r ≡ reac
   unmet : capacity ≤ r .goal → ltb (m .goal) capacity ≡ false
   unmet h = le-ltb (m .goal) capacity (subst (λ (x : Reach). capacity ≤ x .goal) e h)
 
-  found-here : (p : Path) (c : Cut) → r .goal < capacity → p ≡ pathOf (route m) → c ≡ cutOf noCut → foundAt p c ≡ foundOf (answered m removed [])
+  found-here : (p : VertexList) (c : Cut) → r .goal < capacity → p ≡ pathOf (route m) → c ≡ cutOf noCut → foundAt p c ≡ foundOf (answered m removed [])
   found-here p c h q n = found-with m removed (met h) [] p c (q ∙ ap pathOf (sym (append-nil (route m)))) n
 
-  found-none : (p : Path) (side : VertexSet) → capacity ≤ r .goal → p ≡ pathOf [] → side ≡ minus (r .shut) removed
+  found-none : (p : VertexList) (side : VertexSet) → capacity ≤ r .goal → p ≡ pathOf [] → side ≡ minus (r .shut) removed
       → foundAt p (cutAt removed side) ≡ foundOf (answered m removed [])
   found-none p side h q s =
       let t : side ≡ minus (m .shut) removed = s ∙ ap (λ (x : Reach). minus (x .shut) removed) e in
@@ -73,7 +73,7 @@ module _ (rows space : List ℕ) (seeds goals removed : VertexSet) {r : Reach} (
   abbrev here : searching.Reach
   here = explore rows seeds goals removed
 
-  pub found-in : {out : List ℕ} → out ≡ leftIn space here → {p : Path} {c : Cut} → r .goal < capacity → p ≡ pathOf (routeIn out r) → c ≡ cutOf noCut
+  pub found-in : {out : List ℕ} → out ≡ leftIn space here → {p : VertexList} {c : Cut} → r .goal < capacity → p ≡ pathOf (routeIn out r) → c ≡ cutOf noCut
       → foundAt p c ≡ foundOf (answeredIn space here removed [])
   found-in {out} o {p} {c} h q n = go (eqb (length space) searchSpace) refl
     where
@@ -84,7 +84,7 @@ module _ (rows space : List ℕ) (seeds goals removed : VertexSet) {r : Reach} (
           ∙ ap foundOf (by-size space here removed [] t)
       go false t = let z = ap (λ (x : Reach). x .goal) (unsized space here t e) in absurd (omega arith)
 
-  pub none-in : {p : Path} {side : VertexSet} → capacity ≤ r .goal → p ≡ pathOf [] → side ≡ minus (r .shut) removed
+  pub none-in : {p : VertexList} {side : VertexSet} → capacity ≤ r .goal → p ≡ pathOf [] → side ≡ minus (r .shut) removed
       → foundAt p (cutAt removed side) ≡ foundOf (answeredIn space here removed [])
   none-in {p} {side} h q s = go (eqb (length space) searchSpace) refl
     where
@@ -112,13 +112,13 @@ module _ (m : searching.Reach) (removed : VertexSet) (x : ℕ) {f : Found} (e : 
       go true t = let z = ap (λ (y : Found). y .path .count) (told t) in absurd (omega arith)
       go false t = told t ∙ sym (ap (λ (b : Bool). foundOf (by b (x ∷ []))) t)
 
-  on-more : (f .path .count ≡ 0 → ⊥) → {p : Path} {c : Cut} → p ≡ pushed (f .path) x → c ≡ cutOf noCut → foundAt p c ≡ foundOf (answered m removed (x ∷ []))
+  on-more : (f .path .count ≡ 0 → ⊥) → {p : VertexList} {c : Cut} → p ≡ pushed (f .path) x → c ≡ cutOf noCut → foundAt p c ≡ foundOf (answered m removed (x ∷ []))
   on-more h {p} {c} q n = go (isFound m) refl
     where
       go : (b : Bool) → isFound m ≡ b → foundAt p c ≡ foundOf (answered m removed (x ∷ []))
       go true t =
           let r : f .path ≡ pathOf (route m) = ap (λ (y : Found). y .path) (told t) ∙ ap pathOf (append-nil (route m)) in
-          found-with m removed t (x ∷ []) p c (q ∙ ap (λ (y : Path). pushed y x) r ∙ pushed-path (route m) x (omega (arith, route-short m))) n
+          found-with m removed t (x ∷ []) p c (q ∙ ap (λ (y : VertexList). pushed y x) r ∙ pushed-path (route m) x (omega (arith, route-short m))) n
       go false t = absurd (h (ap (λ (y : Found). y .path .count) (told t)))
 
 module _ (space : List ℕ) (m : searching.Reach) (removed : VertexSet) (x : ℕ) {f : Found} (e : f ≡ foundOf (answeredIn space m removed [])) where
@@ -132,7 +132,7 @@ module _ (space : List ℕ) (m : searching.Reach) (removed : VertexSet) (x : ℕ
       go true t = on-none m removed x (sized-told t) h ∙ ap foundOf (by-size space m removed (x ∷ []) t)
       go false t = sized-told t ∙ ap foundOf (by-size space m removed (x ∷ []) t)
 
-  pub goes-on : (f .path .count ≡ 0 → ⊥) → {p : Path} {c : Cut} → p ≡ pushed (f .path) x → c ≡ cutOf noCut → foundAt p c ≡ foundOf (answeredIn space m removed (x ∷ []))
+  pub goes-on : (f .path .count ≡ 0 → ⊥) → {p : VertexList} {c : Cut} → p ≡ pushed (f .path) x → c ≡ cutOf noCut → foundAt p c ≡ foundOf (answeredIn space m removed (x ∷ []))
   goes-on h {p} {c} q n = go (eqb (length space) searchSpace) refl
     where
       go : (b : Bool) → eqb (length space) searchSpace ≡ b → foundAt p c ≡ foundOf (answeredIn space m removed (x ∷ []))

@@ -7,7 +7,7 @@ use lib.ListN.{length, take, drop, replicate, length-take}
 use lib.Seq.{take-append-seam, length-take-le}
 use Rattle.search.specs.Arrays.{placed, placedEnd}
 use Rattle.search.specs.Code.{pathOf, pathRoom}
-use Rattle.search.specs.declared.Path.{Path}
+use Rattle.search.specs.declared.VertexList.{VertexList}
 use Rattle.search.proofs.Placed.{padded-length, padded-take, placed-padded, placed-end-padded, added-length}
 use Rattle.construction.specs.Sets.{stop}
 use Rattle.construction.specs.Ears.{pathSpace, addPath}
@@ -66,5 +66,5 @@ front-take items len = let z : len - 0 ≡ len = omega arith in rw z
 -- ---- a path's array
 
 -- the front of a path's array, as the code hands it on
-pub path-front : (p : Path) (l : List ℕ) → p ≡ pathOf l → take (p .count) (p .vertices) ≡ l
+pub path-front : (p : VertexList) (l : List ℕ) → p ≡ pathOf l → take (p .count) (p .vertices) ≡ l
 path-front p l e = rw e (take-append-seam l (replicate (pathRoom - length l) 0))

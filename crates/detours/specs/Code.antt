@@ -10,7 +10,7 @@ use Rattle.vertexset.specs.declared.VertexSet.{VertexSet}
 use Rattle.graph.specs.Rows.{rowOf}
 use Rattle.search.specs.Arrays.{padded}
 use Rattle.search.specs.Code.{pathOf, pathRoom, searchSpace, leftIn}
-use Rattle.search.specs.declared.Path.{Path}
+use Rattle.search.specs.declared.VertexList.{VertexList}
 use Rattle.construction.specs.Sets.{minus, single, members, least}
 use Rattle.construction.specs.Search.{Reach, explore}
 use Rattle.construction.specs.Ears as construction
@@ -70,7 +70,7 @@ cycleLeft space rows = cycleBy (λ m removed more. leftIn space m) space rows
 -- ---- what the private functions give, and what they keep
 
 -- a vertex at the end of a path that has room
-abbrev pub pushed : Path → ℕ → Path
+abbrev pub pushed : VertexList → ℕ → VertexList
 pushed p v = cond (ltb (p .count) pathRoom) (record { vertices = set (p .vertices) (p .count) v; count = p .count + 1 }) p
 
 -- a list of paths at the front of the array, and zeros behind it

@@ -10,9 +10,9 @@ ghost use Rattle.construction.specs.Search.{explore};
 ghost use Rattle.construction.specs.Ears.{noCut, isCut, wayOut, addPath, earsOn, ears};
 ghost use Rattle.construction.specs.Start.{marked};
 ghost use Rattle.detours.specs.Code.{cutOf, foundOf, earsOf, pushed, answeredIn, detourIn, detourLeft, cycleIn, cycleLeft};
-use graph::Graph;
-use search::Path;
+use graph::GraphTable;
 use search::Reach;
+use search::VertexList;
 use vertexset::VertexSet;
 
 // Removed vertices, and a side that no edge leaves but to them. Without a side nothing is cut.
@@ -23,7 +23,7 @@ pub struct Cut {
 
 // A path of vertices, or a cut.
 pub struct Found {
-    pub path: Path,
+    pub path: VertexList,
     pub cut: Cut,
 }
 
@@ -43,7 +43,7 @@ pub struct Ears {
 
 impl Ears {
     // a path takes a stop and its vertices: at most three numbers for each of its edges
-    pub const ROOM: usize = 3 * Graph::MAX_EDGES as usize;
+    pub const ROOM: usize = 3 * GraphTable::MAX_EDGES as usize;
 }
 
 impl Cut {
@@ -109,23 +109,23 @@ pub fn last_of(list: &[u16]) -> u16
     list[list.len() - 1]
 }
 
-pub fn no_path() -> Path
+pub fn no_path() -> VertexList
     ensures { λ r. ⌜ r ≡ pathOf [] ⌝ }
 {
-    Path {
-        vertices: [0u16; Path::ROOM],
+    VertexList {
+        vertices: [0u16; VertexList::ROOM],
         count: 0,
     }
 }
 
-fn push(p: Path, v: u16) -> Path
+fn push(p: VertexList, v: u16) -> VertexList
     ensures { λ r. ⌜ r ≡ pushed p v ⌝ }
 {
     let k = p.count;
-    if k < Path::ROOM {
+    if k < VertexList::ROOM {
         let mut vertices = p.vertices;
         vertices[k] = v;
-        return Path {
+        return VertexList {
             vertices,
             count: k + 1,
         };
@@ -134,7 +134,7 @@ fn push(p: Path, v: u16) -> Path
 }
 
 // The first numbers of a path's array; all where it has no more.
-pub fn front<'a>(list: &'a [u16; Path::ROOM], count: usize) -> &'a [u16]
+pub fn front<'a>(list: &'a [u16; VertexList::ROOM], count: usize) -> &'a [u16]
     ensures { λ r. ⌜ now r ≡ take count (now (list .entry)) ⌝ }
 {
     let all = &list[..];
@@ -146,7 +146,7 @@ pub fn front<'a>(list: &'a [u16; Path::ROOM], count: usize) -> &'a [u16]
 
 // A search, answered by a path or a cut. In a space of another size than Reach::SPACE there is neither.
 pub fn find<'a>(
-    rows: &'a [u64; Graph::ROW_WORDS],
+    rows: &'a [u64; GraphTable::ROW_WORDS],
     space: &'a mut [u16],
     seeds: VertexSet,
     goals: VertexSet,
@@ -174,7 +174,7 @@ pub fn find<'a>(
 
 // The same without one vertex, to which the path goes on.
 pub fn find_on<'a>(
-    rows: &'a [u64; Graph::ROW_WORDS],
+    rows: &'a [u64; GraphTable::ROW_WORDS],
     space: &'a mut [u16],
     seeds: VertexSet,
     goals: VertexSet,
@@ -195,7 +195,7 @@ pub fn find_on<'a>(
 }
 
 // The first vertex of one set with a neighbour in another, and the least such neighbour.
-fn way_out(rows: &[u64; Graph::ROW_WORDS], set: VertexSet, outside: VertexSet) -> Exit
+fn way_out(rows: &[u64; GraphTable::ROW_WORDS], set: VertexSet, outside: VertexSet) -> Exit
     ensures { λ r. ⌜ (r .inside ≡ wayOut (now (rows .entry)) set (members outside) .0) × (r .outside ≡ wayOut (now (rows .entry)) set (members outside) .1) ⌝ }
 {
     let mut c = outside.next_from(0);
@@ -218,7 +218,7 @@ fn way_out(rows: &[u64; Graph::ROW_WORDS], set: VertexSet, outside: VertexSet) -
 
 // Out of a set along an edge, and back to another of its vertices.
 pub fn detour<'a>(
-    rows: &'a [u64; Graph::ROW_WORDS],
+    rows: &'a [u64; GraphTable::ROW_WORDS],
     space: &'a mut [u16],
     full: VertexSet,
     set: VertexSet,
@@ -246,7 +246,7 @@ pub fn detour<'a>(
 }
 
 // A cycle through vertex 0.
-pub fn cycle<'a>(rows: &'a [u64; Graph::ROW_WORDS], space: &'a mut [u16]) -> Found
+pub fn cycle<'a>(rows: &'a [u64; GraphTable::ROW_WORDS], space: &'a mut [u16]) -> Found
     ensures { λ r. ⌜ now (space .exit) ≡ cycleLeft (now (space .entry)) (now (rows .entry)) ⌝ }
     ensures { λ r. ⌜ r ≡ foundOf (cycleIn (now (space .entry)) (now (rows .entry))) ⌝ }
 {
@@ -280,7 +280,7 @@ pub fn add_path<'a>(flat: &'a mut [u16], len: usize, path: &'a [u16]) -> usize
 }
 
 // Neighbours in a list of paths are joined; a stop is no vertex.
-pub fn mark<'a>(table: &'a mut [u64; Graph::ROW_WORDS], list: &'a [u16])
+pub fn mark<'a>(table: &'a mut [u64; GraphTable::ROW_WORDS], list: &'a [u16])
     ensures { λ r. ⌜ now (table .exit) ≡ marked (now (table .entry)) (now (list .entry)) ⌝ }
 {
     let mut i = 1;
@@ -303,7 +303,7 @@ fn ears_of(flat: [u16; Ears::ROOM], len: usize, count: u16, cut: Cut) -> Ears
 
 // Ears behind the first until every vertex is in; or a cut.
 fn more_ears<'a>(
-    rows: &'a [u64; Graph::ROW_WORDS],
+    rows: &'a [u64; GraphTable::ROW_WORDS],
     space: &'a mut [u16],
     full: VertexSet,
     first: &'a [u16],
@@ -335,7 +335,7 @@ fn more_ears<'a>(
 }
 
 // EARS until every vertex is in; or a cut. All searches share one space.
-pub fn find_ears(rows: &[u64; Graph::ROW_WORDS], full: VertexSet) -> Ears
+pub fn find_ears(rows: &[u64; GraphTable::ROW_WORDS], full: VertexSet) -> Ears
     ensures { λ r. ⌜ r ≡ earsOf (ears (now (rows .entry)) full) ⌝ }
 {
     let mut space = [0u16; Reach::SPACE];

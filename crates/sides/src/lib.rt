@@ -3,12 +3,12 @@ ghost use mathlib.Core.Path.{_≡_};
 ghost use Prim.Native.Nat.{_≤_, _<_};
 ghost use Rattle.record.specs.Loop.{runs};
 ghost use Rattle.vertexset.specs.Set.{has, emptySet, capacity};
-ghost use Rattle.graph.specs.Rows.{adjacentIn};
+ghost use Rattle.graph.specs.Rows.{adjacentIn, rowsGraph};
 ghost use Rattle.certificates.specs.Tests.{with, nobody, someBelow};
 ghost use Rattle.certificates.specs.Records.{sideVertex, side, pair, body};
-ghost use Rattle.paths.specs.Items.{itemRead, endRead, rowsGraph, limited};
+ghost use Rattle.paths.specs.Items.{itemRead, endRead, limited};
 ghost use Rattle.sides.specs.Code.{sideLoop, missesRow, noneBetween, RestOf, Low, sideTested, pairRead, pairLoop};
-use graph::Graph;
+use graph::GraphTable;
 use paths::Item;
 use vertexset::VertexSet;
 
@@ -62,14 +62,14 @@ fn read_side_vertices(s: &[u8], n: u16, removed: VertexSet, count: u16, from: us
 }
 
 // No vertex of the rest is adjacent to u: the rest loses nothing by taking out u's row.
-fn misses(rows: &[u64; Graph::ROW_WORDS], u: u16, rest: VertexSet) -> bool
+fn misses(rows: &[u64; GraphTable::ROW_WORDS], u: u16, rest: VertexSet) -> bool
     ensures { λ r. ⌜ r ≡ missesRow (now (rows .entry)) (has (rest .words)) u ⌝ }
 {
     rest.subset(rest.minus(graph::row(rows, u)))
 }
 
 // No edge runs between the side and the rest.
-fn none_between(rows: &[u64; Graph::ROW_WORDS], side: VertexSet, rest: VertexSet) -> bool
+fn none_between(rows: &[u64; GraphTable::ROW_WORDS], side: VertexSet, rest: VertexSet) -> bool
     ensures { λ r. ⌜ r ≡ noneBetween (now (rows .entry)) (has (side .words)) (has (rest .words)) ⌝ }
 {
     let mut from: u16 = 0;
@@ -104,7 +104,7 @@ fn holds_one(n: u16, set: VertexSet) -> bool
 
 // A side that was read up to next, tested for 22 and 23.
 fn tested_side(
-    rows: &[u64; Graph::ROW_WORDS],
+    rows: &[u64; GraphTable::ROW_WORDS],
     n: u16,
     removed: VertexSet,
     side: VertexSet,
@@ -129,7 +129,7 @@ fn tested_side(
 // A side beside the removed vertices.
 pub fn read_side(
     s: &[u8],
-    rows: &[u64; Graph::ROW_WORDS],
+    rows: &[u64; GraphTable::ROW_WORDS],
     n: u16,
     removed: VertexSet,
     at: usize,
@@ -153,14 +153,20 @@ pub fn read_side(
 }
 
 // Kind 0: a side, with no vertex removed.
-pub fn read_separation(s: &[u8], rows: &[u64; Graph::ROW_WORDS], n: u16, at: usize) -> Item
+pub fn read_separation(s: &[u8], rows: &[u64; GraphTable::ROW_WORDS], n: u16, at: usize) -> Item
     ensures { λ r. ⌜ r ≡ endRead (limited n (body (rowsGraph n (now (rows .entry))) 0) (now (s .entry)) at) ⌝ }
 {
     read_side(s, rows, n, VertexSet::empty(), at)
 }
 
 // A new vertex and a named one, with an edge between them; the new one is handed back.
-fn read_pair(s: &[u8], rows: &[u64; Graph::ROW_WORDS], n: u16, named: VertexSet, at: usize) -> Item
+fn read_pair(
+    s: &[u8],
+    rows: &[u64; GraphTable::ROW_WORDS],
+    n: u16,
+    named: VertexSet,
+    at: usize,
+) -> Item
     ensures { λ r. ⌜ r ≡ pairRead (pair n (adjacentIn (now (rows .entry))) (has (named .words)) (now (s .entry)) at) ⌝ }
 {
     let x = paths::read_vertex(s, n, at);
@@ -186,7 +192,7 @@ fn read_pair(s: &[u8], rows: &[u64; Graph::ROW_WORDS], n: u16, named: VertexSet,
 // The pairs of a spanning tree that begins with first.
 fn read_pairs(
     s: &[u8],
-    rows: &[u64; Graph::ROW_WORDS],
+    rows: &[u64; GraphTable::ROW_WORDS],
     n: u16,
     first: u16,
     count: u16,
@@ -211,7 +217,7 @@ fn read_pairs(
 }
 
 // Kind 1: a removed vertex, a spanning tree, and a side.
-pub fn read_tree(s: &[u8], rows: &[u64; Graph::ROW_WORDS], n: u16, at: usize) -> Item
+pub fn read_tree(s: &[u8], rows: &[u64; GraphTable::ROW_WORDS], n: u16, at: usize) -> Item
     ensures { λ r. ⌜ r ≡ endRead (limited n (body (rowsGraph n (now (rows .entry))) 1) (now (s .entry)) at) ⌝ }
 {
     if VertexSet::CAPACITY < n {

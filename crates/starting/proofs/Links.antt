@@ -12,7 +12,7 @@ use Rattle.construction.specs.Ears.{noCut, pathSpace}
 use Rattle.construction.specs.Start.{linkIn, addLink, sixLinks, sorted, nextAfter, begun, marked, threePaths, fourOf, startOn}
 use Rattle.search.specs.Arrays.{placed, placedEnd}
 use Rattle.search.specs.Code.{pathOf}
-use Rattle.search.specs.declared.Path.{Path}
+use Rattle.search.specs.declared.VertexList.{VertexList}
 use Rattle.detours.specs.Code.{cutOf}
 use Rattle.detours.specs.declared.Cut.{Cut}
 use Rattle.detours.proofs.Filled.{Filled, filled-added}
@@ -20,7 +20,7 @@ use Rattle.starting.specs.Code.{startOf}
 use Rattle.starting.specs.declared.Start.{Start}
 
 module _ (table : List ℕ) (four : VertexSet) (u w : ℕ) where
-  pub link-path : {seeds goals ends removed : VertexSet} {p : Path} → seeds ≡ single w → goals ≡ single u → ends ≡ pair u w → removed ≡ minus four ends
+  pub link-path : {seeds goals ends removed : VertexSet} {p : VertexList} → seeds ≡ single w → goals ≡ single u → ends ≡ pair u w → removed ≡ minus four ends
       → p ≡ pathOf (route (explore table seeds goals removed)) → p ≡ pathOf (linkIn table four u w)
   link-path a b c d q = q ∙ rw (d, c, a, b)
 

@@ -13,9 +13,9 @@ ghost use Rattle.starting.specs.Code.{startOf};
 use detours::Cut;
 use detours::Ears;
 use detours::Found;
-use graph::Graph;
-use search::Path;
+use graph::GraphTable;
 use search::Reach;
+use search::VertexList;
 use vertexset::VertexSet;
 
 // The four branch vertices and six paths of a start; or a cut.
@@ -27,12 +27,12 @@ pub struct Start {
 }
 
 struct Table {
-    rows: [u64; Graph::ROW_WORDS],
+    rows: [u64; GraphTable::ROW_WORDS],
 }
 
 // A third path from vertex 0 to the cycle through it.
 fn third_path<'a>(
-    rows: &'a [u64; Graph::ROW_WORDS],
+    rows: &'a [u64; GraphTable::ROW_WORDS],
     space: &'a mut [u16],
     around: &'a [u16],
 ) -> Found
@@ -52,7 +52,7 @@ fn third_path<'a>(
 
 // A path from inside the third path across to the cycle.
 fn path_across<'a>(
-    rows: &'a [u64; Graph::ROW_WORDS],
+    rows: &'a [u64; GraphTable::ROW_WORDS],
     space: &'a mut [u16],
     around: &'a [u16],
     third: &'a [u16],
@@ -71,20 +71,20 @@ fn table_of<'a>(around: &'a [u16], third: &'a [u16], across: &'a [u16]) -> Table
     requires { ⌜ length (now around) ≤ pathRoom ⌝ }
     ensures { λ r. ⌜ r .rows ≡ marked bareRows (threePaths (now (around .entry)) (now (third .entry)) (now (across .entry))) ⌝ }
 {
-    let mut closed = [0u16; Path::ROOM + 1];
+    let mut closed = [0u16; VertexList::ROOM + 1];
     let k = search::put_all(&mut closed, 1, around);
     let mut flat = [0u16; Ears::ROOM];
     let first = detours::add_path(&mut flat, 0, &closed[0..k]);
     let second = detours::add_path(&mut flat, first, third);
     let len = detours::add_path(&mut flat, second, across);
-    let mut rows = [0u64; Graph::ROW_WORDS];
+    let mut rows = [0u64; GraphTable::ROW_WORDS];
     detours::mark(&mut rows, &flat[0..len]);
     Table { rows }
 }
 
 // The link between two branch vertices, behind the other links.
 fn add_link<'a>(
-    table: &'a [u64; Graph::ROW_WORDS],
+    table: &'a [u64; GraphTable::ROW_WORDS],
     space: &'a mut [u16],
     four: VertexSet,
     flat: &'a mut [u16],
@@ -108,7 +108,11 @@ fn add_link<'a>(
 }
 
 // The six links in the order of the record.
-fn six_links<'a>(table: &'a [u64; Graph::ROW_WORDS], space: &'a mut [u16], four: VertexSet) -> Start
+fn six_links<'a>(
+    table: &'a [u64; GraphTable::ROW_WORDS],
+    space: &'a mut [u16],
+    four: VertexSet,
+) -> Start
     requires { ⌜ length (now space) ≡ searchSpace ⌝ }
     ensures { λ r. ⌜ r ≡ startOf (begun four (sorted (now (table .entry)) four)) ⌝ }
 {
@@ -162,7 +166,7 @@ fn start_on<'a>(
 
 // The start on a cycle and a third path, from a path across; or a cut.
 fn begin_across<'a>(
-    rows: &'a [u64; Graph::ROW_WORDS],
+    rows: &'a [u64; GraphTable::ROW_WORDS],
     space: &'a mut [u16],
     around: &'a [u16],
     third: &'a [u16],
@@ -185,7 +189,7 @@ fn begin_across<'a>(
 
 // The start on a cycle through vertex 0; or a cut.
 fn begin_around<'a>(
-    rows: &'a [u64; Graph::ROW_WORDS],
+    rows: &'a [u64; GraphTable::ROW_WORDS],
     space: &'a mut [u16],
     around: &'a [u16],
 ) -> Start
@@ -206,7 +210,7 @@ fn begin_around<'a>(
 }
 
 // THE START: four branch vertices and six links; or a cut. All searches share one space.
-pub fn begin(rows: &[u64; Graph::ROW_WORDS]) -> Start
+pub fn begin(rows: &[u64; GraphTable::ROW_WORDS]) -> Start
     ensures { λ r. ⌜ r ≡ startOf (begin (now (rows .entry))) ⌝ }
 {
     let row = graph::row(rows, 0);

@@ -7,7 +7,7 @@ use native.Mathlib.Omega.{arith}
 use lib.ListN.{length, take, replicate}
 use Rattle.vertexset.specs.Set.{emptySet}
 use Rattle.vertexset.specs.declared.VertexSet.{VertexSet}
-use Rattle.graph.specs.Plan.{maxEdges}
+use Rattle.graph.specs.Limits.{maxEdges}
 use Rattle.search.specs.Arrays.{placed, placedEnd}
 use Rattle.construction.specs.Sets.{withAll, added}
 use Rattle.construction.specs.Ears.{noCut, isCut, pathSpace}

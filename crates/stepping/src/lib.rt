@@ -4,7 +4,7 @@ ghost use mathlib.Core.Bool.{false};
 ghost use mathlib.Core.List.{_++_};
 ghost use Prim.Native.Nat.{_+_, _-_, _≤_, _<_};
 ghost use lib.ListN.{length, take, drop};
-ghost use Rattle.graph.specs.Plan.{maxEdges};
+ghost use Rattle.graph.specs.Limits.{maxEdges};
 ghost use Rattle.search.specs.Code.{pathOf, pathRoom, searchSpace};
 ghost use Rattle.construction.specs.Sets.{membersFrom, reversed, placeOf};
 ghost use Rattle.construction.specs.Steps.{state, extended, offLink, linkStep, turned, pairPlace, besidePlace, reroute, outStep, step, steps, addEdges, finish};
@@ -13,9 +13,9 @@ ghost use Rattle.stepping.specs.Code.{sideOf, putBetween, putBetweenEnd,
 use detours::Cut;
 use detours::Ears;
 use detours::Found;
-use graph::Graph;
-use search::Path;
+use graph::GraphTable;
 use search::Reach;
+use search::VertexList;
 use vertexset::VertexSet;
 
 // The paths of a build, a stop before each; where a cut was met, those that were there by then.
@@ -62,7 +62,7 @@ fn before(i: usize) -> usize
 
 // (a) From inside the link at the places i - 1 to j to the rest of the build, without the link's ends.
 fn off_link<'a>(
-    rows: &'a [u64; Graph::ROW_WORDS],
+    rows: &'a [u64; GraphTable::ROW_WORDS],
     space: &'a mut [u16],
     list: &'a [u16],
     built: VertexSet,
@@ -116,7 +116,7 @@ fn extend<'a>(flat: &'a mut [u16], b: Progress, path: &'a [u16], at: usize) -> P
 }
 
 fn link_step<'a>(
-    rows: &'a [u64; Graph::ROW_WORDS],
+    rows: &'a [u64; GraphTable::ROW_WORDS],
     space: &'a mut [u16],
     flat: &'a mut [u16],
     b: Progress,
@@ -154,7 +154,7 @@ fn pair_place(list: &[u16], x: u16, y: u16) -> usize
 }
 
 // Where two vertices stand side by side on a path, or the length; only where an edge joins them can they.
-fn beside<'a>(rows: &'a [u64; Graph::ROW_WORDS], list: &'a [u16], x: u16, y: u16) -> usize
+fn beside<'a>(rows: &'a [u64; GraphTable::ROW_WORDS], list: &'a [u16], x: u16, y: u16) -> usize
     ensures { λ r. ⌜ r ≡ besidePlace (now (rows .entry)) x y (now (list .entry)) ⌝ }
 {
     if graph::adjacent(rows, x, y) {
@@ -163,20 +163,20 @@ fn beside<'a>(rows: &'a [u64; Graph::ROW_WORDS], list: &'a [u16], x: u16, y: u16
     list.len()
 }
 
-fn copied(list: &[u16]) -> Path
+fn copied(list: &[u16]) -> VertexList
     requires { ⌜ length (now list) ≤ pathRoom ⌝ }
     ensures { λ r. ⌜ r ≡ pathOf (now (list .entry)) ⌝ }
 {
-    let mut vertices = [0u16; Path::ROOM];
+    let mut vertices = [0u16; VertexList::ROOM];
     let count = search::put_all(&mut vertices, 0, list);
-    Path { vertices, count }
+    VertexList { vertices, count }
 }
 
-fn reversed(list: &[u16]) -> Path
+fn reversed(list: &[u16]) -> VertexList
     requires { ⌜ length (now list) ≤ pathRoom ⌝ }
     ensures { λ r. ⌜ r ≡ pathOf (reversed (now (list .entry))) ⌝ }
 {
-    let mut vertices = [0u16; Path::ROOM];
+    let mut vertices = [0u16; VertexList::ROOM];
     let mut count = 0;
     let mut i = list.len();
     while 0 < i {
@@ -184,11 +184,11 @@ fn reversed(list: &[u16]) -> Path
         vertices[count] = list[i];
         count += 1;
     }
-    Path { vertices, count }
+    VertexList { vertices, count }
 }
 
 // The inner vertices of a path in the direction in which it leaves z, one of its ends.
-fn turned(path: &[u16], z: u16) -> Path
+fn turned(path: &[u16], z: u16) -> VertexList
     requires { ⌜ length (now path) ≤ pathRoom ⌝ }
     ensures { λ r. ⌜ r ≡ pathOf (turned (now (path .entry)) z) ⌝ }
 {
@@ -249,7 +249,7 @@ fn reroute<'a>(flat: &'a mut [u16], b: Progress, path: &'a [u16], k: usize) -> P
 
 // (b) Out of the build and back; or every vertex is in.
 fn out_step<'a>(
-    rows: &'a [u64; Graph::ROW_WORDS],
+    rows: &'a [u64; GraphTable::ROW_WORDS],
     space: &'a mut [u16],
     full: VertexSet,
     flat: &'a mut [u16],
@@ -283,7 +283,7 @@ fn out_step<'a>(
 
 // One step: (a) where an inner vertex is left, else (b).
 fn step<'a>(
-    rows: &'a [u64; Graph::ROW_WORDS],
+    rows: &'a [u64; GraphTable::ROW_WORDS],
     space: &'a mut [u16],
     full: VertexSet,
     flat: &'a mut [u16],
@@ -304,7 +304,7 @@ fn step<'a>(
 
 // Steps until none is left.
 fn all_steps<'a>(
-    rows: &'a [u64; Graph::ROW_WORDS],
+    rows: &'a [u64; GraphTable::ROW_WORDS],
     space: &'a mut [u16],
     full: VertexSet,
     flat: &'a mut [u16],
@@ -314,7 +314,7 @@ fn all_steps<'a>(
     ensures { λ r. ⌜ Shows (now (flat .exit)) r (steps (now (rows .entry)) full (maxEdges + 1) (stateIn (now (flat .entry)) first)) ⌝ }
 {
     let mut b = first;
-    let mut left = Graph::MAX_EDGES + 1;
+    let mut left = GraphTable::MAX_EDGES + 1;
     while 0 < left {
         if !b.going {
             return b;
@@ -342,11 +342,16 @@ fn add_edges(flat: &mut [u16], from: usize, u: u16, set: VertexSet) -> usize
 }
 
 // The edges that no path has.
-fn finish<'a>(rows: &'a [u64; Graph::ROW_WORDS], n: u16, flat: &'a mut [u16], from: usize) -> usize
+fn finish<'a>(
+    rows: &'a [u64; GraphTable::ROW_WORDS],
+    n: u16,
+    flat: &'a mut [u16],
+    from: usize,
+) -> usize
     requires { ⌜ Kept (now flat) from ⌝ }
     ensures { λ r. ⌜ FlatShows (now (flat .exit)) r (finish (now (rows .entry)) n (take from (now (flat .entry)))) ⌝ }
 {
-    let mut table = [0u64; Graph::ROW_WORDS];
+    let mut table = [0u64; GraphTable::ROW_WORDS];
     detours::mark(&mut table, &flat[0..from]);
     let mut len = from;
     let mut u: u16 = 0;
@@ -360,7 +365,7 @@ fn finish<'a>(rows: &'a [u64; Graph::ROW_WORDS], n: u16, flat: &'a mut [u16], fr
 
 // THE BUILD on a start's branch vertices and paths: steps, and then the edges that no path has. Paths that have no room are none.
 pub fn build<'a>(
-    rows: &'a [u64; Graph::ROW_WORDS],
+    rows: &'a [u64; GraphTable::ROW_WORDS],
     n: u16,
     full: VertexSet,
     four: VertexSet,

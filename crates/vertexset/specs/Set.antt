@@ -20,10 +20,6 @@ capacity = 64 * wordCount
 abbrev pub has : List ℕ → ℕ → Bool
 has ws v = eqb (getD ws (v / 64) 0 / 2 ^ (v % 64) % 2) 1
 
--- a predicate that holds of v too
-abbrev pub with : (ℕ → Bool) → ℕ → ℕ → Bool
-with p v x = p x || eqb x v
-
 -- the set without members
 abbrev pub emptySet : VertexSet
 emptySet = record { words = replicate wordCount 0 }
@@ -66,8 +62,8 @@ none [] = true
 none (w ∷ ws) = eqb w 0 && none ws
 
 -- nothing is left of the first set without the second
-abbrev pub within : List ℕ → List ℕ → Bool
-within xs ys = none (zip less xs ys)
+abbrev pub subsetOf : List ℕ → List ℕ → Bool
+subsetOf xs ys = none (zip less xs ys)
 
 -- the first of the n numbers from v on of which p holds, or else z
 unfoldable pub firstFrom : (ℕ → Bool) → ℕ → ℕ → ℕ → ℕ

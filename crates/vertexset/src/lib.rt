@@ -1,7 +1,7 @@
 // A set of vertices (a set of boxes), by value: one bit for each vertex, 64 to a word.
 ghost use mathlib.Core.Path.{_≡_};
 ghost use lib.Bits.{bitOr};
-ghost use Rattle.vertexset.specs.Set.{has, emptySet, inserted, belowSet, count, wordwise, less, none, within, next};
+ghost use Rattle.vertexset.specs.Set.{has, emptySet, inserted, belowSet, count, wordwise, less, none, subsetOf, next};
 
 pub struct VertexSet {
     pub words: [u64; VertexSet::WORDS],
@@ -92,7 +92,7 @@ impl VertexSet {
     }
 
     pub fn subset(self, other: VertexSet) -> bool
-        ensures { λ r. ⌜ r ≡ within (self .words) (other .words) ⌝ }
+        ensures { λ r. ⌜ r ≡ subsetOf (self .words) (other .words) ⌝ }
     {
         self.minus(other).is_empty()
     }

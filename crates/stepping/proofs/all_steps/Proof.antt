@@ -3,7 +3,7 @@ use Prim.Native.Nat.{_+_}
 use mathlib.Core.Path.{_≡_, refl, sym, _∙_}
 use lib.ListN.{length}
 use borrow.Author.Needs.{needs}
-use Rattle.graph.specs.Plan.{maxEdges}
+use Rattle.graph.specs.Limits.{maxEdges}
 use Rattle.search.specs.Code.{searchSpace}
 use Rattle.construction.specs.Steps.{steps}
 use Rattle.stepping.specs.Code.{stateIn}
