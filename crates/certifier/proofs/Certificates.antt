@@ -1,5 +1,5 @@
 -- The numbers of a certificate, from the code's structs and from the definition's. Assumes nothing.
-use Prim.Native.Nat.{ℕ, _+_, _-_, _≤_}
+use Prim.Native.Nat.{ℕ, zero, suc, _+_, _-_}
 use mathlib.Core.Path.{_≡_, refl, sym, ap, _∙_}
 use mathlib.Core.Bool.{Bool, true, false, cond, not}
 use mathlib.Core.List.{List, [], _∷_, _++_}
@@ -7,23 +7,22 @@ use native.Mathlib.Omega.{arith}
 use lib.Dec.{ltb, eqb}
 use lib.ListN.{length, take, replicate}
 use lib.Seq.{take-append-seam}
-use Rattle.vertexset.specs.Set.{emptySet, count}
+use Rattle.record.specs.Read.{folded}
+use Rattle.vertexset.specs.Set.{emptySet, inserted, belowSet, count}
 use Rattle.vertexset.specs.declared.VertexSet.{VertexSet}
-use Rattle.graph.specs.Rows.{rowOf, bareRows}
-use Rattle.construction.specs.Sets.{stop, single, minus, members, least, empty}
-use Rattle.construction.specs.Search as searching
+use Rattle.connectivity.specs.Lists.{upFrom, below}
+use Rattle.construction.specs.Sets.{minus, withAll, members, empty}
 use Rattle.construction.specs.Ears as construction
-use Rattle.construction.specs.Ears.{noCut, cut, isCut, eared, ears, cycle, pathSpace}
-use Rattle.construction.specs.Start.{Begun, begin, sorted, broken, sixLinks, addLink, nextAfter, crossed, thirdPath, across, around, startOn, marked, threePaths, fourOf}
-use Rattle.construction.specs.Start as starting
+use Rattle.construction.specs.Ears.{noCut, cut, isCut, eared, ears, pathSpace}
+use Rattle.construction.specs.Start.{Begun, begin}
 use Rattle.construction.specs.Steps as stepping
 use Rattle.construction.specs.Certificate.{treeNumbers, evidence, lengthened, cutNumbers, cutCertificate, buildCertificate, begunCertificate, chosen, sideNumbers, buildNumbers, certificateNumbers, fullSet}
 use Rattle.search.specs.Code.{reachOf}
 use Rattle.search.specs.declared.Reach.{Reach}
-use Rattle.search.proofs.Placed.{added-length}
-use Rattle.certifier.specs.Code.{cutOf, cutIn, earsOf, startOf, flatOf, StartKept, firstSearch, evidenceIn, cutNumbersIn, cutCertificateIn, builtCertificateIn, startCertificateIn}
-use Rattle.certifier.specs.declared.Cut.{Cut}
-use Rattle.certifier.specs.declared.Start.{Start}
+use Rattle.detours.specs.Code.{cutOf, cutIn, earsOf, flatOf}
+use Rattle.starting.specs.Code.{startOf}
+use Rattle.starting.specs.declared.Start.{Start}
+use Rattle.certifier.specs.Code.{firstSearch, evidenceIn, cutNumbersIn, cutCertificateIn, builtCertificateIn, startCertificateIn}
 
 -- ---- the code's structs hold what the definition has
 
@@ -51,56 +50,24 @@ module _ (rows : List ℕ) (n : ℕ) (full : VertexSet) where
       ap (λ (l : List ℕ). builtCertificateIn rows n full (b .four) (stepping.build rows full (record { four = b .four; flat = l; cutBy = b .cutBy }))) (flat-same (b .flat))
       ∙ built-same (b .four) (stepping.build rows full b)
 
--- ---- their lists have room
+-- ---- the vertices below n, taken in one by one
 
-link-short : (table : List ℕ) (four : VertexSet) (l : List ℕ) (u w : ℕ) → length l ≤ pathSpace → length (addLink table four l u w) ≤ pathSpace
-link-short table four l u w h = added-length pathSpace l (stop ∷ starting.linkIn table four u w) h
+up-more : (n v : ℕ) → upFrom v (suc n) ≡ upFrom v n ++ ((v + n) ∷ [])
+up-more zero v = let z : v + 0 ≡ v = omega arith in rw z
+up-more (suc n) v = let z : v + suc n ≡ suc v + n = omega arith in ap (λ (l : List ℕ). v ∷ l) (up-more n (suc v) ∙ rw z)
 
-sorted-short : (table : List ℕ) (four : VertexSet) → length (sorted table four) ≤ pathSpace
-unfolding sorted
-sorted-short table four = go (least four) (nextAfter four (least four)) (nextAfter four (nextAfter four (least four))) (nextAfter four (nextAfter four (nextAfter four (least four))))
-  where
-    go : (p q r s : ℕ) → length (sixLinks table four p q r s) ≤ pathSpace
-    go p q r s =
-        let pq = addLink table four [] p q in
-        let pr = addLink table four pq p r in
-        let ps = addLink table four pr p s in
-        let qr = addLink table four ps q r in
-        let qs = addLink table four qr q s in
-        link-short table four qs r s (link-short table four qr q s (link-short table four ps q r (link-short table four pr p s (link-short table four pq p r (link-short table four [] p q (omega arith))))))
+with-more : (s : VertexSet) (l : List ℕ) (v : ℕ) → withAll s (l ++ (v ∷ [])) ≡ inserted (withAll s l) v
+unfolding folded
+with-more s [] v = refl
+with-more s (a ∷ l) v = with-more (inserted s a) l v
 
-abbrev Short : Begun → Type 0
-Short b = length (b .flat) ≤ pathSpace
+below-more : (n : ℕ) → below (suc n) ≡ below n ++ (n ∷ [])
+below-more n = up-more n 0 ∙ (let z : 0 + n ≡ n = omega arith in rw z)
 
-broken-short : (c : construction.Cut) → Short (broken c)
-broken-short c = omega arith
-
-crossed-short : (around third : List ℕ) (f : construction.Found) → Short (crossed around third f)
-crossed-short around third f = go (isCut (f .cutBy))
-  where
-    go : (p : Bool) → Short (cond p (broken (f .cutBy)) (startOn around third (f .path)))
-    go true = broken-short (f .cutBy)
-    go false = sorted-short (marked bareRows (threePaths around third (f .path))) (fourOf third (f .path))
-
-around-short : (rows : List ℕ) (f : construction.Found) → Short (around rows f)
-around-short rows f = go (isCut (f .cutBy)) (isCut (thirdPath rows (f .path) .cutBy)) (crossed-short (f .path) (thirdPath rows (f .path) .path) (across rows (f .path) (thirdPath rows (f .path) .path)))
-  where
-    go : (p q : Bool) → Short (crossed (f .path) (thirdPath rows (f .path) .path) (across rows (f .path) (thirdPath rows (f .path) .path)))
-        → Short (cond p (broken (f .cutBy)) (cond q (broken (thirdPath rows (f .path) .cutBy)) (crossed (f .path) (thirdPath rows (f .path) .path) (across rows (f .path) (thirdPath rows (f .path) .path)))))
-    go true q h = broken-short (f .cutBy)
-    go false true h = broken-short (thirdPath rows (f .path) .cutBy)
-    go false false h = h
-
-begin-short : (rows : List ℕ) → Short (begin rows)
-unfolding begin
-begin-short rows = go (ltb (count (rowOf rows 0 .words)) 3)
-  where
-    go : (p : Bool) → Short (cond p (broken (cut (rowOf rows 0) (single 0))) (around rows (cycle rows)))
-    go true = broken-short (cut (rowOf rows 0) (single 0))
-    go false = around-short rows (cycle rows)
-
-pub begin-kept : (rows : List ℕ) (s : Start) → s ≡ startOf (begin rows) → StartKept s
-begin-kept rows s e = rw e (ap flatOf (sym (flat-same (begin rows .flat))), begin-short rows)
+below-full : (n : ℕ) → belowSet n ≡ fullSet n
+unfolding belowSet folded
+below-full zero = refl
+below-full (suc n) = ap (λ (s : VertexSet). inserted s n) (below-full n) ∙ sym (ap (withAll emptySet) (below-more n) ∙ with-more emptySet (below n) n)
 
 -- ---- THE CERTIFICATE
 
@@ -110,7 +77,10 @@ unfolding certificateNumbers
 whole rows n e =
     ap (λ (b : Bool). cond b (begunCertificate (firstSearch rows) rows n (fullSet n) (begin rows)) (cutCertificate (firstSearch rows) rows (fullSet n) (cut emptySet (firstSearch rows .shut)))) (sym e)
 
-module _ (rows : List ℕ) (n : ℕ) {full rest : VertexSet} {tree : Reach} (f : full ≡ fullSet n) (t : tree ≡ reachOf (firstSearch rows)) (m : rest ≡ minus full (tree .shut)) {all : Bool} (y : all ≡ empty rest) where
+module _ (rows : List ℕ) (n : ℕ) {full rest : VertexSet} {tree : Reach} (f₀ : full ≡ belowSet n) (t : tree ≡ reachOf (firstSearch rows)) (m : rest ≡ minus full (tree .shut)) {all : Bool} (y : all ≡ empty rest) where
+  f : full ≡ fullSet n
+  f = f₀ ∙ below-full n
+
   test : empty (minus (fullSet n) (firstSearch rows .shut)) ≡ all
   test =
       ap (λ (v : VertexSet). empty (minus v (firstSearch rows .shut))) (sym f) ∙ ap (λ (x : Reach). empty (minus full (x .shut))) (sym t) ∙ ap empty (sym m) ∙ sym y

@@ -1,73 +1,47 @@
 -- The certificate of a cut and of a build, from the code's structs. Assumes nothing.
-use Prim.Native.Nat.{ℕ, zero, suc, _+_, _≤_, _<_}
+use Prim.Native.Nat.{ℕ, _+_, _-_, _≤_, _<_}
 use mathlib.Core.Path.{_≡_, refl, sym, ap, subst, _∙_}
 use mathlib.Core.Bool.{Bool, true, false, cond}
 use mathlib.Core.List.{List, [], _∷_, _++_}
 use native.Mathlib.Omega.{arith}
 use lib.Dec.{ltb}
-use lib.ListN.{length, take, drop}
-use lib.Seq.{take-at}
+use lib.ListN.{length, take, drop, replicate, length-append, length-take}
+use lib.Seq.{take-append-seam, take-at}
 use borrow.Author.Tests.{lt-ltb, le-ltb}
-use Rattle.vertexset.specs.Set.{emptySet, count, capacity}
+use Rattle.vertexset.specs.Set.{count}
 use Rattle.vertexset.specs.declared.VertexSet.{VertexSet}
-use Rattle.graph.specs.Limits.{maxEdges}
-use Rattle.search.proofs.Placed.{added-length}
-use Rattle.construction.specs.Sets.{stop, minus, withAll, members, empty}
+use Rattle.construction.specs.Sets.{members, added}
 use Rattle.construction.specs.Ears as construction
-use Rattle.construction.specs.Ears.{noCut, isCut, detour, cycle, pathSpace, addPath, eared, earsOn, ears}
+use Rattle.construction.specs.Ears.{noCut, isCut, pathSpace, eared, ears}
 use Rattle.construction.specs.Start as starting
 use Rattle.construction.specs.Steps as stepping
-use Rattle.construction.specs.Steps.{State, steps, firstState}
 use Rattle.construction.specs.Certificate.{lengthened, chosen, buildNumbers}
-use Rattle.certifier.specs.Code.{cutOf, cutIn, earsOf, FlatShows, Shows, stateIn, cutNumbersIn, cutCertificateIn, StartKept, startIn, builtCertificateIn}
-use Rattle.certifier.specs.declared.Cut.{Cut}
-use Rattle.certifier.specs.declared.Ears.{Ears}
-use Rattle.certifier.specs.declared.Start.{Start}
-use Rattle.certifier.specs.declared.Progress.{Progress}
+use Rattle.construction.proofs.SetLaws.{added-room}
+use Rattle.detours.specs.Code.{cutOf, cutIn, flatOf, earsOf}
+use Rattle.detours.specs.declared.Cut.{Cut}
+use Rattle.detours.specs.declared.Ears.{Ears}
+use Rattle.detours.proofs.Kept.{front, front-take}
+use Rattle.starting.specs.Code.{startOf}
+use Rattle.starting.specs.declared.Start.{Start}
+use Rattle.stepping.specs.Code.{builtOf, finishedOf, builtIn}
+use Rattle.stepping.specs.declared.Built.{Built}
+use Rattle.certifier.specs.Code.{cutNumbersIn, cutCertificateIn, startIn, startCertificateIn}
 use Rattle.certifier.proofs.Written.{lengthened-size}
-use Rattle.certifier.proofs.States.{kept-length, kept-size, shows-take, flat-shows-take, flat-shows-kept}
-use Rattle.certifier.proofs.Stepping.{front, front-take}
 
--- ---- the ears stay in their space
+-- ---- a list at the front of an array has room there
 
-add-short : (flat path : List ℕ) → length flat ≤ pathSpace → length (addPath flat path) ≤ pathSpace
-add-short flat path h = added-length pathSpace flat (stop ∷ path) h
+pub flat-short : (l : List ℕ) → length (flatOf l) ≡ pathSpace → length l ≤ pathSpace
+flat-short l h = omega (arith, length-append l (replicate (pathSpace - length l) 0))
 
-on-short : (rows : List ℕ) (full : VertexSet) (f : ℕ) (flat : List ℕ) (k : ℕ) (set : VertexSet) → length flat ≤ pathSpace → length (earsOn rows full f flat k set .flat) ≤ pathSpace
-unfolding earsOn
-on-short rows full zero flat k set h = h
-on-short rows full (suc f) flat k set h =
-    go (empty (minus full set)) (detour rows full set) (λ d. on-short rows full f (addPath flat (d .path)) (k + 1) (withAll set (d .path)) (add-short flat (d .path) h))
-  where
-    go : (done : Bool) (d : construction.Found) → ((x : construction.Found) → length (earsOn rows full f (addPath flat (x .path)) (k + 1) (withAll set (x .path)) .flat) ≤ pathSpace)
-        → length (cond {A = construction.Eared} done (eared flat k noCut) (cond (isCut (d .cutBy)) (eared flat k (d .cutBy)) (earsOn rows full f (addPath flat (d .path)) (k + 1) (withAll set (d .path)))) .flat) ≤ pathSpace
-    go true d on = h
-    go false d on = by (isCut (d .cutBy))
-      where
-        by : (cuts : Bool) → length (cond {A = construction.Eared} cuts (eared flat k (d .cutBy)) (earsOn rows full f (addPath flat (d .path)) (k + 1) (withAll set (d .path))) .flat) ≤ pathSpace
-        by true = h
-        by false = on d
+pub ears-low : (x : construction.Eared) (e : Ears) → e ≡ earsOf x → length (e .flat) ≡ pathSpace → e .len ≤ pathSpace
+ears-low x e q h =
+    let z : length (flatOf (x .flat)) ≡ pathSpace = sym (ap (λ (y : Ears). length (y .flat)) q) ∙ h in
+    subst (λ (n : ℕ). n ≤ pathSpace) (sym (ap (λ (y : Ears). y .len) q)) (flat-short (x .flat) z)
 
-pub ears-short : (rows : List ℕ) (full : VertexSet) → length (ears rows full .flat) ≤ pathSpace
-unfolding ears
-ears-short rows full = go (cycle rows)
-  where
-    none-short : length {A = ℕ} [] ≤ pathSpace
-    none-short = omega arith
-
-    go : (d : construction.Found)
-        → length (cond {A = construction.Eared} (isCut (d .cutBy)) (eared [] 0 (d .cutBy)) (earsOn rows full capacity (addPath [] (d .path)) 1 (withAll emptySet (d .path))) .flat) ≤ pathSpace
-    go d = by (isCut (d .cutBy))
-      where
-        by : (cuts : Bool) → length (cond {A = construction.Eared} cuts (eared [] 0 (d .cutBy)) (earsOn rows full capacity (addPath [] (d .path)) 1 (withAll emptySet (d .path))) .flat) ≤ pathSpace
-        by true = none-short
-        by false = on-short rows full capacity (addPath [] (d .path)) 1 (withAll emptySet (d .path)) (add-short [] (d .path) none-short)
-
-pub found-short : (rows : List ℕ) (full : VertexSet) (e : Ears) → e ≡ earsOf (ears rows full) → e .len ≤ pathSpace
-found-short rows full e q = subst (λ (n : ℕ). n ≤ pathSpace) (sym (ap (λ (x : Ears). x .len) q)) (ears-short rows full)
-
-pub none-short : (e : Ears) → e ≡ earsOf (eared [] 0 noCut) → e .len ≤ pathSpace
-none-short e q = let z : e .len ≡ 0 = ap (λ (x : Ears). x .len) q in omega arith
+pub start-low : (x : starting.Begun) (s : Start) → s ≡ startOf x → length (s .flat) ≡ pathSpace → s .len ≤ pathSpace
+start-low x s q h =
+    let z : length (flatOf (x .flat)) ≡ pathSpace = sym (ap (λ (y : Start). length (y .flat)) q) ∙ h in
+    subst (λ (n : ℕ). n ≤ pathSpace) (sym (ap (λ (y : Start). y .len) q)) (flat-short (x .flat) z)
 
 -- ---- the certificate of a cut
 
@@ -97,58 +71,60 @@ module _ (rows : List ℕ) (full : VertexSet) (c : Cut) {k : ℕ} (n : k ≡ cou
 
 -- ---- the certificate of a build
 
-build-steps : (rows : List ℕ) (full : VertexSet) (b : starting.Begun) → steps rows full (maxEdges + 1) (firstState b) ≡ stepping.build rows full b
+-- the build takes the start's vertices and paths only
+build-same : (rows : List ℕ) (full : VertexSet) (b : starting.Begun) → stepping.build rows full (starting.begun (b .four) (b .flat)) ≡ stepping.build rows full b
 unfolding stepping.build
-build-steps rows full b = refl
+build-same rows full b = refl
 
-pub start-fits : (s : Start) → StartKept s → s .len ≤ length (s .flat)
-start-fits s k = let l : length (s .flat) ≡ pathSpace = kept-length (s .flat) (s .len) k in omega (arith, k .1)
+module _ (rows : List ℕ) (n : ℕ) (full : VertexSet) (s : Start) (low : s .len ≤ pathSpace) {b : Built} (e : b ≡ builtIn rows n full (s .four) (front (s .flat) (s .len))) where
+  abbrev st : stepping.State
+  st = stepping.build rows full (startIn s)
 
--- what the steps begin with
-abbrev pub firstAt : Start → VertexSet → Cut → Progress
-firstAt s built none = record { branch = s .four; built = built; len = s .len; at = 0; going = true; cut = none }
+  paths-are : added pathSpace [] (front (s .flat) (s .len)) ≡ take (s .len) (s .flat)
+  paths-are =
+      ap (added pathSpace []) (front-take (s .flat) (s .len))
+      ∙ added-room pathSpace [] (take (s .len) (s .flat)) (let z : 0 + length (take (s .len) (s .flat)) ≤ pathSpace = omega (arith, length-take (s .len) (s .flat)) in z)
 
-module _ (rows : List ℕ) (full : VertexSet) (s : Start) {bare built : VertexSet} {none : Cut} (z : bare ≡ emptySet) (w : built ≡ withAll bare (front (s .flat) (s .len))) (n : none ≡ cutOf noCut) where
-  first-is : stateIn (s .flat) (firstAt s built none) ≡ firstState (startIn s)
-  first-is = rw (w, z, n, front-take (s .flat) (s .len))
+  built-is : b ≡ finishedOf rows n st
+  built-is =
+      e ∙ ap (λ (l : List ℕ). finishedOf rows n (stepping.build rows full (starting.begun (s .four) l))) paths-are
+      ∙ ap (finishedOf rows n) (build-same rows full (startIn s))
 
-  pub build-shows : {out : List ℕ} {b : Progress} → Shows out b (steps rows full (maxEdges + 1) (stateIn (s .flat) (firstAt s built none))) → Shows out b (stepping.build rows full (startIn s))
-  build-shows {out} {b} h = subst (λ (st : State). Shows out b st) (ap (λ (st : State). steps rows full (maxEdges + 1) st) first-is ∙ build-steps rows full (startIn s)) h
+  module _ {y : Bool} (t : y ≡ isCut (cutIn (b .cut))) where
+    build-test : isCut (st .cutBy) ≡ y
+    build-test = ap (λ (x : Built). isCut (cutIn (x .cut))) (sym built-is) ∙ sym t
 
-module _ (rows : List ℕ) (n : ℕ) (full four : VertexSet) (st : State) {out : List ℕ} {b : Progress} (h : Shows out b st) {y : Bool} (t : y ≡ isCut (cutIn (b .cut))) where
-  build-test : isCut (st .cutBy) ≡ y
-  build-test = ap (λ (x : Progress). isCut (cutIn (x .cut))) (sym (h .beside)) ∙ sym t
+    by-cut : {x : Bool} → y ≡ x → cond x (cutCertificateIn rows full (cutOf (st .cutBy))) (buildNumbers (s .four) (stepping.finish rows n (st .flat))) ≡ startCertificateIn rows n full s
+    by-cut u = ap (λ (x : Bool). cond x (cutCertificateIn rows full (cutOf (st .cutBy))) (buildNumbers (s .four) (stepping.finish rows n (st .flat)))) (sym (build-test ∙ u))
 
-  pub build-cut : y ≡ true → cutCertificateIn rows full (b .cut) ≡ builtCertificateIn rows n full four st
-  build-cut u =
-      ap (λ (x : Progress). cutCertificateIn rows full (x .cut)) (h .beside)
-      ∙ ap (λ (x : Bool). cond x (cutCertificateIn rows full (cutOf (st .cutBy))) (buildNumbers four (stepping.finish rows n (st .flat)))) (sym (build-test ∙ u))
+    pub build-cut : y ≡ true → cutCertificateIn rows full (b .cut) ≡ startCertificateIn rows n full s
+    build-cut u = ap (λ (x : Built). cutCertificateIn rows full (x .cut)) built-is ∙ by-cut u
 
-  module _ {all : List ℕ} {end : ℕ} (f : FlatShows all end (stepping.finish rows n (take (b .len) out))) where
-    finished : take end all ≡ stepping.finish rows n (st .flat)
-    finished = flat-shows-take all end _ f ∙ ap (stepping.finish rows n) (shows-take out b st h)
+    module _ (u : y ≡ false) where
+      abbrev paths : List ℕ
+      paths = stepping.finish rows n (st .flat)
 
-    pub finished-room : (end ≤ length all) × (end ≤ pathSpace)
-    finished-room =
-        let k = flat-shows-kept all end _ f in
-        let l : length all ≡ pathSpace = kept-length all end k in
-        let m : end ≤ pathSpace = k .1 in
-        (omega arith, m)
+      all-built : b ≡ builtOf paths (st .cutBy)
+      all-built = built-is ∙ ap (λ (x : Bool). builtOf (cond x (st .flat) paths) (st .cutBy)) (build-test ∙ u)
 
-    module _ {done : List ℕ} (d : done ≡ lengthened (take end all) .0 ++ drop end all) where
-      done-front : front done end ≡ lengthened (take end all) .0
-      done-front =
-          let m : length (lengthened (take end all) .0) ≡ end = lengthened-size (take end all) ∙ kept-size all end (flat-shows-kept all end _ f) in
-          front-take done end ∙ ap (take end) d ∙ take-at (lengthened (take end all) .0) (drop end all) end m
+      pub build-room : length (b .flat) ≡ pathSpace → (b .len ≤ length (b .flat)) × (b .len ≤ pathSpace)
+      build-room h =
+          let z : length (flatOf paths) ≡ pathSpace = sym (ap (λ (x : Built). length (x .flat)) all-built) ∙ h in
+          let m : b .len ≤ pathSpace = subst (λ (k : ℕ). k ≤ pathSpace) (sym (ap (λ (x : Built). x .len) all-built)) (flat-short paths z) in
+          (omega arith, m)
 
-      pub done-short : length (front done end) ≤ pathSpace
-      done-short =
-          let m : length (lengthened (take end all) .0) ≡ end = lengthened-size (take end all) ∙ kept-size all end (flat-shows-kept all end _ f) in
-          let r : length (front done end) ≡ end = ap length done-front ∙ m in
-          let u : end ≤ pathSpace = finished-room .1 in
-          omega arith
+      module _ {done : List ℕ} (d : done ≡ lengthened (take (b .len) (b .flat)) .0 ++ drop (b .len) (b .flat)) where
+        taken : take (b .len) (b .flat) ≡ paths
+        taken = ap (λ (x : Built). take (x .len) (x .flat)) all-built ∙ take-append-seam paths (replicate (pathSpace - length paths) 0)
 
-      pub build-done : y ≡ false → 3 ∷ (members four ++ front done end) ≡ builtCertificateIn rows n full four st
-      build-done u =
-          ap (λ (l : List ℕ). 3 ∷ (members four ++ l)) (done-front ∙ ap (λ (l : List ℕ). lengthened l .0) finished)
-          ∙ ap (λ (x : Bool). cond x (cutCertificateIn rows full (cutOf (st .cutBy))) (buildNumbers four (stepping.finish rows n (st .flat)))) (sym (build-test ∙ u))
+        long : length (lengthened (take (b .len) (b .flat)) .0) ≡ b .len
+        long = lengthened-size (take (b .len) (b .flat)) ∙ ap length taken ∙ sym (ap (λ (x : Built). x .len) all-built)
+
+        done-front : front done (b .len) ≡ lengthened (take (b .len) (b .flat)) .0
+        done-front = front-take done (b .len) ∙ ap (take (b .len)) d ∙ take-at (lengthened (take (b .len) (b .flat)) .0) (drop (b .len) (b .flat)) (b .len) long
+
+        pub done-short : length (b .flat) ≡ pathSpace → length (front done (b .len)) ≤ pathSpace
+        done-short h = let r = build-room h in let m : length (front done (b .len)) ≡ b .len = ap length done-front ∙ long in omega arith
+
+        pub build-done : 3 ∷ (members (s .four) ++ front done (b .len)) ≡ startCertificateIn rows n full s
+        build-done = ap (λ (l : List ℕ). 3 ∷ (members (s .four) ++ l)) (done-front ∙ ap (λ (l : List ℕ). lengthened l .0) taken) ∙ by-cut u

@@ -22,17 +22,16 @@ use Rattle.graph.specs.declared.GraphTable.{GraphTable}
 use Rattle.reading.specs.declared.PlanRead.{PlanRead}
 use Rattle.reading.proofs.Plans.{accepted}
 use Rattle.certificates.proofs.Accepted.{kind-low}
-use Rattle.vertexset.specs.Set.{capacity}
 use Rattle.construction.specs.Certificate.{certificateNumbers}
 use Rattle.construction.proofs.CertificateLaws.{Constructed, certified}
 use Rattle.construction.proofs.PlanLaws.{plan-drawn, plan-edges}
 use Rattle.search.proofs.Placed.{padded-at}
+use Rattle.detours.proofs.Filled.{Filled, filled-length, filled-take}
 use Rattle.certifier.specs.declared.Draft.{Draft}
 use Rattle.certifier.specs.declared.Made.{Made}
 use Rattle.certifier.specs.declared.Numbers.{Numbers}
 use Rattle.certifier.specs.Code.{numberRoom, numbersOf, Small}
 use Rattle.certifier.specs.Made.{roomAsked, gradeMade, certificateOf, made, madeBy, madeFrom, filledBy, filledFrom, draftOf, draftBy, draftFrom}
-use Rattle.certifier.proofs.Written.{Filled, filled-length, filled-take}
 
 -- a number takes at least a byte
 bytes-many : (l : List ℕ) → length l ≤ length (listBytes numberBytes l)
@@ -68,21 +67,18 @@ module _ (s : List ℕ) (bytes : Bytes s) {x : PlanRead} (e : x ≡ wholePlan s)
   abbrev numbers : List ℕ
   numbers = certificateNumbers (x .graph .rows) (x .graph .n)
 
-  read-low : (x .graph .n ≤ capacity) × Constructed (x .graph .rows) (x .graph .n)
-  read-low =
+  read-certified : Constructed (x .graph .rows) (x .graph .n)
+  read-certified =
       let p = accepted s bytes (ap (λ (y : PlanRead). y .answer) (sym e) ∙ f) in
       let d = plan-drawn (p .0) (p .1) in
-      subst (λ (g : GraphTable). (g .n ≤ capacity) × Constructed (g .rows) (g .n)) (sym (ap (λ (y : PlanRead). y .graph) e ∙ p .3)) (d .low, certified _ _ d (plan-edges (p .0) (p .1)))
-
-  pub draft-low : x .graph .n ≤ capacity
-  draft-low = read-low .0
+      subst (λ (g : GraphTable). Constructed (g .rows) (g .n)) (sym (ap (λ (y : PlanRead). y .graph) e ∙ p .3)) (certified _ _ d (plan-edges (p .0) (p .1)))
 
   module _ {c : Numbers} (k : c ≡ numbersOf numbers) where
     first : getD (c .items) 0 0 ≡ getD numbers 0 0
     first = ap (λ (y : Numbers). getD (y .items) 0 0) k ∙ padded-at numberRoom numbers 0
 
     pub draft-grade : getD (c .items) 0 0 ≤ 3
-    draft-grade = let w = read-low .1 in omega (arith, first, w .grade, kind-low (w .certificate))
+    draft-grade = let w = read-certified in omega (arith, first, w .grade, kind-low (w .certificate))
 
     pub draft-done : (room : ℕ) → roomAsked ≤ room → _≡_ {A = Draft} (record { answer = Grade (getD (c .items) 0 0); items = c .items; count = c .count }) (draftFrom s room)
     unfolding draftBy
@@ -137,7 +133,7 @@ module _ (s buffer : List ℕ) (bytes : Bytes s) {d : Draft} (e : d ≡ draftFro
   decided : Decided buffer d (madeFrom s buffer) (filledFrom s buffer)
   decided =
       subst (λ (y : Draft). Decided buffer y (madeFrom s buffer) (filledFrom s buffer)) (sym e)
-      (decided-by buffer (wholePlan s .answer) (wholePlan s .graph) (λ f. read-low s bytes {x = wholePlan s} refl f .1))
+      (decided-by buffer (wholePlan s .answer) (wholePlan s .graph) (λ f. read-certified s bytes {x = wholePlan s} refl f))
 
   pub made-fits : d .count ≤ length (d .items)
   made-fits = let f = decided .front in omega (arith, filled-length f, f .short, f .size)

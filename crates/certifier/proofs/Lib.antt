@@ -1,14 +1,5 @@
-pub mod Lists
-pub mod Ways
-pub mod Turns
-pub mod States
-pub mod Routes
 pub mod Written
-pub mod Answered
-pub mod Earing
-pub mod Stepping
-pub mod Builds
-pub mod Starting
+pub mod Tree
 pub mod Certifying
 pub mod Certificates
 pub mod Drafts

@@ -7,60 +7,27 @@ use native.Mathlib.Numerals.{add-one}
 use native.Mathlib.Omega.{arith}
 use lib.Dec.{eqb}
 use lib.ListN.{length, getD, set, take, drop, replicate, length-append, length-take, length-set, length-drop, drop-of-length-le, take-append-drop}
-use lib.Seq.{drop-cons, take-suc, getD-take, append-snoc, set-at, set-split, take-at, getD-at, length-take-le}
-use borrow.Author.Tests.{eq-eqb, ne-eqb, lt-ltb, le-ltb, le-leb}
+use lib.Seq.{drop-cons, take-suc, getD-take, append-snoc, set-at, take-at, getD-at, length-take-le}
+use borrow.Author.Tests.{eq-eqb, ne-eqb}
 use Rattle.record.specs.Number.{numberBytes, listBytes}
 use Rattle.record.specs.Write.{hasRoom, overwritten, canWrite, writtenNumber, withNumber}
 use Rattle.record.specs.declared.Written.{Written}
 use Rattle.record.specs.declared.Written.the-variants.{Next, Nothing}
 use Rattle.record.proofs.Write.{can-write, put-told, put-fails, overwritten-none, overwritten-length, overwritten-more}
-use Rattle.vertexset.specs.Set.{emptySet, has, wordCount, next, capacity}
+use Rattle.vertexset.specs.Set.{emptySet, has, next, capacity}
 use Rattle.vertexset.specs.declared.VertexSet.{VertexSet}
-use Rattle.graph.specs.Rows.{rowOf, bareRows, joinedRows}
 use Rattle.connectivity.specs.Lists.{upFrom, select}
 use Rattle.connectivity.proofs.Lists.{length-below}
-use Rattle.construction.specs.Sets.{stop, single, minus, members, membersFrom, added}
-use Rattle.construction.specs.Ears.{pathSpace, addPath}
-use Rattle.construction.specs.Start.{marked, threePaths}
+use Rattle.construction.specs.Sets.{stop, single, members}
+use Rattle.construction.specs.Ears.{pathSpace}
 use Rattle.construction.specs.Certificate.{lengthened, pairsFrom, treeNumbers}
-use Rattle.construction.specs.Steps.{addEdges, addRows, finish}
-use Rattle.construction.proofs.SetLaws.{added-room}
-use Rattle.search.specs.Arrays.{padded, placed, placedEnd}
-use Rattle.search.proofs.Placed.{padded-length, padded-take, padded-none, padded-set, added-length, placed-padded, placed-end-padded}
+use Rattle.search.specs.Arrays.{placed, placedEnd}
 use Rattle.search.proofs.Filling.{Filling, fill-start, fill-length, fill-place, fill-turn, fill-done}
-use Rattle.search.proofs.Members.{members-next, after}
-use Rattle.search.specs.Code.{pathRoom}
 use Rattle.search.proofs.Sizes.{explore-sized}
-use Rattle.certifier.specs.declared.Ears.{Ears}
+use Rattle.detours.specs.declared.Ears.{Ears}
+use Rattle.detours.proofs.Filled.{Put, Filled, filled-length, filled-put, filled-first, first-put, first-end}
 use Rattle.certifier.specs.declared.Numbers.{Numbers}
-use Rattle.certifier.specs.Code.{numberRoom, numbersOf, firstSearch, evidenceIn, Kept, FlatShows, Small}
-
--- ---- neighbours in a list are joined
-
-marked-short : (table l : List ℕ) → length l ≤ 1 → marked table l ≡ table
-unfolding marked
-marked-short table [] h = refl
-marked-short table (u ∷ []) h = refl
-marked-short table (u ∷ (v ∷ l)) h = absurd (omega arith)
-
-marked-two : (table list : List ℕ) (j : ℕ) → suc j < length list
-    → marked (joinedRows table (getD list j 0) (getD list (suc j) 0)) (drop (suc j) list) ≡ marked table (drop j list)
-unfolding marked
-marked-two table list j h =
-    let a : j < length list = omega arith in
-    rw (drop-cons list j 0 a, drop-cons list (suc j) 0 h)
-
-module _ (list : List ℕ) (i : ℕ) (p : 0 < i) (table : List ℕ) where
-  pub mark-turn : {out : List ℕ} → i < length list → out ≡ joinedRows table (getD list (i - 1) 0) (getD list i 0)
-      → marked out (drop (i + 1 - 1) list) ≡ marked table (drop (i - 1) list)
-  mark-turn {out} h e =
-      let y : i + 1 - 1 ≡ i = omega arith in
-      let z : i ≡ suc (i - 1) = omega arith in
-      let t : suc (i - 1) < length list = omega arith in
-      rw (y, e) (subst (λ (n : ℕ). marked (joinedRows table (getD list (i - 1) 0) (getD list n 0)) (drop n list) ≡ marked table (drop (i - 1) list)) (sym z) (marked-two table list (i - 1) t))
-
-  pub mark-end : length list ≤ i → marked table (drop (i - 1) list) ≡ table
-  mark-end h = marked-short table (drop (i - 1) list) (omega (arith, length-drop (i - 1) list))
+use Rattle.certifier.specs.Code.{numberRoom, numbersOf, firstSearch, evidenceIn, Small}
 
 -- ---- each stop becomes the length of the path behind it
 
@@ -235,163 +202,6 @@ module _ (buffer list : List ℕ) where
               done = rw (p .0, p .1) (overwritten-more out at (numberBytes v) fits (bytesOf (drop (i + 1) list)) ∙ ap (overwritten out at) (sym (bytes-next list i h)) ∙ f .done);
             }
 
--- ---- a list at the front of an array, and zeros behind it
-
-pub record Filled (room : ℕ) (items : List ℕ) (len : ℕ) (l : List ℕ) : Type 0 where
-  pub array : items ≡ padded room l
-  pub short : length l ≤ room
-  pub size : len ≡ length l
-
-module _ {room : ℕ} {items : List ℕ} {len : ℕ} {l : List ℕ} (f : Filled room items len l) where
-  pub filled-length : length items ≡ room
-  filled-length = ap length (f .array) ∙ padded-length room l (f .short)
-
-  pub filled-take : take len items ≡ l
-  filled-take = rw (f .array, f .size) (padded-take room l (f .short))
-
-  -- what is put behind it, where there is room or not
-  pub filled-added : (k : List ℕ) {out : List ℕ} {next : ℕ} → out ≡ placed items len k → next ≡ placedEnd items len k → Filled room out next (added room l k)
-  filled-added k {out} {next} a b = record {
-    array = a ∙ rw (f .array, f .size) (placed-padded room l k (f .short));
-    short = added-length room l k (f .short);
-    size = b ∙ rw (f .array, f .size) (placed-end-padded room l k (f .short));
-  }
-
-  pub filled-put : (k : List ℕ) {out : List ℕ} {next : ℕ} → length l + length k ≤ room → out ≡ placed items len k → next ≡ placedEnd items len k → Filled room out next (l ++ k)
-  filled-put k {out} {next} h a b = subst (λ (m : List ℕ). Filled room out next m) (added-room room l k h) (filled-added k a b)
-
--- zeros, and one number before them
-pub filled-none : (room : ℕ) → Filled room (replicate room 0) 0 []
-filled-none room = record { array = sym (padded-none room); short = omega arith; size = refl }
-
-pub filled-first : (room v : ℕ) → 0 < room → Filled room (set (replicate room 0) 0 v) 1 (v ∷ [])
-filled-first room v h = record { array = rw (← padded-none room) (padded-set room [] v h); short = omega arith; size = refl }
-
-abbrev Flat : List ℕ → ℕ → List ℕ → Type 0
-Flat items len flat = Filled pathSpace items len flat
-
-pub flat-shows : {items : List ℕ} {len : ℕ} {flat : List ℕ} → Flat items len flat → FlatShows items len flat
-flat-shows f = record { array = f .array; short = f .short; size = f .size }
-
-pub shows-flat : {items : List ℕ} {len : ℕ} {flat : List ℕ} → FlatShows items len flat → Flat items len flat
-shows-flat f = record { array = f .array; short = f .short; size = f .size }
-
-pub flat-kept : {items : List ℕ} {len : ℕ} {flat : List ℕ} → Flat items len flat → Kept items len
-flat-kept {items} {len} {flat} f = (f .array ∙ ap (padded pathSpace) (sym (filled-take f)), let h = f .short in omega (arith, f .size))
-
-pub kept-flat : (items : List ℕ) (len : ℕ) → Kept items len → Flat items len (take len items)
-kept-flat items len k =
-    let s : length (take len items) ≤ pathSpace = omega (arith, k .1, length-take len items) in
-    let n : length items ≡ pathSpace = ap length (k .0) ∙ padded-length pathSpace (take len items) s in
-    record { array = k .0; short = s; size = sym (length-take-le len items (let z : len ≤ length items = omega (arith, k .1) in z)) }
-
--- ---- the edges from u to the members of a set above it
-
-onward : (v : ℕ) (s : VertexSet) → length (s .words) ≡ wordCount → v ≤ capacity → membersFrom v s ≡ after s (next (s .words) v)
-unfolding after
-onward v s l h = members-next v s l h
-
-after-here : (s : VertexSet) (v : ℕ) → length (s .words) ≡ wordCount → v < capacity → after s v ≡ v ∷ after s (next (s .words) (v + 1))
-unfolding after
-after-here s v l h = rw (lt-ltb v capacity h) (ap (λ (m : List ℕ). v ∷ m) (onward (v + 1) s l (omega arith)))
-
-after-none : (s : VertexSet) (v : ℕ) → capacity ≤ v → after s v ≡ []
-unfolding after
-after-none s v h = rw (le-ltb v capacity h)
-
--- the paths so far, with the edges that are left, are the whole
-pub record Adding (whole : List ℕ) (u : ℕ) (left items : List ℕ) (len : ℕ) : Type 0 where
-  pub flat : List ℕ
-  pub front : Flat items len flat
-  pub same : addEdges u left flat ≡ whole
-
-module _ (u : ℕ) (s : VertexSet) (long : length (s .words) ≡ wordCount) where
-  pub edges-start : (items : List ℕ) (from : ℕ) {v : ℕ} → Kept items from → u < capacity → v ≡ next (s .words) (u + 1)
-      → Adding (addEdges u (membersFrom (u + 1) s) (take from items)) u (after s v) items from
-  edges-start items from {v} k h e = record {
-    flat = take from items;
-    front = kept-flat items from k;
-    same = ap (λ (l : List ℕ). addEdges u l (take from items)) (ap (after s) e ∙ sym (onward (u + 1) s long (omega arith)));
-  }
-
-  pub edges-fewer : (v : ℕ) {w : ℕ} → v < capacity → w ≡ next (s .words) (v + 1) → length (after s w) < length (after s v)
-  edges-fewer v h e = omega (arith, ap length (after-here s v long h), ap (λ (n : ℕ). length (after s n)) e)
-
-  module _ {whole items : List ℕ} {len : ℕ} (v : ℕ) (a : Adding whole u (after s v) items len) where
-    pub edges-turn : {out : List ℕ} {end w : ℕ} → v < capacity → {edge : List ℕ} → edge ≡ u ∷ (v ∷ []) → out ≡ placed items len (stop ∷ edge)
-        → end ≡ placedEnd items len (stop ∷ edge) → w ≡ next (s .words) (v + 1) → Adding whole u (after s w) out end
-    unfolding addEdges
-    edges-turn {out} {end} {w} h {edge} q b c e = record {
-      flat = addPath (a .flat) (u ∷ (v ∷ []));
-      front = filled-added (a .front) (stop ∷ (u ∷ (v ∷ []))) (b ∙ ap (λ (l : List ℕ). placed items len (stop ∷ l)) q) (c ∙ ap (λ (l : List ℕ). placedEnd items len (stop ∷ l)) q);
-      same = ap (λ (n : ℕ). addEdges u (after s n) (addPath (a .flat) (u ∷ (v ∷ [])))) e ∙ ap (λ (l : List ℕ). addEdges u l (a .flat)) (sym (after-here s v long h)) ∙ a .same;
-    }
-
-    pub edges-end : capacity ≤ v → FlatShows items len whole
-    unfolding addEdges
-    edges-end h =
-        let e : a .flat ≡ whole = ap (λ (l : List ℕ). addEdges u l (a .flat)) (sym (after-none s v h)) ∙ a .same in
-        subst (λ (l : List ℕ). FlatShows items len l) e (flat-shows (a .front))
-
--- ---- the edges that no path has, vertex by vertex
-
--- the same, with the edges of the vertices that are left
-pub record Finishing (whole rows table : List ℕ) (n u : ℕ) (items : List ℕ) (len : ℕ) : Type 0 where
-  pub flat : List ℕ
-  pub front : Flat items len flat
-  pub same : addRows rows table (upFrom u (n - u)) flat ≡ whole
-
-module _ (rows : List ℕ) (n : ℕ) where
-  pub rows-start : (items : List ℕ) (from : ℕ) {table : List ℕ} → Kept items from → table ≡ marked bareRows (take from items)
-      → Finishing (finish rows n (take from items)) rows table n 0 items from
-  unfolding finish
-  rows-start items from {table} k e = record {
-    flat = take from items;
-    front = kept-flat items from k;
-    same = let z : n - 0 ≡ n = omega arith in rw (z, e);
-  }
-
-  module _ {whole table items : List ℕ} {u len : ℕ} (f : Finishing whole rows table n u items len) where
-    pub rows-turn : {out : List ℕ} {more : ℕ} {a b s : VertexSet} → u < n → a ≡ rowOf rows u → b ≡ rowOf table u → s ≡ minus a b
-        → FlatShows out more (addEdges u (membersFrom (u + 1) s) (take len items)) → Finishing whole rows table n (u + 1) out more
-    unfolding addRows
-    rows-turn {out} {more} {a} {b} {s} h p q d g =
-        let e : s ≡ minus (rowOf rows u) (rowOf table u) = rw (d, p, q) in
-        let z : n - u ≡ suc (n - (u + 1)) = omega arith in
-        let t : addEdges u (membersFrom (u + 1) s) (take len items) ≡ addEdges u (membersFrom (u + 1) (minus (rowOf rows u) (rowOf table u))) (f .flat) = rw (e, filled-take (f .front)) in
-        let r : addRows rows table (u ∷ upFrom (suc u) (n - (u + 1))) (f .flat) ≡ whole = subst (λ (k : ℕ). addRows rows table (upFrom u k) (f .flat) ≡ whole) z (f .same) in
-        record {
-          flat = addEdges u (membersFrom (u + 1) s) (take len items);
-          front = shows-flat g;
-          same = ap (λ (l : List ℕ). addRows rows table (upFrom (u + 1) (n - (u + 1))) l) t ∙ ap (λ (k : ℕ). addRows rows table (upFrom k (n - (u + 1))) (addEdges u (membersFrom (u + 1) (minus (rowOf rows u) (rowOf table u))) (f .flat))) (add-one u) ∙ r;
-        }
-
-    pub rows-end : n ≤ u → FlatShows items len whole
-    unfolding addRows
-    rows-end h =
-        let z : n - u ≡ 0 = omega arith in
-        let e : f .flat ≡ whole = subst (λ (k : ℕ). addRows rows table (upFrom u k) (f .flat) ≡ whole) z (f .same) in
-        subst (λ (l : List ℕ). FlatShows items len l) e (flat-shows (f .front))
-
--- ---- a number, and then a list behind it
-
-module _ (items : List ℕ) (at v : ℕ) (l : List ℕ) (h : at + suc (length l) ≤ length items) where
-  set-over : set items at v ≡ overwritten items at (v ∷ [])
-  set-over =
-      let p : at < length items = omega arith in
-      let z : suc at ≡ at + 1 = omega arith in
-      set-split items at v p ∙ sym (append-snoc (take at items) v (drop (suc at) items)) ∙ ap (λ (n : ℕ). take at items ++ (v ∷ []) ++ drop n items) z
-
-  pub first-put : placed (set items at v) (at + 1) l ≡ placed items at (v ∷ l)
-  first-put =
-      let r : at + 1 + length l ≤ length (set items at v) = omega (arith, length-set items at v) in
-      rw (le-leb (at + 1 + length l) (length (set items at v)) r, le-leb (at + suc (length l)) (length items) h, set-over) (overwritten-more items at (v ∷ []) (omega arith) l)
-
-  pub first-end : placedEnd (set items at v) (at + 1) l ≡ placedEnd items at (v ∷ l)
-  first-end =
-      let r : at + 1 + length l ≤ length (set items at v) = omega (arith, length-set items at v) in
-      rw (le-leb (at + 1 + length l) (length (set items at v)) r, le-leb (at + suc (length l)) (length items) h) (omega arith)
-
 -- ---- the pairs of the tree
 
 pub pairs-length : (order from : List ℕ) (k i : ℕ) → length (pairsFrom order from k i) ≡ 2 * k
@@ -446,10 +256,6 @@ module _ (order from items : List ℕ) (at count : ℕ) (few : count ≤ capacit
         (r .0 ∙ first-put items at 0 pairs pairs-fit, r .1 ∙ first-end items at 0 pairs pairs-fit)
 
 -- ---- what stands between the removed vertices and the side
-
--- a list was put
-abbrev Put : List ℕ → ℕ → List ℕ → ℕ → List ℕ → Type 0
-Put items at out end l = (out ≡ placed items at l) × (end ≡ placedEnd items at l)
 
 put-as : (items : List ℕ) (at : ℕ) (out : List ℕ) (end : ℕ) {l m : List ℕ} → l ≡ m → Put items at out end m → Put items at out end l
 put-as items at out end e p = subst (λ (k : List ℕ). Put items at out end k) (sym e) p
@@ -547,29 +353,3 @@ pub cut-are : (rows : List ℕ) (e : Ears) (v w : ℕ) (l k : List ℕ) → v �
 cut-are rows e v w l k ev ew he hl hk p q r s =
     numbers-are (cut-filled v w l (evidenceIn rows e v) k hl (evidence-short rows e v he) hk p q r s)
     ∙ ap (λ (n : ℕ). numbersOf (n ∷ (l ++ (evidenceIn rows e n ++ (w ∷ k))))) ev ∙ ap (λ (n : ℕ). numbersOf (length l ∷ (l ++ (evidenceIn rows e (length l) ++ (n ∷ k))))) ew
-
--- ---- the three paths of a start
-
-pub filled-zero : (room : ℕ) → 0 < room → Filled room (replicate room 0) 1 (0 ∷ [])
-filled-zero zero h = absurd (omega arith)
-filled-zero (suc room) h = record { array = let z : suc room - 1 ≡ room = omega arith in rw z; short = omega arith; size = refl }
-
--- the cycle, closed, in an array of its own
-pub closed-filled : (around : List ℕ) → length around ≤ pathRoom → {out : List ℕ} {end : ℕ} → Put (replicate (pathRoom + 1) 0) 1 out end around → Filled (pathRoom + 1) out end (0 ∷ around)
-closed-filled around h p = filled-put (filled-zero (pathRoom + 1) (omega arith)) around (omega arith) (p .0) (p .1)
-
-module _ (around third across : List ℕ) (h : length around ≤ pathRoom) {closed a b flat : List ℕ} {k at bt len : ℕ} (p : Put (replicate (pathRoom + 1) 0) 1 closed k around)
-    (q : Put (replicate pathSpace 0) 0 a at (stop ∷ take (k - 0) closed)) (r : Put a at b bt (stop ∷ third)) (s : Put b bt flat len (stop ∷ across)) where
-  closed-take : take (k - 0) closed ≡ 0 ∷ around
-  closed-take = let z : k - 0 ≡ k = omega arith in rw z (filled-take (closed-filled around h p))
-
-  three-filled : Filled pathSpace flat len (threePaths around third across)
-  three-filled =
-      let f : Filled pathSpace a at (addPath [] (0 ∷ around)) = subst (λ (l : List ℕ). Filled pathSpace a at (addPath [] l)) closed-take (filled-added (filled-none pathSpace) (stop ∷ take (k - 0) closed) (q .0) (q .1)) in
-      filled-added (filled-added f (stop ∷ third) (r .0) (r .1)) (stop ∷ across) (s .0) (s .1)
-
-  pub three-room : len ≤ length flat
-  three-room = let f = three-filled in omega (arith, f .size, f .short, filled-length f)
-
-  pub three-marked : (table : List ℕ) → marked table (take (len - 0) flat) ≡ marked table (threePaths around third across)
-  three-marked table = let z : len - 0 ≡ len = omega arith in ap (marked table) (rw z (filled-take three-filled))

@@ -11,14 +11,14 @@ use lib.Dec.{ltb, eqb}
 use lib.ListN.{length}
 use borrow.Author.Tests.{lt-ltb, le-ltb, ltb-true, ne-eqb}
 use Rattle.record.proofs.Loops.{All}
-use Rattle.vertexset.specs.Set.{has, emptySet, inserted, wordCount, wordwise, less, count, tally, capacity}
+use Rattle.vertexset.specs.Set.{has, emptySet, inserted, belowSet, wordCount, wordwise, less, count, tally, capacity}
 use Rattle.vertexset.specs.declared.VertexSet.{VertexSet}
 use Rattle.vertexset.proofs.Laws.{Words, has-minus, empty-has, inserted-has, inserted-length, wordwise-length, count-tally}
 use Rattle.connectivity.specs.Lists.{member}
 use Rattle.connectivity.proofs.Lists.{and-true}
 use Rattle.certificates.specs.Tests.{nobody, with, someBelow, rest}
 use Rattle.certificates.proofs.Decide.{Decides, decide-same, decide-test, decide-or, decide-equal, decide-less, decide-some}
-use Rattle.sides.specs.Code.{allBelowSet, RestOf, Low}
+use Rattle.sides.specs.Code.{RestOf, Low}
 
 -- two tests that decide the same
 pub same-test : {a b : Bool} {P : Type 0} → Decides a P → Decides b P → a ≡ b
@@ -48,10 +48,10 @@ one-has {v = v} e f h = more-has emptySet refl (f ∙ ap (λ (s : VertexSet). in
 
 -- ---- the vertices below n
 
-all-length : (n : ℕ) → length (allBelowSet n .words) ≡ wordCount
-unfolding allBelowSet
+all-length : (n : ℕ) → length (belowSet n .words) ≡ wordCount
+unfolding belowSet
 all-length zero = refl
-all-length (suc n) = inserted-length (allBelowSet n) n (all-length n)
+all-length (suc n) = inserted-length (belowSet n) n (all-length n)
 
 below-more : (x n : ℕ) → ltb x n || eqb x n ≡ ltb x (suc n)
 below-more x n = same-test (decide-same (decide-or (decide-less x n) (decide-equal x n)) (⊎-elim (λ h. omega arith) (λ e. omega arith)) last) (decide-less x (suc n))
@@ -59,12 +59,12 @@ below-more x n = same-test (decide-same (decide-or (decide-less x n) (decide-equ
     last : x < suc n → (x < n) ⊎ (x ≡ n)
     last h = elim (ℕ-discrete x n) [ yes e ↦ inr e | no k ↦ inl (omega arith) ]
 
-all-has : (n : ℕ) → n ≤ capacity → has (allBelowSet n .words) ≡ (λ x. ltb x n)
-unfolding allBelowSet
+all-has : (n : ℕ) → n ≤ capacity → has (belowSet n .words) ≡ (λ x. ltb x n)
+unfolding belowSet
 all-has zero h = empty-has ∙ fun-ext (λ x. sym (le-ltb x 0 (omega arith)))
 all-has (suc n) h =
     let small : n < 64 * wordCount = omega arith in
-    inserted-has (allBelowSet n) n (all-length n) small
+    inserted-has (belowSet n) n (all-length n) small
     ∙ fun-ext (λ x. ap (λ (p : ℕ → Bool). p x || eqb x n) (all-has n (omega arith)) ∙ below-more x n)
 
 -- ---- a set holds a vertex where its size is not 0
@@ -88,9 +88,9 @@ size-some ws w n small low = rw (count-tally ws w) (tally-some (has ws) (64 * le
 -- ---- the rest
 
 pub rest-made : (n : ℕ) → n ≤ capacity → (removed side : VertexSet) → length (removed .words) ≡ wordCount → length (side .words) ≡ wordCount
-    → RestOf n (removed .words) (side .words) (wordwise less (wordwise less (allBelowSet n) removed) side .words)
+    → RestOf n (removed .words) (side .words) (wordwise less (wordwise less (belowSet n) removed) side .words)
 rest-made n small removed side l m x =
-    let k = wordwise-length less (allBelowSet n) removed (all-length n) l in
+    let k = wordwise-length less (belowSet n) removed (all-length n) l in
     has-minus _ _ (k ∙ sym m) x
     ∙ ap (λ b. b && not (has (side .words) x)) (has-minus _ _ (all-length n ∙ sym l) x ∙ ap (λ (p : ℕ → Bool). p x && not (has (removed .words) x)) (all-has n small))
     ∙ and-assoc (ltb x n) (not (has (removed .words) x)) (not (has (side .words) x))

@@ -1,5 +1,5 @@
 -- What the private functions of this crate give: the contracts of the public ones cite nothing from here.
-use Prim.Native.Nat.{ℕ, zero, suc, _<_}
+use Prim.Native.Nat.{ℕ, suc, _<_}
 use mathlib.Core.List.{List}
 use mathlib.Core.Bool.{Bool, true, cond, _&&_, _||_, not}
 use mathlib.Core.Path.{_≡_}
@@ -25,11 +25,6 @@ sideLoop n removed = record {
   ok = λ set next. record { end = Value 0 next; set = set };
   bad = λ r p. record { end = Fault r p; set = emptySet };
 }
-
--- the vertices below n as a set
-unfoldable pub allBelowSet : ℕ → VertexSet
-allBelowSet zero = emptySet
-allBelowSet (suc n) = inserted (allBelowSet n) n
 
 -- no vertex of the rest is adjacent to u
 unfoldable pub missesRow : List ℕ → (ℕ → Bool) → ℕ → Bool

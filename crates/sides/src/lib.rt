@@ -7,7 +7,7 @@ ghost use Rattle.graph.specs.Rows.{adjacentIn, rowsGraph};
 ghost use Rattle.certificates.specs.Tests.{with, nobody, someBelow};
 ghost use Rattle.certificates.specs.Records.{sideVertex, side, pair, body};
 ghost use Rattle.paths.specs.Items.{itemRead, endRead, limited};
-ghost use Rattle.sides.specs.Code.{sideLoop, allBelowSet, missesRow, noneBetween, RestOf, Low, sideTested, pairRead, pairLoop};
+ghost use Rattle.sides.specs.Code.{sideLoop, missesRow, noneBetween, RestOf, Low, sideTested, pairRead, pairLoop};
 use graph::GraphTable;
 use paths::Item;
 use vertexset::VertexSet;
@@ -61,17 +61,6 @@ fn read_side_vertices(s: &[u8], n: u16, removed: VertexSet, count: u16, from: us
     }
 }
 
-// The vertices below n.
-fn all_below(n: u16) -> VertexSet
-    ensures { λ r. ⌜ r ≡ allBelowSet n ⌝ }
-{
-    let mut set = VertexSet::empty();
-    for v in 0..n {
-        set = set.insert(v);
-    }
-    set
-}
-
 // No vertex of the rest is adjacent to u: the rest loses nothing by taking out u's row.
 fn misses(rows: &[u64; GraphTable::ROW_WORDS], u: u16, rest: VertexSet) -> bool
     ensures { λ r. ⌜ r ≡ missesRow (now (rows .entry)) (has (rest .words)) u ⌝ }
@@ -102,7 +91,7 @@ fn rest_of(n: u16, removed: VertexSet, side: VertexSet) -> VertexSet
     requires { ⌜ n ≤ capacity ⌝ }
     ensures { λ r. ⌜ RestOf n (removed .words) (side .words) (r .words) ⌝ }
 {
-    all_below(n).minus(removed).minus(side)
+    VertexSet::below(n).minus(removed).minus(side)
 }
 
 // A set of vertices below n holds one.

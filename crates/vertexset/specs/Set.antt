@@ -32,6 +32,11 @@ withBit ws v = set ws (v / 64) (bitOr (getD ws (v / 64) 0) (2 ^ (v % 64)))
 abbrev pub inserted : VertexSet → ℕ → VertexSet
 inserted s v = record { words = withBit (s .words) v }
 
+-- the vertices below n; past the words there are none
+unfoldable pub belowSet : ℕ → VertexSet
+belowSet zero = emptySet
+belowSet (suc n) = inserted (belowSet n) n
+
 -- two lists of words, word by word
 unfoldable pub zip : (ℕ → ℕ → ℕ) → List ℕ → List ℕ → List ℕ
 zip f [] ys = []

@@ -1,7 +1,7 @@
 // A set of vertices (a set of boxes), by value: one bit for each vertex, 64 to a word.
 ghost use mathlib.Core.Path.{_≡_};
 ghost use lib.Bits.{bitOr};
-ghost use Rattle.vertexset.specs.Set.{has, emptySet, inserted, count, wordwise, less, none, subsetOf, next};
+ghost use Rattle.vertexset.specs.Set.{has, emptySet, inserted, count, wordwise, less, none, subsetOf, next, belowSet};
 
 pub struct VertexSet {
     pub words: [u64; VertexSet::WORDS],
@@ -39,6 +39,17 @@ impl VertexSet {
             self.words[(v / 64) as usize] |= 1u64 << (v % 64);
         }
         self
+    }
+
+    // The vertices below n.
+    pub fn below(n: u16) -> Self
+        ensures { λ r. ⌜ r ≡ belowSet n ⌝ }
+    {
+        let mut set = VertexSet::empty();
+        for v in 0..n {
+            set = set.insert(v);
+        }
+        set
     }
 
     pub fn size(self) -> u16

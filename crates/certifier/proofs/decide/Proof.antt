@@ -2,7 +2,7 @@
 use native.Mathlib.Omega.{arith}
 use borrow.Author.Needs.{needs}
 use Rattle.record.specs.Read.{Bytes}
-use Rattle.certifier.proofs.Drafts.{draft-refused, draft-short, draft-low, draft-grade, draft-done}
+use Rattle.certifier.proofs.Drafts.{draft-refused, draft-short, draft-grade, draft-done}
 use Rattle.certifier.proofs.decide.Statement.{statement}
 use Rattle.certifier.proofs.decide.Tie as tie
 
@@ -18,14 +18,6 @@ returns-2 c =
     let r = k .before .before in
     let a = r .before .before .args in
     draft-short (a .plan .now) (a .room) (r .read-plan .ensures) (k .enum-told .given .1) (omega (arith, c .before .if1 .taken)) (c .no-draft2 .ensures)
-
-certificate-requires : tie.Need-certificate-requires
-certificate-requires c κs =
-    let k = c .before .before .before .before in
-    let r = k .before .before in
-    let b = r .before in
-    let bytes : Bytes (b .before .args .plan .now) = λ i. omega (arith, b .shared-slice-known .given i) in
-    draft-low (b .before .args .plan .now) bytes (r .read-plan .ensures) (k .enum-told .given .1)
 
 cast-t16 : tie.Need-cast-t16
 cast-t16 c =
@@ -49,4 +41,4 @@ returns-3 c =
 
 pub decide-spec : {M : Type 1} → statement M
 decide-spec = tie.close (tie.spec
-    (λ c κs. search needs) (λ c. search needs) (λ c κs. search needs) returns (λ c κs. search needs) returns-2 certificate-requires (λ c. search needs) cast-t16 returns-3)
+    (λ c κs. search needs) (λ c. search needs) (λ c κs. search needs) returns (λ c κs. search needs) returns-2 (λ c κs. search needs) (λ c. search needs) cast-t16 returns-3)

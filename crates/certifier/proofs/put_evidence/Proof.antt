@@ -7,7 +7,7 @@ use borrow.Author.Needs.{needs}
 use Rattle.construction.specs.Ears.{pathSpace}
 use Rattle.search.proofs.Placed.{placed-length}
 use Rattle.certifier.specs.Code.{treeIn}
-use Rattle.certifier.proofs.Answered.{tree-low, tree-left}
+use Rattle.certifier.proofs.Tree.{tree-low, tree-left}
 use Rattle.certifier.proofs.Written.{evidence-none, evidence-tree, evidence-ears}
 use Rattle.certifier.proofs.put_evidence.Statement.{statement}
 use Rattle.certifier.proofs.put_evidence.Tie as tie

@@ -14,7 +14,7 @@ returns c v =
     let a = b .args in
     let l : length (a .removed .words) ≡ wordCount = search needs in
     let m : length (a .side .words) ≡ wordCount = search needs in
-    let e = c .minus2 .ensures ∙ ap (λ (s : VertexSet). wordwise less s (a .side)) (c .before .minus .ensures ∙ ap (λ (s : VertexSet). wordwise less s (a .removed)) (c .before .before .all-below .ensures)) in
+    let e = c .minus2 .ensures ∙ ap (λ (s : VertexSet). wordwise less s (a .side)) (c .before .minus .ensures ∙ ap (λ (s : VertexSet). wordwise less s (a .removed)) (c .before .before .below .ensures)) in
     ap (λ (s : VertexSet). has (s .words) v) e ∙ rest-made (a .n) (b .pre) (a .removed) (a .side) l m v
 
 pub rest-of-spec : {M : Type 1} → statement M

@@ -1,0 +1,8 @@
+pub mod Lists
+pub mod Ways
+pub mod Routes
+pub mod Kept
+pub mod Marks
+pub mod Filled
+pub mod Answered
+pub mod Earing

@@ -1,0 +1,206 @@
+-- The steps of a build, as the code puts them together. Assumes nothing.
+use Prim.Native.Nat.{ℕ, zero, suc, _+_, _-_, _≤_, _<_}
+use mathlib.Core.Path.{_≡_, refl, sym, ap, subst, _∙_}
+use mathlib.Core.Bool.{Bool, true, false, cond, not}
+use mathlib.Core.List.{List, [], _∷_}
+use native.Mathlib.Omega.{arith}
+use lib.Dec.{ltb}
+use lib.ListN.{length, take, drop, getD, length-drop}
+use borrow.Author.Tests.{lt-ltb, le-ltb}
+use Rattle.vertexset.specs.Set.{emptySet}
+use Rattle.vertexset.specs.declared.VertexSet.{VertexSet}
+use Rattle.search.specs.Code.{pathRoom}
+use Rattle.construction.specs.Sets.{pair, withAll, minus, lastOf, placeOf, empty}
+use Rattle.construction.specs.Search.{explore}
+use Rattle.construction.specs.Ears as construction
+use Rattle.construction.specs.Ears.{noCut, isCut, answered, detour}
+use Rattle.construction.specs.Steps.{State, state, stopped, extended, segment, offLink, linkTaken, runEnd, linkStep, besidePlace, reroute, outTaken, outStep, innerPlace, step, steps}
+use Rattle.detours.specs.Code.{cutOf, cutIn, foundOf, Kept}
+use Rattle.detours.specs.declared.Cut.{Cut}
+use Rattle.detours.specs.declared.Found.{Found}
+use Rattle.detours.proofs.Kept.{front, front-take, kept-size, kept-shows}
+use Rattle.detours.proofs.Earing.{pathPart, part-is, detour-short}
+use Rattle.stepping.specs.Code.{sideOf, Shows, stateIn}
+use Rattle.stepping.specs.declared.Progress.{Progress}
+use Rattle.stepping.proofs.States.{shows-kept, shows-state, same-shows}
+
+-- ---- a step that stops
+
+abbrev pub stoppedAs : Progress → Cut → Progress
+stoppedAs b c = record { branch = b .branch; built = b .built; len = b .len; at = b .at; going = false; cut = c }
+
+stops : (flat : List ℕ) (b : Progress) → Kept flat (b .len) → {c : Cut} (x : construction.Cut) → c ≡ cutOf x → {r : Progress} → r ≡ stoppedAs b c → Shows flat r (stopped (stateIn flat b) x)
+stops flat b k x e q = record { array = k .0; short = kept-shows flat (b .len) k .short; beside = q ∙ rw (kept-size flat (b .len) k, e) }
+
+-- whether it is a cut, in the code's struct and in the definition's
+cut-test : {c : Cut} (x : construction.Cut) → c ≡ cutOf x → {y t : Bool} → y ≡ isCut (cutIn c) → y ≡ t → isCut x ≡ t
+cut-test x e q t = ap (λ (y : Cut). isCut (cutIn y)) (sym e) ∙ sym q ∙ t
+
+-- ---- (a) from inside a link
+
+pub off-found : (rows list : List ℕ) (built : VertexSet) (i j : ℕ) {u v p : ℕ} {ends none inner rest goals : VertexSet} → p ≡ i - 1 → u ≡ getD list p 0 → v ≡ getD list j 0
+    → ends ≡ pair u v → none ≡ emptySet → inner ≡ withAll none (segment list i j) → rest ≡ minus built inner → goals ≡ minus rest ends
+    → answered (explore rows inner goals ends) ends [] ≡ offLink rows (state list built built 0) i j
+off-found rows list built i j p u v e n s r g = rw (g, r, s, n, e, u, v, p)
+
+place-within : (p : ℕ → Bool) (l : List ℕ) → placeOf p l ≤ length l
+unfolding placeOf
+place-within p [] = omega arith
+place-within p (a ∷ l) = go (p a) (place-within p l)
+  where
+    go : (b : Bool) → placeOf p l ≤ length l → cond b 0 (placeOf p l + 1) ≤ suc (length l)
+    go true h = omega arith
+    go false h = omega arith
+
+-- the way off the link that stands at the place i
+unfoldable pub linkWay : List ℕ → State → ℕ → construction.Found
+linkWay rows st i = offLink rows st i (runEnd (st .flat) (minus (st .built) (st .branch)) i)
+
+link-taken : (rows : List ℕ) (st : State) (i : ℕ) → linkTaken st i (linkWay rows st i) ≡ linkStep rows st i
+unfolding linkWay linkStep
+link-taken rows st i = refl
+
+module _ (rows flat : List ℕ) (b : Progress) (kept : Kept flat (b .len)) (i : ℕ) where
+  pub link-end : (inner : VertexSet) {j : ℕ} → i ≤ b .len → j ≡ i + placeOf (sideOf inner false) (drop i (front flat (b .len))) → (i ≤ j) × (j ≤ length (front flat (b .len)))
+  link-end inner h e =
+      let n : length (front flat (b .len)) ≡ b .len = ap length (front-take flat (b .len)) ∙ kept-size flat (b .len) kept in
+      omega (arith, place-within (sideOf inner false) (drop i (front flat (b .len))), length-drop i (front flat (b .len)))
+
+  pub link-found : {inner : VertexSet} {j : ℕ} {f : Found} → inner ≡ minus (b .built) (b .branch) → j ≡ i + placeOf (sideOf inner false) (drop i (front flat (b .len)))
+      → f ≡ foundOf (offLink rows (state (front flat (b .len)) (b .built) (b .built) 0) i j) → f ≡ foundOf (linkWay rows (stateIn flat b) i)
+  unfolding linkWay
+  link-found a e q = q ∙ rw (e, a, front-take flat (b .len))
+
+  module _ {f : Found} (e : f ≡ foundOf (linkWay rows (stateIn flat b) i)) where
+    way-cut : f .cut ≡ cutOf (linkWay rows (stateIn flat b) i .cutBy)
+    way-cut = ap (λ (x : Found). x .cut) e
+
+    pub link-stops : {y : Bool} → y ≡ isCut (cutIn (f .cut)) → y ≡ true → {r : Progress} → r ≡ stoppedAs b (f .cut) → Shows flat r (linkStep rows (stateIn flat b) i)
+    link-stops c t {r} q =
+        let h : isCut (linkWay rows (stateIn flat b) i .cutBy) ≡ true = cut-test (linkWay rows (stateIn flat b) i .cutBy) way-cut c t in
+        let w : stopped (stateIn flat b) (linkWay rows (stateIn flat b) i .cutBy) ≡ linkStep rows (stateIn flat b) i = rw (← link-taken rows (stateIn flat b) i, h) in
+        subst (λ (st : State). Shows flat r st) w (stops flat b kept (linkWay rows (stateIn flat b) i .cutBy) way-cut q)
+
+    pub link-goes : {y : Bool} → y ≡ isCut (cutIn (f .cut)) → y ≡ false → {l : List ℕ} → l ≡ pathPart f → {out : List ℕ} {r : Progress} → Shows out r (extended (stateIn flat b) l i)
+        → Shows out r (linkStep rows (stateIn flat b) i)
+    link-goes c t q {out} {r} s =
+        let h : isCut (linkWay rows (stateIn flat b) i .cutBy) ≡ false = cut-test (linkWay rows (stateIn flat b) i .cutBy) way-cut c t in
+        let w : extended (stateIn flat b) (linkWay rows (stateIn flat b) i .path) i ≡ linkStep rows (stateIn flat b) i = rw (← link-taken rows (stateIn flat b) i, h) in
+        subst (λ (st : State). Shows out r st) (ap (λ (l : List ℕ). extended (stateIn flat b) l i) (q ∙ part-is f (linkWay rows (stateIn flat b) i) e) ∙ w) s
+
+-- ---- (b) out and back
+
+pub part-short : (rows : List ℕ) (full set : VertexSet) (f : Found) → f ≡ foundOf (detour rows full set) → {l : List ℕ} → l ≡ pathPart f → length l ≤ pathRoom
+part-short rows full set f e q = subst (λ (l : List ℕ). length l ≤ pathRoom) (sym (q ∙ part-is f (detour rows full set) e)) (detour-short rows full set)
+
+-- by the test of whether every vertex is in
+out-step : (rows : List ℕ) (full : VertexSet) (st : State) → outStep rows full st ≡ cond (empty (minus full (st .built))) (stopped st noCut) (outTaken rows st (detour rows full (st .built)))
+unfolding outStep
+out-step rows full st = refl
+
+module _ (rows : List ℕ) (full : VertexSet) (flat : List ℕ) (b : Progress) (kept : Kept flat (b .len)) {left : VertexSet} (r : left ≡ minus full (b .built)) {done : Bool} (d : done ≡ empty left) where
+  done-is : done ≡ empty (minus full (b .built))
+  done-is = d ∙ ap empty r
+
+  pub out-done : done ≡ true → {none : Cut} → none ≡ cutOf noCut → {r : Progress} → r ≡ stoppedAs b none → Shows flat r (outStep rows full (stateIn flat b))
+  out-done h n {r} q =
+      let w : stopped (stateIn flat b) noCut ≡ outStep rows full (stateIn flat b) = rw (out-step rows full (stateIn flat b), ← done-is, h) in
+      subst (λ (st : State). Shows flat r st) w (stops flat b kept noCut n q)
+
+  module _ (h : done ≡ false) {f : Found} (e : f ≡ foundOf (detour rows full (b .built))) where
+    out-cut : f .cut ≡ cutOf (detour rows full (b .built) .cutBy)
+    out-cut = ap (λ (x : Found). x .cut) e
+
+    out-taken : outTaken rows (stateIn flat b) (detour rows full (b .built)) ≡ outStep rows full (stateIn flat b)
+    out-taken = rw (out-step rows full (stateIn flat b), ← done-is, h)
+
+    pub out-stops : {y : Bool} → y ≡ isCut (cutIn (f .cut)) → y ≡ true → {r : Progress} → r ≡ stoppedAs b (f .cut) → Shows flat r (outStep rows full (stateIn flat b))
+    out-stops c t {r} q =
+        let u : isCut (detour rows full (b .built) .cutBy) ≡ true = cut-test (detour rows full (b .built) .cutBy) out-cut c t in
+        let w : stopped (stateIn flat b) (detour rows full (b .built) .cutBy) ≡ outStep rows full (stateIn flat b) = rw (← out-taken, u) in
+        subst (λ (st : State). Shows flat r st) w (stops flat b kept (detour rows full (b .built) .cutBy) out-cut q)
+
+    -- the place at which the ends of the path stand side by side
+    module _ {test : Bool} (c : test ≡ isCut (cutIn (f .cut))) (t : test ≡ false) {l : List ℕ} (q : l ≡ pathPart f) {k x y : ℕ} (last : x ≡ lastOf l) (first : y ≡ getD l 0 0)
+        (place : k ≡ besidePlace rows x y (front flat (b .len))) where
+      out-path : l ≡ detour rows full (b .built) .path
+      out-path = q ∙ part-is f (detour rows full (b .built)) e
+
+      met : isCut (detour rows full (b .built) .cutBy) ≡ false
+      met = cut-test (detour rows full (b .built) .cutBy) out-cut c t
+
+      place-is : k ≡ besidePlace rows (lastOf (detour rows full (b .built) .path)) (getD (detour rows full (b .built) .path) 0 0) (take (b .len) flat)
+      place-is = place ∙ rw (last, first, out-path, front-take flat (b .len))
+
+      pub out-reroutes : k < b .len → {out : List ℕ} {r : Progress} → Shows out r (reroute (stateIn flat b) l k)
+          → Shows out r (outStep rows full (stateIn flat b))
+      out-reroutes low {out} {r} s =
+          let w : reroute (stateIn flat b) (detour rows full (b .built) .path) k ≡ outStep rows full (stateIn flat b)
+          = rw (← out-taken, met, ← place-is, kept-size flat (b .len) kept, lt-ltb k (b .len) low) in
+          subst (λ (st : State). Shows out r st) (ap (λ (p : List ℕ). reroute (stateIn flat b) p k) out-path ∙ w) s
+
+      pub out-extends : b .len ≤ k → {out : List ℕ} {r : Progress} → Shows out r (extended (stateIn flat b) l (b .len))
+          → Shows out r (outStep rows full (stateIn flat b))
+      out-extends high {out} {r} s =
+          let w : extended (stateIn flat b) (detour rows full (b .built) .path) (b .len) ≡ outStep rows full (stateIn flat b)
+          = rw (← out-taken, met, ← place-is, kept-size flat (b .len) kept, le-ltb k (b .len) high) in
+          subst (λ (st : State). Shows out r st) (ap (λ (p : List ℕ). extended (stateIn flat b) p (b .len)) out-path ∙ w) s
+
+-- ---- one step, and all
+
+not-true : (b : Bool) → not b ≡ true → b ≡ false
+not-true true p = sym p
+not-true false p = refl
+
+not-false : (b : Bool) → not b ≡ false → b ≡ true
+not-false true p = refl
+not-false false p = sym p
+
+one-step : (rows : List ℕ) (full : VertexSet) (st : State) → step rows full st ≡ cond (ltb (innerPlace st) (length (st .flat))) (linkStep rows st (innerPlace st)) (outStep rows full st)
+unfolding step
+one-step rows full st = refl
+
+steps-zero : (rows : List ℕ) (full : VertexSet) (st : State) → steps rows full 0 st ≡ st
+unfolding steps
+steps-zero rows full st = refl
+
+steps-more : (rows : List ℕ) (full : VertexSet) (k : ℕ) (st : State) → steps rows full (suc k) st ≡ cond (st .going) (steps rows full k (step rows full st)) st
+unfolding steps
+steps-more rows full k st = refl
+
+module _ (rows : List ℕ) (full : VertexSet) (flat : List ℕ) (b : Progress) (kept : Kept flat (b .len)) where
+  module _ {inner : VertexSet} {i : ℕ} (a : inner ≡ minus (b .built) (b .branch)) (e : i ≡ b .at + placeOf (sideOf inner true) (drop (b .at) (front flat (b .len)))) where
+    inner-is : i ≡ innerPlace (stateIn flat b)
+    inner-is = e ∙ rw (a, front-take flat (b .len))
+
+    pub step-link : i < b .len → {out : List ℕ} {r : Progress} → Shows out r (linkStep rows (stateIn flat b) i) → Shows out r (step rows full (stateIn flat b))
+    step-link h {out} {r} s =
+        let w : linkStep rows (stateIn flat b) i ≡ step rows full (stateIn flat b) = rw (one-step rows full (stateIn flat b), ← inner-is, kept-size flat (b .len) kept, lt-ltb i (b .len) h) in
+        subst (λ (st : State). Shows out r st) w s
+
+    pub step-out : b .len ≤ i → {out : List ℕ} {r : Progress} → Shows out r (outStep rows full (stateIn flat b)) → Shows out r (step rows full (stateIn flat b))
+    step-out h {out} {r} s =
+        let w : outStep rows full (stateIn flat b) ≡ step rows full (stateIn flat b) = rw (one-step rows full (stateIn flat b), ← inner-is, kept-size flat (b .len) kept, le-ltb i (b .len) h) in
+        subst (λ (st : State). Shows out r st) w s
+
+  stay : (k : ℕ) → b .going ≡ false → stateIn flat b ≡ steps rows full k (stateIn flat b)
+  stay zero h = sym (steps-zero rows full (stateIn flat b))
+  stay (suc k) h = rw (steps-more rows full k (stateIn flat b), h)
+
+  module _ (left : ℕ) {whole : State} (w : steps rows full left (stateIn flat b) ≡ whole) where
+    pub steps-stopped : not (b .going) ≡ true → Shows flat b whole
+    steps-stopped h = subst (λ (st : State). Shows flat b st) (stay left (not-true (b .going) h) ∙ w) (same-shows flat b kept)
+
+    pub steps-none : left ≤ 0 → Shows flat b whole
+    steps-none h =
+        let z : 0 ≡ left = omega arith in
+        subst (λ (st : State). Shows flat b st) (sym (steps-zero rows full (stateIn flat b)) ∙ ap (λ (k : ℕ). steps rows full k (stateIn flat b)) z ∙ w) (same-shows flat b kept)
+
+    pub steps-turn : 0 < left → not (b .going) ≡ false → {out : List ℕ} {r : Progress} → Shows out r (step rows full (stateIn flat b))
+        → Kept out (r .len) × (steps rows full (left - 1) (stateIn out r) ≡ whole)
+    steps-turn h g {out} {r} s =
+        let z : suc (left - 1) ≡ left = omega arith in
+        let m : steps rows full (left - 1) (step rows full (stateIn flat b)) ≡ steps rows full (suc (left - 1)) (stateIn flat b) = rw (steps-more rows full (left - 1) (stateIn flat b), not-false (b .going) g) in (
+          shows-kept out r (step rows full (stateIn flat b)) s,
+          ap (λ (st : State). steps rows full (left - 1) st) (shows-state out r (step rows full (stateIn flat b)) s) ∙ m ∙ ap (λ (k : ℕ). steps rows full k (stateIn flat b)) z ∙ w,
+        )

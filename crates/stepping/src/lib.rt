@@ -1,0 +1,402 @@
+// The steps of a build: further paths until every vertex is a branch vertex, or a cut; then the edges that no path has.
+ghost use mathlib.Core.Path.{_≡_};
+ghost use mathlib.Core.Bool.{false};
+ghost use mathlib.Core.List.{_++_};
+ghost use Prim.Native.Nat.{_+_, _-_, _≤_, _<_};
+ghost use lib.ListN.{length, take, drop};
+ghost use Rattle.graph.specs.Limits.{maxEdges};
+ghost use Rattle.search.specs.Code.{pathOf, pathRoom, searchSpace};
+ghost use Rattle.construction.specs.Sets.{membersFrom, reversed, placeOf};
+ghost use Rattle.construction.specs.Steps.{state, extended, offLink, linkStep, turned, pairPlace, besidePlace, reroute, outStep, step, steps, addEdges, finish};
+ghost use Rattle.detours.specs.Code.{foundOf, Kept, FlatShows};
+ghost use Rattle.stepping.specs.Code.{sideOf, putBetween, putBetweenEnd, stateIn, Shows, builtIn};
+use detours::Cut;
+use detours::Ears;
+use detours::Found;
+use graph::GraphTable;
+use search::Reach;
+use search::VertexList;
+use vertexset::VertexSet;
+
+// The paths of a build, a stop before each; where a cut was met, those that were there by then.
+pub struct Built {
+    pub flat: [u16; Ears::ROOM],
+    pub len: usize,
+    pub cut: Cut,
+}
+
+// What is kept beside the paths of a build in the construction.
+struct Progress {
+    branch: VertexSet,
+    built: VertexSet,
+    len: usize,
+    // no inner vertex stands before this place
+    at: usize,
+    going: bool,
+    cut: Cut,
+}
+
+// The first place from here on with a member of the set, or with none.
+fn place_of(list: &[u16], set: VertexSet, inside: bool, from: usize) -> usize
+    ensures { λ r. ⌜ r ≡ from + placeOf (sideOf set inside) (drop from (now (list .entry))) ⌝ }
+{
+    let mut i = from;
+    while i < list.len() {
+        if set.contains(list[i]) == inside {
+            return i;
+        }
+        i += 1;
+    }
+    i
+}
+
+// One less, but not below 0.
+fn before(i: usize) -> usize
+    ensures { λ r. ⌜ r ≡ i - 1 ⌝ }
+{
+    if i == 0 {
+        return 0;
+    }
+    i - 1
+}
+
+// (a) From inside the link at the places i - 1 to j to the rest of the build, without the link's ends.
+fn off_link<'a>(
+    rows: &'a [u64; GraphTable::ROW_WORDS],
+    space: &'a mut [u16],
+    list: &'a [u16],
+    built: VertexSet,
+    i: usize,
+    j: usize,
+) -> Found
+    requires { ⌜ (length (now space) ≡ searchSpace) × ((i ≤ j) × (j ≤ length (now list))) ⌝ }
+    ensures { λ r. ⌜ r ≡ foundOf (offLink (now (rows .entry)) (state (now (list .entry)) built built 0) i j) ⌝ }
+{
+    let ends = detours::pair(
+        detours::number_at(list, before(i)),
+        detours::number_at(list, j),
+    );
+    let inner = detours::with_all(VertexSet::empty(), &list[i..j]);
+    detours::find(rows, space, inner, built.minus(inner).minus(ends), ends)
+}
+
+fn stopped(b: Progress, c: Cut) -> Progress
+    ensures { λ r. ⌜ r ≡ record { branch = b .branch; built = b .built; len = b .len; at = b .at; going = false; cut = c } ⌝ }
+{
+    let branch = b.branch;
+    let built = b.built;
+    Progress {
+        branch,
+        built,
+        len: b.len,
+        at: b.at,
+        going: false,
+        cut: c,
+    }
+}
+
+// A path is taken in; its ends are, or become, branch vertices.
+fn extend<'a>(flat: &'a mut [u16], b: Progress, path: &'a [u16], at: usize) -> Progress
+    requires { ⌜ Kept (now flat) (b .len) ⌝ }
+    ensures { λ r. ⌜ Shows (now (flat .exit)) r (extended (stateIn (now (flat .entry)) b) (now (path .entry)) at) ⌝ }
+{
+    let len = detours::add_path(flat, b.len, path);
+    let branch = b.branch;
+    let built = b.built;
+    Progress {
+        branch: branch
+            .insert(detours::number_at(path, 0))
+            .insert(detours::last_of(path)),
+        built: detours::with_all(built, path),
+        len,
+        at,
+        going: true,
+        cut: Cut::none(),
+    }
+}
+
+fn link_step<'a>(
+    rows: &'a [u64; GraphTable::ROW_WORDS],
+    space: &'a mut [u16],
+    flat: &'a mut [u16],
+    b: Progress,
+    i: usize,
+) -> Progress
+    requires { ⌜ (length (now space) ≡ searchSpace) × (Kept (now flat) (b .len) × (i ≤ b .len)) ⌝ }
+    ensures { λ r. ⌜ Shows (now (flat .exit)) r (linkStep (now (rows .entry)) (stateIn (now (flat .entry)) b) i) ⌝ }
+{
+    let len = b.len;
+    let built = b.built;
+    let branch = b.branch;
+    let j = place_of(&flat[0..len], built.minus(branch), false, i);
+    let f = off_link(rows, space, &flat[0..len], built, i, j);
+    let c = f.cut;
+    if c.is_cut() {
+        return stopped(b, c);
+    }
+    extend(flat, b, detours::front(&f.path.vertices, f.path.count), i)
+}
+
+// The first place at which two vertices stand side by side, or the length.
+fn pair_place(list: &[u16], x: u16, y: u16) -> usize
+    ensures { λ r. ⌜ r ≡ pairPlace x y (now (list .entry)) ⌝ }
+{
+    let mut i = 0;
+    while i + 1 < list.len() {
+        let a = list[i];
+        let b = list[i + 1];
+        if ((a == x) & (b == y)) | ((a == y) & (b == x)) {
+            return i;
+        }
+        i += 1;
+    }
+    list.len()
+}
+
+// Where two vertices stand side by side on a path, or the length; only where an edge joins them can they.
+fn beside<'a>(rows: &'a [u64; GraphTable::ROW_WORDS], list: &'a [u16], x: u16, y: u16) -> usize
+    ensures { λ r. ⌜ r ≡ besidePlace (now (rows .entry)) x y (now (list .entry)) ⌝ }
+{
+    if graph::adjacent(rows, x, y) {
+        return pair_place(list, x, y);
+    }
+    list.len()
+}
+
+fn copied(list: &[u16]) -> VertexList
+    requires { ⌜ length (now list) ≤ pathRoom ⌝ }
+    ensures { λ r. ⌜ r ≡ pathOf (now (list .entry)) ⌝ }
+{
+    let mut vertices = [0u16; VertexList::ROOM];
+    let count = search::put_all(&mut vertices, 0, list);
+    VertexList { vertices, count }
+}
+
+fn reversed(list: &[u16]) -> VertexList
+    requires { ⌜ length (now list) ≤ pathRoom ⌝ }
+    ensures { λ r. ⌜ r ≡ pathOf (reversed (now (list .entry))) ⌝ }
+{
+    let mut vertices = [0u16; VertexList::ROOM];
+    let mut count = 0;
+    let mut i = list.len();
+    while 0 < i {
+        i -= 1;
+        vertices[count] = list[i];
+        count += 1;
+    }
+    VertexList { vertices, count }
+}
+
+// The inner vertices of a path in the direction in which it leaves z, one of its ends.
+fn turned(path: &[u16], z: u16) -> VertexList
+    requires { ⌜ length (now path) ≤ pathRoom ⌝ }
+    ensures { λ r. ⌜ r ≡ pathOf (turned (now (path .entry)) z) ⌝ }
+{
+    let k = path.len();
+    if k < 2 {
+        return detours::no_path();
+    }
+    if z == path[0] {
+        return copied(&path[1..k - 1]);
+    }
+    reversed(&path[1..k - 1])
+}
+
+// Numbers from a place on move up.
+fn shift(flat: &mut [u16], len: usize, k: usize, by: usize)
+    requires { ⌜ (k ≤ len) × (len + by ≤ length (now flat)) ⌝ }
+    ensures { λ r. ⌜ now (flat .exit) ≡ take (k + by) (now (flat .entry)) ++ (take (len - k) (drop k (now (flat .entry))) ++ drop (len + by) (now (flat .entry))) ⌝ }
+{
+    let mut i = len;
+    while k < i {
+        i -= 1;
+        flat[i + by] = flat[i];
+    }
+}
+
+// A list is put in at a place.
+fn put_between<'a>(flat: &'a mut [u16], len: usize, k: usize, new: &'a [u16]) -> usize
+    requires { ⌜ (k ≤ len) × (len ≤ length (now flat)) ⌝ }
+    ensures { λ r. ⌜ now (flat .exit) ≡ putBetween (now (flat .entry)) len k (now (new .entry)) ⌝ }
+    ensures { λ r. ⌜ r ≡ putBetweenEnd (now (flat .entry)) len (now (new .entry)) ⌝ }
+{
+    if flat.len() - len < new.len() {
+        return len;
+    }
+    shift(flat, len, k, new.len());
+    search::put_all(flat, k, new);
+    len + new.len()
+}
+
+// The inner vertices of a path are put in between its ends, which stand side by side at the place k.
+fn reroute<'a>(flat: &'a mut [u16], b: Progress, path: &'a [u16], k: usize) -> Progress
+    requires { ⌜ Kept (now flat) (b .len) × ((k < b .len) × (length (now path) ≤ pathRoom)) ⌝ }
+    ensures { λ r. ⌜ Shows (now (flat .exit)) r (reroute (stateIn (now (flat .entry)) b) (now (path .entry)) k) ⌝ }
+{
+    let new = turned(path, flat[k]);
+    let len = put_between(flat, b.len, k + 1, detours::front(&new.vertices, new.count));
+    let branch = b.branch;
+    let built = b.built;
+    Progress {
+        branch,
+        built: detours::with_all(built, path),
+        len,
+        at: k + 1,
+        going: true,
+        cut: Cut::none(),
+    }
+}
+
+// (b) Out of the build and back; or every vertex is in.
+fn out_step<'a>(
+    rows: &'a [u64; GraphTable::ROW_WORDS],
+    space: &'a mut [u16],
+    full: VertexSet,
+    flat: &'a mut [u16],
+    b: Progress,
+) -> Progress
+    requires { ⌜ (length (now space) ≡ searchSpace) × Kept (now flat) (b .len) ⌝ }
+    ensures { λ r. ⌜ Shows (now (flat .exit)) r (outStep (now (rows .entry)) full (stateIn (now (flat .entry)) b)) ⌝ }
+{
+    let built = b.built;
+    if full.minus(built).is_empty() {
+        return stopped(b, Cut::none());
+    }
+    let f = detours::detour(rows, space, full, built);
+    let c = f.cut;
+    if c.is_cut() {
+        return stopped(b, c);
+    }
+    let path = detours::front(&f.path.vertices, f.path.count);
+    let len = b.len;
+    let k = beside(
+        rows,
+        &flat[0..len],
+        detours::last_of(path),
+        detours::number_at(path, 0),
+    );
+    if k < len {
+        return reroute(flat, b, path, k);
+    }
+    extend(flat, b, path, len)
+}
+
+// One step: (a) where an inner vertex is left, else (b).
+fn step<'a>(
+    rows: &'a [u64; GraphTable::ROW_WORDS],
+    space: &'a mut [u16],
+    full: VertexSet,
+    flat: &'a mut [u16],
+    b: Progress,
+) -> Progress
+    requires { ⌜ (length (now space) ≡ searchSpace) × Kept (now flat) (b .len) ⌝ }
+    ensures { λ r. ⌜ Shows (now (flat .exit)) r (step (now (rows .entry)) full (stateIn (now (flat .entry)) b)) ⌝ }
+{
+    let len = b.len;
+    let built = b.built;
+    let branch = b.branch;
+    let i = place_of(&flat[0..len], built.minus(branch), true, b.at);
+    if i < len {
+        return link_step(rows, space, flat, b, i);
+    }
+    out_step(rows, space, full, flat, b)
+}
+
+// Steps until none is left.
+fn all_steps<'a>(
+    rows: &'a [u64; GraphTable::ROW_WORDS],
+    space: &'a mut [u16],
+    full: VertexSet,
+    flat: &'a mut [u16],
+    first: Progress,
+) -> Progress
+    requires { ⌜ (length (now space) ≡ searchSpace) × Kept (now flat) (first .len) ⌝ }
+    ensures { λ r. ⌜ Shows (now (flat .exit)) r (steps (now (rows .entry)) full (maxEdges + 1) (stateIn (now (flat .entry)) first)) ⌝ }
+{
+    let mut b = first;
+    let mut left = GraphTable::MAX_EDGES + 1;
+    while 0 < left {
+        if !b.going {
+            return b;
+        }
+        b = step(rows, space, full, flat, b);
+        left -= 1;
+    }
+    b
+}
+
+// (c) The edges from u to the members of a set above it, each as a path.
+fn add_edges(flat: &mut [u16], from: usize, u: u16, set: VertexSet) -> usize
+    requires { ⌜ Kept (now flat) from × (u + 1 < 65536) ⌝ }
+    ensures { λ r. ⌜ FlatShows (now (flat .exit)) r (addEdges u (membersFrom (u + 1) set) (take from (now (flat .entry)))) ⌝ }
+{
+    let mut len = from;
+    let mut edge = [u, 0];
+    let mut v = set.next_from(u + 1);
+    while v < VertexSet::CAPACITY {
+        edge[1] = v;
+        len = detours::add_path(flat, len, &edge);
+        v = set.next_from(v + 1);
+    }
+    len
+}
+
+// The edges that no path has.
+fn finish<'a>(
+    rows: &'a [u64; GraphTable::ROW_WORDS],
+    n: u16,
+    flat: &'a mut [u16],
+    from: usize,
+) -> usize
+    requires { ⌜ Kept (now flat) from ⌝ }
+    ensures { λ r. ⌜ FlatShows (now (flat .exit)) r (finish (now (rows .entry)) n (take from (now (flat .entry)))) ⌝ }
+{
+    let mut table = [0u64; GraphTable::ROW_WORDS];
+    detours::mark(&mut table, &flat[0..from]);
+    let mut len = from;
+    let mut u: u16 = 0;
+    while u < n {
+        let left = graph::row(rows, u).minus(graph::row(&table, u));
+        len = add_edges(flat, len, u, left);
+        u += 1;
+    }
+    len
+}
+
+// THE BUILD on a start's branch vertices and paths: steps, and then the edges that no path has. Paths that have no room are none.
+pub fn build<'a>(
+    rows: &'a [u64; GraphTable::ROW_WORDS],
+    n: u16,
+    full: VertexSet,
+    four: VertexSet,
+    list: &'a [u16],
+) -> Built
+    ensures { λ r. ⌜ r ≡ builtIn (now (rows .entry)) n full four (now (list .entry)) ⌝ }
+{
+    let mut flat = [0u16; Ears::ROOM];
+    let len = search::put_all(&mut flat, 0, list);
+    let first = Progress {
+        branch: four,
+        built: detours::with_all(VertexSet::empty(), &flat[0..len]),
+        len,
+        at: 0,
+        going: true,
+        cut: Cut::none(),
+    };
+    let mut space = [0u16; Reach::SPACE];
+    let b = all_steps(rows, &mut space, full, &mut flat, first);
+    let cut = b.cut;
+    if cut.is_cut() {
+        return Built {
+            flat,
+            len: b.len,
+            cut,
+        };
+    }
+    let end = finish(rows, n, &mut flat, b.len);
+    Built {
+        flat,
+        len: end,
+        cut,
+    }
+}
