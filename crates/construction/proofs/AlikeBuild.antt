@@ -90,7 +90,7 @@ module _ {s : Sides} where
           let place = place-alike (minus (x .built) (x .branch)) (minus (y .built) (y .branch)) (λ v w e. member-alike inner e) (drop-alike (x .at) (h .flat)) in
           ap (λ (k : ℕ). x .at + k) place ∙ (λ i. h .at i + placeOf (minus (y .built) (y .branch)) (drop (h .at i) (y .flat)))
 
-      step-alike : {x y : State} → AlikeState s x y → AlikeState s (step (s .a) adj full x) (step (s .b) adj full′ y)
+      pub step-alike : {x y : State} → AlikeState s x y → AlikeState s (step (s .a) adj full x) (step (s .b) adj full′ y)
       unfolding step
       step-alike {x} {y} h =
           let place = inner-alike h in

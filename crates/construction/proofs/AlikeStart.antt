@@ -92,7 +92,7 @@ record Third (s : Sides) (C T : List ℕ) : Type 0 where
   pub inner-in : minus (setOf (s .a) T) (pair (s .a) 0 (getD T 0 0)) inner ≡ true
   pub inner-off : (w : ℕ) → minus (setOf (s .a) T) (pair (s .a) 0 (getD T 0 0)) w ≡ true → setOf (s .a) C w ≡ false
 
-in-set : (b : Bounds) (l : List ℕ) (x : ℕ) → setOf b l x ≡ true → In x l
+pub in-set : (b : Bounds) (l : List ℕ) (x : ℕ) → setOf b l x ≡ true → In x l
 in-set b l x e = ⊎-elim (λ k. absurd (clash k refl)) (λ k. k) (all-is b emptySet l x e)
 
 -- what stands in a path that was found

@@ -35,3 +35,4 @@ pub mod AlikeEars
 pub mod AlikeStart
 pub mod AlikeBuild
 pub mod AnyWords
+pub mod BuildEnds
