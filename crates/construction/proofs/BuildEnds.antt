@@ -12,16 +12,17 @@ use borrow.Author.Tests.{ltb-true, ltb-false, not-false, not-true}
 use Rattle.connectivity.specs.Lists.{In}
 use Rattle.connectivity.proofs.Lists.{bool?, clash, in-append, in-left, in-right, rev-in, below?}
 use Rattle.construction.specs.Sets.{added, lastOf, placeOf, reversed}
+use Rattle.construction.specs.Search.{back}
 use Rattle.construction.specs.Steps.{segment, turned}
-use Rattle.construction.specs.Construction.{Bounds, VertexSet, Found, State, stopped, noCut, emptySet, minus, empty, inserted, pair, withAll, setOf, addPath, putIn, extended, reroute, offLink, linkTaken, linkEnds, runEnd, linkStep, besidePlace, outTaken, detour, outStep, innerPlace, step, steps, route, isCut, answered, explore}
-use Rattle.construction.proofs.SetLaws.{rev-same}
+use Rattle.construction.specs.Construction.{Bounds, VertexSet, Reach, Cut, Found, Begun, State, broken, stopped, cut, noCut, emptySet, bare, minus, empty, single, count, least, nextAfter, cycle, marked, linkIn, addLink, sorted, threePaths, fourOf, startOn, across, thirdPath, around, begin, firstState, inserted, pair, withAll, setOf, addPath, putIn, extended, reroute, offLink, linkTaken, linkEnds, runEnd, linkStep, besidePlace, outTaken, detour, outStep, innerPlace, step, steps, route, isCut, answered, explore}
+use Rattle.construction.proofs.SetLaws.{rev-same, added-room}
 use Rattle.construction.proofs.Places.{place-in}
 use Rattle.construction.proofs.Finding.{first-at, place-is, place-none}
 use Rattle.construction.proofs.StepLaws.{take-in}
-use Rattle.construction.proofs.Alike.{Sides, off-one, AlikeList, end, AlikeSet, AlikeTable, minus-alike, inserted-alike, pair-alike, all-alike, set-alike, at-alike, last-alike, segment-alike, known-choice}
-use Rattle.construction.proofs.AlikeSearch.{both, and-on, minus-is, explore-alike, rest, last-same, last-rest, last-seed, answered-alike, uncut, found-path}
-use Rattle.construction.proofs.AlikeEars.{on-inserted, inserted-keep, pair-is, all-is, all-keep, on-all, detour-alike, detour-grows, left, few-left, fewer-left, no-more-left}
-use Rattle.construction.proofs.AlikeStart.{in-set}
+use Rattle.construction.proofs.Alike.{Sides, off-one, AlikeNumber, AlikeList, zero-alike, single-alike, least-alike, after-alike, bare-alike, marked-alike, end, AlikeSet, AlikeTable, minus-alike, inserted-alike, pair-alike, all-alike, set-alike, at-alike, last-alike, segment-alike, known-choice}
+use Rattle.construction.proofs.AlikeSearch.{both, nothing-left, and-on, minus-is, explore-alike, rest, last-same, last-rest, last-seed, answered-alike, uncut, found-path}
+use Rattle.construction.proofs.AlikeEars.{on-single, cycle-alike, on-inserted, inserted-keep, pair-is, all-is, all-keep, on-all, detour-alike, detour-grows, left, few-left, fewer-left, no-more-left}
+use Rattle.construction.proofs.AlikeStart.{in-set, third-alike, across-alike, four-alike, paths-alike}
 use Rattle.construction.proofs.AlikeBuild.{AlikeState, step-alike}
 
 -- ---- the first place at which a test holds
@@ -81,6 +82,9 @@ module _ (s : Sides) where
 
   added-take : (flat path : List ℕ) (k : ℕ) → k ≤ length flat → take k (addPath (s .a) flat path) ≡ take k flat
   added-take flat path k h = by-room (λ (l : List ℕ). take k l ≡ take k flat) (leb (length flat + length (s .a .vertices ∷ path)) (s .a .numbers)) (flat ++ (s .a .vertices ∷ path)) flat (take-append-le k flat (s .a .vertices ∷ path) h) refl
+
+  kept-in : (flat path : List ℕ) (w : ℕ) → In w flat → In w (addPath (s .a) flat path)
+  kept-in flat path w k = by-room (λ (l : List ℕ). In w l) (leb (length flat + length (s .a .vertices ∷ path)) (s .a .numbers)) (flat ++ (s .a .vertices ∷ path)) flat (in-left w flat (s .a .vertices ∷ path) k) k
 
   put-in : (flat new : List ℕ) (k w : ℕ) → In w (putIn (s .a) flat k new) → In w flat ⊎ In w new
   put-in flat new k w j = by-room (λ (l : List ℕ). In w l → In w flat ⊎ In w new) (leb (length flat + length new) (s .a .numbers)) (take k flat ++ (new ++ drop k flat)) flat
@@ -161,53 +165,53 @@ module _ {s : Sides} {adj : ℕ → ℕ → Bool} (d : AlikeTable s adj adj) {fu
     -- ---- a link
 
     module _ (i : ℕ) (low : i < length (x .flat)) (is-inner : inner (getD (x .flat) i 0) ≡ true) (seen : (w : ℕ) → In w (take i (x .flat)) → x .built w ≡ true → x .branch w ≡ true) where
-      abbrev v : ℕ
-      v = getD (x .flat) i 0
+      abbrev here-vertex : ℕ
+      here-vertex = getD (x .flat) i 0
 
       abbrev outer : VertexSet
       outer = λ w. not (inner w)
 
-      abbrev k : ℕ
-      k = placeOf outer (drop i (x .flat))
+      abbrev run-length : ℕ
+      run-length = placeOf outer (drop i (x .flat))
 
-      here : getD (drop i (x .flat)) 0 0 ≡ v
+      here : getD (drop i (x .flat)) 0 0 ≡ here-vertex
       here = getD-drop i (x .flat) 0 0 ∙ ap (λ (j : ℕ). getD (x .flat) j 0) (let e : i + 0 ≡ i = omega arith in e)
 
-      some-run : 0 < k
+      some-run : 0 < run-length
       some-run = place-past outer (drop i (x .flat)) (omega (arith, length-drop i (x .flat))) (ap outer here ∙ ap not is-inner)
 
-      segment-inner : (w : ℕ) → In w (segment (x .flat) i (i + k)) → inner w ≡ true
-      segment-inner w m = let e : i + k - i ≡ k = omega arith in not-false _ (before-place outer (drop i (x .flat)) w (subst (λ (j : ℕ). In w (take j (drop i (x .flat)))) e m))
+      segment-inner : (w : ℕ) → In w (segment (x .flat) i (i + run-length)) → inner w ≡ true
+      segment-inner w m = let e : i + run-length - i ≡ run-length = omega arith in not-false _ (before-place outer (drop i (x .flat)) w (subst (λ (j : ℕ). In w (take j (drop i (x .flat)))) e m))
 
       zero-outer : inner 0 ≡ false
       zero-outer = off-one (λ e. clash (o .zero-branch) (minus-is (x .built) (x .branch) 0 e .1))
 
-      end-outer : inner (getD (x .flat) (i + k) 0) ≡ false
-      end-outer = ⊎-elim (λ e. ap inner (sym (getD-drop i (x .flat) k 0)) ∙ not-true _ e)
-          (λ e. ap inner (List·getD-eq-default (x .flat) 0 {n = i + k} (omega (arith, length-drop i (x .flat)))) ∙ zero-outer) (place-at outer (drop i (x .flat)))
+      end-outer : inner (getD (x .flat) (i + run-length) 0) ≡ false
+      end-outer = ⊎-elim (λ e. ap inner (sym (getD-drop i (x .flat) run-length 0)) ∙ not-true _ e)
+          (λ e. ap inner (List·getD-eq-default (x .flat) 0 {n = i + run-length} (omega (arith, length-drop i (x .flat)))) ∙ zero-outer) (place-at outer (drop i (x .flat)))
 
       positive : 0 < i
-      positive = elim (below? i 1) [ yes e ↦ absurd (omega (arith, o .first v (take-place (x .flat) i 1 e low), minus-alike (h .built) (h .branch) .low v is-inner)) | no e ↦ omega arith ]
+      positive = elim (below? i 1) [ yes e ↦ absurd (omega (arith, o .first here-vertex (take-place (x .flat) i 1 e low), minus-alike (h .built) (h .branch) .low here-vertex is-inner)) | no e ↦ omega arith ]
 
       begun-outer : inner (getD (x .flat) (i - 1) 0) ≡ false
       begun-outer = off-one (λ e. let r = minus-is (x .built) (x .branch) (getD (x .flat) (i - 1) 0) e in let p = positive in clash (seen (getD (x .flat) (i - 1) 0) (take-place (x .flat) (i - 1) i (omega arith) (omega arith)) (r .0)) (r .1))
 
-      not-end : linkEnds (s .a) (x .flat) i (i + k) v ≡ false
-      not-end = off-one (λ e. ⊎-elim (λ z. clash is-inner (ap inner z ∙ begun-outer)) (λ z. clash is-inner (ap inner z ∙ end-outer)) (pair-is (s .a) (getD (x .flat) (i - 1) 0) (getD (x .flat) (i + k) 0) v e))
+      not-end : linkEnds (s .a) (x .flat) i (i + run-length) here-vertex ≡ false
+      not-end = off-one (λ e. ⊎-elim (λ z. clash is-inner (ap inner z ∙ begun-outer)) (λ z. clash is-inner (ap inner z ∙ end-outer)) (pair-is (s .a) (getD (x .flat) (i - 1) 0) (getD (x .flat) (i + run-length) 0) here-vertex e))
 
       pub link-kept : Kept (open-ones x) (linkStep (s .a) adj x i)
       unfolding linkStep
-      link-kept = by-test (Kept (open-ones x)) (isCut (s .a) (offLink (s .a) adj x i (i + k) .cutBy)) (stopped x (offLink (s .a) adj x i (i + k) .cutBy)) (extended (s .a) x (offLink (s .a) adj x i (i + k) .path) i) (λ u. inl refl) longer
+      link-kept = by-test (Kept (open-ones x)) (isCut (s .a) (offLink (s .a) adj x i (i + run-length) .cutBy)) (stopped x (offLink (s .a) adj x i (i + run-length) .cutBy)) (extended (s .a) x (offLink (s .a) adj x i (i + run-length) .path) i) (λ u. inl refl) longer
         where
-          longer : isCut (s .a) (offLink (s .a) adj x i (i + k) .cutBy) ≡ false → Kept (open-ones x) (extended (s .a) x (offLink (s .a) adj x i (i + k) .path) i)
+          longer : isCut (s .a) (offLink (s .a) adj x i (i + run-length) .cutBy) ≡ false → Kept (open-ones x) (extended (s .a) x (offLink (s .a) adj x i (i + run-length) .path) i)
           longer u =
-              let run = segment-alike i (i + k) (h .flat) in
-              let ends = pair-alike (at-alike (h .flat) (i - 1)) (at-alike (h .flat) (i + k)) in
+              let run = segment-alike i (i + run-length) (h .flat) in
+              let ends = pair-alike (at-alike (h .flat) (i - 1)) (at-alike (h .flat) (i + run-length)) in
               let m = explore-alike d (set-alike run) (minus-alike (minus-alike (h .built) (set-alike run)) ends) ends in
-              let v-low = minus-alike (h .built) (h .branch) .low v is-inner in
+              let v-low = minus-alike (h .built) (h .branch) .low here-vertex is-inner in
               let r = some-run in
-              let met = uncut m ends [] v (on-all (s .a) emptySet (segment (x .flat) i (i + k)) v (omega arith) (first-in (x .flat) i (i + k) low (omega arith))) not-end u in
-              let c-inner = segment-inner (lastOf (rest m)) (in-set (s .a) (segment (x .flat) i (i + k)) (lastOf (rest m)) (last-seed m met)) in
+              let met = uncut m ends [] here-vertex (on-all (s .a) emptySet (segment (x .flat) i (i + run-length)) here-vertex (omega arith) (first-in (x .flat) i (i + run-length) low (omega arith))) not-end u in
+              let c-inner = segment-inner (lastOf (rest m)) (in-set (s .a) (segment (x .flat) i (i + run-length)) (lastOf (rest m)) (last-seed m met)) in
               new-branch (answered-alike m ends end .path) i (omega arith) seen (lastOf (rest m)) (ap lastOf (found-path m ends [] met ∙ append-nil _) ∙ last-same m met)
               (minus-alike (h .built) (h .branch) .low (lastOf (rest m)) c-inner) (minus-is (x .built) (x .branch) (lastOf (rest m)) c-inner .1)
 
@@ -273,3 +277,90 @@ module _ {s : Sides} {adj : ℕ → ℕ → Bool} (d : AlikeTable s adj adj) {fu
       known-choice (AlikeState s) (h .going)
       (λ e. ⊎-elim (λ z. both (AlikeState s) (sym (still (s .a) full f (step (s .a) adj full x) z)) (sym (still (s .b) full′ g (step (s .b) adj full′ y) (sym (next .going) ∙ z))) next) (λ z. steps-end f g next (z .0) (omega arith) (omega arith)) (step-kept h o))
       (λ e. h)
+
+-- ---- the first state
+
+back-first : (k : ℕ) (order from : List ℕ) (seeds i : ℕ) → 0 < k → In (getD order i 0) (back k order from seeds i)
+unfolding back
+back-first zero order from seeds i h = absurd (omega arith)
+back-first (suc k) order from seeds i h = inl refl
+
+back-short : (k : ℕ) (order from : List ℕ) (seeds i : ℕ) → length (back k order from seeds i) ≤ k
+unfolding back
+back-short zero order from seeds i = omega arith
+back-short (suc k) order from seeds i = by-room (λ (l : List ℕ). suc (length l) ≤ suc k) (ltb i seeds) [] (back k order from seeds (getD from i 0)) (omega arith) (omega (arith, back-short k order from seeds (getD from i 0)))
+
+-- where a start is not cut it is one of three paths
+by-cut : (b : Bounds) (P : Begun → Type 0) (c : Cut) (z : Begun) → (isCut b (z .cutBy) ≡ false → P z) → isCut b (cond (isCut b c) (broken c) z .cutBy) ≡ false → P (cond (isCut b c) (broken c) z)
+by-cut b P c z f = go (isCut b c) refl
+  where
+    go : (t : Bool) → isCut b c ≡ t → isCut b (cond t (broken c) z .cutBy) ≡ false → P (cond t (broken c) z)
+    go true e u = absurd (clash e u)
+    go false e u = f u
+
+-- paths in a list, with a vertex
+record Links (s : Sides) (c : ℕ) (l : List ℕ) : Type 0 where
+  pub has : In c l
+  pub first : NoVertexFirst s l
+
+module _ {s : Sides} (room : s .a .vertices + 2 ≤ s .a .numbers) where
+  -- the first link has room, and a vertex
+  link-vertex : {t r : ℕ → ℕ → Bool} {p q : VertexSet} → AlikeTable s t r → AlikeSet s p q → {u v w z : ℕ} → AlikeNumber s u v → AlikeNumber s w z → (c : ℕ) × (c < s .n) × In c (addLink (s .a) t p [] u w)
+  link-vertex {t} {r} {p} {q} h k {u} {v} {w} {z} e f = (getD (search .order) (search .last) 0, order-low (search .last), subst (λ (l : List ℕ). In (getD (search .order) (search .last) 0) l) (sym added-all) (inr (inr first)))
+    where
+      search : Reach
+      search = explore (s .a) t (single (s .a) w) (single (s .a) u) (minus p (pair (s .a) u w))
+
+      order-low : (i : ℕ) → getD (search .order) i 0 < s .n
+      order-low i =
+          let m = explore-alike h (single-alike f) (single-alike e) (minus-alike k (pair-alike e f)) in
+          elim (below? i (length (search .order))) [ yes l ↦ m .visiting .low (getD (search .order) i 0) (place-in (search .order) i l) | no l ↦ subst (λ (c : ℕ). c < s .n) (sym (List·getD-eq-default (search .order) 0 {n = i} (omega arith))) (s .some) ]
+
+      first : In (getD (search .order) (search .last) 0) (back (s .a .vertices) (search .order) (search .from) (search .seeds) (search .last))
+      first = back-first (s .a .vertices) (search .order) (search .from) (search .seeds) (search .last) (omega arith)
+
+      added-all : addPath (s .a) [] (route (s .a) search) ≡ s .a .vertices ∷ route (s .a) search
+      added-all = added-room (s .a .numbers) [] (s .a .vertices ∷ route (s .a) search) (omega (arith, back-short (s .a .vertices) (search .order) (search .from) (search .seeds) (search .last)))
+
+  more-links : (t : ℕ → ℕ → Bool) (p : VertexSet) {c : ℕ} {f : List ℕ} (u w : ℕ) → Links s c f → Links s c (addLink (s .a) t p f u w)
+  more-links t p {c} {f} u w h = record { has = kept-in s f (linkIn (s .a) t p u w) c (h .has); first = added-first s f (linkIn (s .a) t p u w) (h .first) }
+
+  six-links : {t r : ℕ → ℕ → Bool} {p q : VertexSet} → AlikeTable s t r → AlikeSet s p q → (c : ℕ) × (c < s .n) × Links s c (sorted (s .a) t p)
+  unfolding sorted
+  six-links {t} {r} {p} {q} d h =
+      let a = least (s .a) p in
+      let b = nextAfter (s .a) p a in
+      let c = nextAfter (s .a) p b in
+      let e = nextAfter (s .a) p c in
+      let v = link-vertex d h (least-alike h) (after-alike h (least-alike h)) in
+      let one : Links s (v .0) (addLink (s .a) t p [] a b) = record { has = v .2; first = added-first s [] (linkIn (s .a) t p a b) (λ w k. absurd k) } in
+      (v .0, v .1, more-links t p c e (more-links t p b e (more-links t p b c (more-links t p a e (more-links t p a c one)))))
+
+  module _ {adj : ℕ → ℕ → Bool} (d : AlikeTable s adj adj) where
+    started : {C D T U X Y : List ℕ} → AlikeList s C D → AlikeList s T U → AlikeList s X Y → Ongoing s (firstState (s .a) (startOn (s .a) C T X))
+    started {C} {D} {T} {U} {X} {Y} hc ht hx =
+        let c = six-links (marked-alike bare-alike (paths-alike d hc ht hx)) (four-alike d hc ht hx) in
+        let flat = sorted (s .a) (marked (s .a) bare (threePaths (s .a) C T X)) (fourOf (s .a) T X) in
+        record {
+          zero-branch = inserted-keep (s .a) (inserted (s .a) (pair (s .a) 0 (getD T 0 0)) (getD X 0 0)) (lastOf X) 0 (inserted-keep (s .a) (pair (s .a) 0 (getD T 0 0)) (getD X 0 0) 0 (inserted-keep (s .a) (single (s .a) 0) (getD T 0 0) 0 (on-single (s .a) 0 (omega arith))));
+          some = c .0;
+          some-built = on-all (s .a) emptySet flat (c .0) (omega (arith, c .1)) (c .2 .has);
+          first = c .2 .first;
+          flat-built = λ v k low. on-all (s .a) emptySet flat v (omega arith) k;
+          passed = λ v k. absurd k;
+        }
+
+    pub begin-ongoing : isCut (s .a) (begin (s .a) adj .cutBy) ≡ false → Ongoing s (firstState (s .a) (begin (s .a) adj))
+    unfolding begin
+    begin-ongoing = go (ltb (count (s .a) (adj 0)) 3)
+      where
+        later : isCut (s .a) (around (s .a) adj (cycle (s .a) adj) .cutBy) ≡ false → Ongoing s (firstState (s .a) (around (s .a) adj (cycle (s .a) adj)))
+        later =
+            let C = cycle-alike d .path in
+            let T = third-alike d C .path in
+            by-cut (s .a) (λ z. Ongoing s (firstState (s .a) z)) (cycle (s .a) adj .cutBy) _ (by-cut (s .a) (λ z. Ongoing s (firstState (s .a) z)) (thirdPath (s .a) adj (cycle (s .a) adj .path) .cutBy) _
+            (by-cut (s .a) (λ z. Ongoing s (firstState (s .a) z)) (across (s .a) adj (cycle (s .a) adj .path) (thirdPath (s .a) adj (cycle (s .a) adj .path) .path) .cutBy) _ (λ u. started C T (across-alike d C T .path))))
+
+        go : (t : Bool) → isCut (s .a) (cond t (broken (cut (adj 0) (single (s .a) 0))) (around (s .a) adj (cycle (s .a) adj)) .cutBy) ≡ false → Ongoing s (firstState (s .a) (cond t (broken (cut (adj 0) (single (s .a) 0))) (around (s .a) adj (cycle (s .a) adj))))
+        go true u = absurd (clash (on-single (s .a) 0 (omega arith)) (nothing-left (single-alike (zero-alike {s = s})) (not-false _ u) 0))
+        go false u = later u
