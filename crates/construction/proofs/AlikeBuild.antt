@@ -24,6 +24,9 @@ pub record AlikeState (s : Sides) (x y : State) : Type 0 where
   pub cutBy : AlikeCut s (x .cutBy) (y .cutBy)
 
 module _ {s : Sides} where
+  pub first-alike : {x y : Begun} → AlikeBegun s x y → AlikeState s (firstState (s .a) x) (firstState (s .b) y)
+  first-alike h = record { flat = h .flat; branch = h .four; built = set-alike (h .flat); at = refl; going = refl; cutBy = no-cut }
+
   stopped-alike : {x y : State} {c e : Cut} → AlikeState s x y → AlikeCut s c e → AlikeState s (stopped x c) (stopped y e)
   stopped-alike h k = record { flat = h .flat; branch = h .branch; built = h .built; at = h .at; going = refl; cutBy = k }
 
@@ -107,7 +110,7 @@ module _ {s : Sides} where
       unfolding build
       build-alike e {x} {y} h =
           subst (λ (f : ℕ). AlikeState s (steps (s .a) adj full (s .a .steps) (firstState (s .a) x)) (steps (s .b) adj full′ f (firstState (s .b) y))) e
-          (steps-alike (s .a .steps) (record { flat = h .flat; branch = h .four; built = set-alike (h .flat); at = refl; going = refl; cutBy = no-cut }))
+          (steps-alike (s .a .steps) (first-alike h))
 
     -- ---- the edges that no path has
 

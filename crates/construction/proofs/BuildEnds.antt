@@ -1,27 +1,27 @@
 -- A BUILD ENDS BY ITSELF: each step has a new vertex or a new branch vertex, so there are at most 2 n of them.
 use Prim.Native.Nat.{ℕ, zero, suc, _+_, _-_, _<_, _≤_}
 use mathlib.Core.Path.{_≡_, refl, sym, ap, subst, _∙_}
-use mathlib.Core.Bool.{Bool, true, false, cond, not, _&&_}
+use mathlib.Core.Bool.{Bool, true, false, cond, not}
 use mathlib.Core.Logic.{_⊎_, inl, inr, ⊎-elim}
 use mathlib.Core.List.{List, [], _∷_, _++_, append-nil}
 use native.Mathlib.Omega.{arith}
 use lib.Dec.{ltb, leb, eqb}
-use lib.ListN.{length, getD, take, drop, length-append, length-drop, take-append-drop, List·getD-eq-default}
+use lib.ListN.{length, getD, take, drop, length-drop, take-append-drop, List·getD-eq-default}
 use lib.Seq.{take-append-le, take-append-seam, getD-append-seam, getD-drop, drop-cons, take-add, take-all, take-take, length-take-le}
 use borrow.Author.Tests.{ltb-true, ltb-false, not-false, not-true}
 use Rattle.connectivity.specs.Lists.{In}
 use Rattle.connectivity.proofs.Lists.{bool?, clash, in-append, in-left, in-right, rev-in, below?}
-use Rattle.construction.specs.Sets.{added, lastOf, placeOf, reversed}
+use Rattle.construction.specs.Sets.{lastOf, placeOf, reversed}
 use Rattle.construction.specs.Search.{back}
 use Rattle.construction.specs.Steps.{segment, turned}
-use Rattle.construction.specs.Construction.{Bounds, VertexSet, Reach, Cut, Found, Begun, State, broken, stopped, cut, noCut, emptySet, bare, minus, empty, single, count, least, nextAfter, cycle, marked, linkIn, addLink, sorted, threePaths, fourOf, startOn, across, thirdPath, around, begin, firstState, inserted, pair, withAll, setOf, addPath, putIn, extended, reroute, offLink, linkTaken, linkEnds, runEnd, linkStep, besidePlace, outTaken, detour, outStep, innerPlace, step, steps, route, isCut, answered, explore}
+use Rattle.construction.specs.Construction.{Bounds, VertexSet, Reach, Cut, Found, Begun, State, broken, stopped, cut, noCut, emptySet, bare, minus, empty, single, count, least, nextAfter, cycle, marked, linkIn, addLink, sorted, threePaths, fourOf, startOn, across, thirdPath, around, begin, firstState, inserted, pair, addPath, putIn, extended, reroute, offLink, linkEnds, linkStep, besidePlace, outTaken, detour, outStep, innerPlace, step, steps, route, isCut, explore}
 use Rattle.construction.proofs.SetLaws.{rev-same, added-room}
 use Rattle.construction.proofs.Places.{place-in}
 use Rattle.construction.proofs.Finding.{first-at, place-is, place-none}
 use Rattle.construction.proofs.StepLaws.{take-in}
 use Rattle.construction.proofs.Alike.{Sides, off-one, AlikeNumber, AlikeList, zero-alike, single-alike, least-alike, after-alike, bare-alike, marked-alike, end, AlikeSet, AlikeTable, minus-alike, inserted-alike, pair-alike, all-alike, set-alike, at-alike, last-alike, segment-alike, known-choice}
-use Rattle.construction.proofs.AlikeSearch.{both, nothing-left, and-on, minus-is, explore-alike, rest, last-same, last-rest, last-seed, answered-alike, uncut, found-path}
-use Rattle.construction.proofs.AlikeEars.{on-single, cycle-alike, on-inserted, inserted-keep, pair-is, all-is, all-keep, on-all, detour-alike, detour-grows, left, few-left, fewer-left, no-more-left}
+use Rattle.construction.proofs.AlikeSearch.{both, nothing-left, and-on, minus-is, explore-alike, rest, last-same, last-seed, answered-alike, uncut, found-path}
+use Rattle.construction.proofs.AlikeEars.{on-single, cycle-alike, on-inserted, inserted-keep, pair-is, all-keep, on-all, detour-alike, detour-grows, left, fewer-left, no-more-left}
 use Rattle.construction.proofs.AlikeStart.{in-set, third-alike, across-alike, four-alike, paths-alike}
 use Rattle.construction.proofs.AlikeBuild.{AlikeState, step-alike}
 
@@ -98,7 +98,7 @@ module _ (s : Sides) where
   abbrev pub NoVertexFirst : List ℕ → Type 0
   NoVertexFirst l = (v : ℕ) → In v (take 1 l) → s .n ≤ v
 
-  pub added-first : (flat path : List ℕ) → NoVertexFirst flat → NoVertexFirst (addPath (s .a) flat path)
+  added-first : (flat path : List ℕ) → NoVertexFirst flat → NoVertexFirst (addPath (s .a) flat path)
   added-first [] path f = by-room NoVertexFirst (leb (0 + length (s .a .vertices ∷ path)) (s .a .numbers)) (s .a .vertices ∷ path) [] (λ v k. ⊎-elim (λ e. omega arith) (λ z. absurd z) k) f
   added-first (c ∷ flat) path f = λ v k. f v (subst (λ (l : List ℕ). In v l) (added-take (c ∷ flat) path 1 (omega arith)) k)
 
@@ -148,7 +148,7 @@ module _ {s : Sides} {adj : ℕ → ℕ → Bool} (d : AlikeTable s adj adj) {fu
       }
 
       -- its last vertex was no branch vertex
-      pub new-branch : (c : ℕ) → lastOf p ≡ c → c < s .n → x .branch c ≡ false → Kept (open-ones x) (extended (s .a) x p i)
+      new-branch : (c : ℕ) → lastOf p ≡ c → c < s .n → x .branch c ≡ false → Kept (open-ones x) (extended (s .a) x p i)
       new-branch c e low off =
           let on : extended (s .a) x p i .branch c ≡ true = subst (λ (v : ℕ). inserted (s .a) (inserted (s .a) (x .branch) (getD p 0 0)) v c ≡ true) (sym e) (on-inserted (s .a) (inserted (s .a) (x .branch) (getD p 0 0)) c (omega arith)) in
           let less = fewer-left d hf (h .branch) branch-alike branch-keep c (and-on (all c low) off) on in
@@ -156,7 +156,7 @@ module _ {s : Sides} {adj : ℕ → ℕ → Bool} (d : AlikeTable s adj adj) {fu
           inr (extended-ongoing, omega arith)
 
       -- it has a new vertex
-      pub new-vertex : (c : ℕ) → In c p → minus full (x .built) c ≡ true → Kept (open-ones x) (extended (s .a) x p i)
+      new-vertex : (c : ℕ) → In c p → minus full (x .built) c ≡ true → Kept (open-ones x) (extended (s .a) x p i)
       new-vertex c k new =
           let less = fewer-left d hf (h .built) (all-alike (h .built) hp) (all-keep (s .a) (x .built) p) c new (on-all (s .a) (x .built) p c (omega (arith, minus-alike hf (h .built) .low c new)) k) in
           let most = no-more-left d hf (h .branch) branch-alike branch-keep in
@@ -199,7 +199,7 @@ module _ {s : Sides} {adj : ℕ → ℕ → Bool} (d : AlikeTable s adj adj) {fu
       not-end : linkEnds (s .a) (x .flat) i (i + run-length) here-vertex ≡ false
       not-end = off-one (λ e. ⊎-elim (λ z. clash is-inner (ap inner z ∙ begun-outer)) (λ z. clash is-inner (ap inner z ∙ end-outer)) (pair-is (s .a) (getD (x .flat) (i - 1) 0) (getD (x .flat) (i + run-length) 0) here-vertex e))
 
-      pub link-kept : Kept (open-ones x) (linkStep (s .a) adj x i)
+      link-kept : Kept (open-ones x) (linkStep (s .a) adj x i)
       unfolding linkStep
       link-kept = by-test (Kept (open-ones x)) (isCut (s .a) (offLink (s .a) adj x i (i + run-length) .cutBy)) (stopped x (offLink (s .a) adj x i (i + run-length) .cutBy)) (extended (s .a) x (offLink (s .a) adj x i (i + run-length) .path) i) (λ u. inl refl) longer
         where
@@ -221,17 +221,20 @@ module _ {s : Sides} {adj : ℕ → ℕ → Bool} (d : AlikeTable s adj adj) {fu
       reroute-kept : {p q : List ℕ} → AlikeList s p q → (k : ℕ) → k < length (x .flat) → (c : ℕ) → In c p → minus full (x .built) c ≡ true → Kept (open-ones x) (reroute (s .a) x p k)
       reroute-kept {p} hp k low c on new =
           let less = fewer-left d hf (h .built) (all-alike (h .built) hp) (all-keep (s .a) (x .built) p) c new (on-all (s .a) (x .built) p c (omega (arith, minus-alike hf (h .built) .low c new)) on) in
-          inr (record {
-            zero-branch = o .zero-branch;
-            some = o .some;
-            some-built = all-keep (s .a) (x .built) p (o .some) (o .some-built);
-            first = λ v j. o .first v (subst (λ (l : List ℕ). In v l) (put-take s (x .flat) (turned p (getD (x .flat) k 0)) (k + 1) 1 (omega arith) (omega arith)) j);
-            flat-built = λ v j l. ⊎-elim (λ z. all-keep (s .a) (x .built) p v (o .flat-built v z l)) (λ z. on-all (s .a) (x .built) p v (omega arith) (turned-in p (getD (x .flat) k 0) v z)) (put-in s (x .flat) (turned p (getD (x .flat) k 0)) (k + 1) v j);
-            passed = λ v j e. let z = take-in v (k + 1) (x .flat) (subst (λ (l : List ℕ). In v l) (put-take s (x .flat) (turned p (getD (x .flat) k 0)) (k + 1) (k + 1) (omega arith) (omega arith)) j) in
-                quiet v z (o .flat-built v z (all-alike (h .built) hp .low v e));
-          }, omega arith)
+          inr (
+            record {
+              zero-branch = o .zero-branch;
+              some = o .some;
+              some-built = all-keep (s .a) (x .built) p (o .some) (o .some-built);
+              first = λ v j. o .first v (subst (λ (l : List ℕ). In v l) (put-take s (x .flat) (turned p (getD (x .flat) k 0)) (k + 1) 1 (omega arith) (omega arith)) j);
+              flat-built = λ v j l. ⊎-elim (λ z. all-keep (s .a) (x .built) p v (o .flat-built v z l)) (λ z. on-all (s .a) (x .built) p v (omega arith) (turned-in p (getD (x .flat) k 0) v z)) (put-in s (x .flat) (turned p (getD (x .flat) k 0)) (k + 1) v j);
+              passed = λ v j e. let z = take-in v (k + 1) (x .flat) (subst (λ (l : List ℕ). In v l) (put-take s (x .flat) (turned p (getD (x .flat) k 0)) (k + 1) (k + 1) (omega arith) (omega arith)) j) in
+                  quiet v z (o .flat-built v z (all-alike (h .built) hp .low v e));
+            },
+            omega arith,
+          )
 
-      pub out-kept : Kept (open-ones x) (outStep (s .a) adj full x)
+      out-kept : Kept (open-ones x) (outStep (s .a) adj full x)
       unfolding outStep
       out-kept = by-test (Kept (open-ones x)) (empty (s .a) (minus full (x .built))) (stopped x noCut) (outTaken (s .a) adj x way) (λ e. inl refl) (λ e. by-test (Kept (open-ones x)) (isCut (s .a) (way .cutBy)) (stopped x (way .cutBy)) _ (λ u. inl refl) longer)
         where
@@ -255,7 +258,7 @@ module _ {s : Sides} {adj : ℕ → ℕ → Bool} (d : AlikeTable s adj adj) {fu
     seen-to : (w : ℕ) → In w (take (x .at + at-inner) (x .flat)) → x .built w ≡ true → x .branch w ≡ true
     seen-to w j e = ⊎-elim (λ z. o .passed w z e) (λ z. not-inner w (before-place inner (drop (x .at) (x .flat)) w z) e) (in-append w (take (x .at) (x .flat)) (take at-inner (drop (x .at) (x .flat))) (subst (λ (l : List ℕ). In w l) (take-add (x .at) at-inner (x .flat)) j))
 
-    pub step-kept : Kept (open-ones x) (step (s .a) adj full x)
+    step-kept : Kept (open-ones x) (step (s .a) adj full x)
     unfolding step
     step-kept = by-test (Kept (open-ones x)) (ltb (innerPlace (s .a) x) (length (x .flat))) (linkStep (s .a) adj x (innerPlace (s .a) x)) (outStep (s .a) adj full x)
         (λ e. let low = ltb-true (innerPlace (s .a) x) (length (x .flat)) e in link-kept (innerPlace (s .a) x) low
