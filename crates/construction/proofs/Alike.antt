@@ -15,7 +15,7 @@ use Rattle.connectivity.specs.Graph.{isPair}
 use Rattle.connectivity.proofs.Lists.{bool?, clash, or-true, and-true}
 use Rattle.construction.specs.Sets.{lastOf, placeOf, reversed}
 use Rattle.construction.specs.Steps.{segment, pairPlace, turned}
-use Rattle.construction.specs.Construction.{Bounds, VertexSet, Cut, emptySet, plus, minus, common, bare, noCut, inserted, single, pair, withAll, setOf, membersFrom, members, count, least, nextAfter, empty, isCut, addPath, joined, marked, putIn, lengthOn, lengthened}
+use Rattle.construction.specs.Construction.{Bounds, VertexSet, Cut, emptySet, minus, common, bare, noCut, inserted, single, pair, withAll, setOf, membersFrom, members, count, least, nextAfter, empty, isCut, addPath, joined, marked, putIn, lengthOn, lengthened}
 
 -- two bounds that differ in nothing but how many vertices there may be
 pub record Sides : Type 0 where

@@ -24,6 +24,9 @@ pub record AlikeState (s : Sides) (x y : State) : Type 0 where
   pub cutBy : AlikeCut s (x .cutBy) (y .cutBy)
 
 module _ {s : Sides} where
+  pub first-alike : {x y : Begun} → AlikeBegun s x y → AlikeState s (firstState (s .a) x) (firstState (s .b) y)
+  first-alike h = record { flat = h .flat; branch = h .four; built = set-alike (h .flat); at = refl; going = refl; cutBy = no-cut }
+
   stopped-alike : {x y : State} {c e : Cut} → AlikeState s x y → AlikeCut s c e → AlikeState s (stopped x c) (stopped y e)
   stopped-alike h k = record { flat = h .flat; branch = h .branch; built = h .built; at = h .at; going = refl; cutBy = k }
 
@@ -90,7 +93,7 @@ module _ {s : Sides} where
           let place = place-alike (minus (x .built) (x .branch)) (minus (y .built) (y .branch)) (λ v w e. member-alike inner e) (drop-alike (x .at) (h .flat)) in
           ap (λ (k : ℕ). x .at + k) place ∙ (λ i. h .at i + placeOf (minus (y .built) (y .branch)) (drop (h .at i) (y .flat)))
 
-      step-alike : {x y : State} → AlikeState s x y → AlikeState s (step (s .a) adj full x) (step (s .b) adj full′ y)
+      pub step-alike : {x y : State} → AlikeState s x y → AlikeState s (step (s .a) adj full x) (step (s .b) adj full′ y)
       unfolding step
       step-alike {x} {y} h =
           let place = inner-alike h in
@@ -107,7 +110,7 @@ module _ {s : Sides} where
       unfolding build
       build-alike e {x} {y} h =
           subst (λ (f : ℕ). AlikeState s (steps (s .a) adj full (s .a .steps) (firstState (s .a) x)) (steps (s .b) adj full′ f (firstState (s .b) y))) e
-          (steps-alike (s .a .steps) (record { flat = h .flat; branch = h .four; built = set-alike (h .flat); at = refl; going = refl; cutBy = no-cut }))
+          (steps-alike (s .a .steps) (first-alike h))
 
     -- ---- the edges that no path has
 

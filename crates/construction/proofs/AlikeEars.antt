@@ -39,7 +39,7 @@ module _ (b : Bounds) where
   all-is p [] x e = inl e
   all-is p (v ∷ l) x e = ⊎-elim (λ k. ⊎-elim inl (λ j. inr (inl (j .1))) (inserted-is b p v x k)) (λ k. inr (inr k)) (all-is (inserted b p v) l x e)
 
-  all-keep : (p : VertexSet) (l : List ℕ) (x : ℕ) → p x ≡ true → withAll b p l x ≡ true
+  pub all-keep : (p : VertexSet) (l : List ℕ) (x : ℕ) → p x ≡ true → withAll b p l x ≡ true
   unfolding folded
   all-keep p [] x e = e
   all-keep p (v ∷ l) x e = all-keep (inserted b p v) l x (inserted-keep p v x e)
@@ -184,20 +184,25 @@ module _ {s : Sides} {adj : ℕ → ℕ → Bool} (d : AlikeTable s adj adj) whe
   -- ---- ears
 
   module _ {full full′ : VertexSet} (hf : AlikeSet s full full′) where
-    abbrev left : VertexSet → ℕ
+    abbrev pub left : VertexSet → ℕ
     left p = length (members (s .a) (minus full p))
 
-    few-left : {p q : VertexSet} → AlikeSet s p q → left p ≤ s .n
+    pub few-left : {p q : VertexSet} → AlikeSet s p q → left p ≤ s .n
     few-left {p} h = at-most (s .n) (members (s .a) (minus full p)) (members-nodup (minus-alike hf h)) (λ w k. minus-alike hf h .low w (members-in (minus-alike hf h) w k))
 
     -- one new vertex: fewer are left
-    fewer-left : {p q r t : VertexSet} → AlikeSet s p q → AlikeSet s r t → ((w : ℕ) → p w ≡ true → r w ≡ true) → (c : ℕ) → minus full p c ≡ true → r c ≡ true → left r < left p
+    pub fewer-left : {p q r t : VertexSet} → AlikeSet s p q → AlikeSet s r t → ((w : ℕ) → p w ≡ true → r w ≡ true) → (c : ℕ) → minus full p c ≡ true → r c ≡ true → left r < left p
     fewer-left {p} {q} {r} {t} h k keep c new on =
         fewer (c ∷ members (s .a) (minus full r)) (members (s .a) (minus full p)) ((λ j. clash on (minus-is full r c (members-in (minus-alike hf k) c j) .1)), members-nodup (minus-alike hf k)) sub
       where
         sub : (x : ℕ) → In x (c ∷ members (s .a) (minus full r)) → In x (members (s .a) (minus full p))
         sub x (inl e) = in-members (minus-alike hf h) x (ap (minus full p) e ∙ new)
         sub x (inr j) = let z = minus-is full r x (members-in (minus-alike hf k) x j) in in-members (minus-alike hf h) x (and-on (z .0) (off-one (λ e. clash (keep x e) (z .1))))
+
+    pub no-more-left : {p q r t : VertexSet} → AlikeSet s p q → AlikeSet s r t → ((w : ℕ) → p w ≡ true → r w ≡ true) → left r ≤ left p
+    no-more-left {p} {q} {r} h k keep =
+        fewer (members (s .a) (minus full r)) (members (s .a) (minus full p)) (members-nodup (minus-alike hf k))
+        (λ x j. let z = minus-is full r x (members-in (minus-alike hf k) x j) in in-members (minus-alike hf h) x (and-on (z .0) (off-one (λ e. clash (keep x e) (z .1)))))
 
     ended : (b : Bounds) (f : ℕ) (flat : List ℕ) (k : ℕ) (p g : VertexSet) → empty b (minus g p) ≡ true → earsOn b adj g f flat k p ≡ eared flat k noCut
     unfolding earsOn

@@ -92,7 +92,7 @@ record Third (s : Sides) (C T : List ℕ) : Type 0 where
   pub inner-in : minus (setOf (s .a) T) (pair (s .a) 0 (getD T 0 0)) inner ≡ true
   pub inner-off : (w : ℕ) → minus (setOf (s .a) T) (pair (s .a) 0 (getD T 0 0)) w ≡ true → setOf (s .a) C w ≡ false
 
-in-set : (b : Bounds) (l : List ℕ) (x : ℕ) → setOf b l x ≡ true → In x l
+pub in-set : (b : Bounds) (l : List ℕ) (x : ℕ) → setOf b l x ≡ true → In x l
 in-set b l x e = ⊎-elim (λ k. absurd (clash k refl)) (λ k. k) (all-is b emptySet l x e)
 
 -- what stands in a path that was found
@@ -131,7 +131,7 @@ module _ {s : Sides} {adj : ℕ → ℕ → Bool} (d : AlikeTable s adj adj) whe
       on-cycle (inr k) = ⊎-elim (λ j. clash is-goal (rest-off (cycle-search d) met first-apart (another .0) j)) (λ j. not-zero (in-single (another .0) 0 j)) (in-append (another .0) (rest (cycle-search d)) (0 ∷ []) k)
 
   -- the third path
-  module _ {C D : List ℕ} (hc : AlikeList s C D) (a : Around s adj C) where
+  module _ {C D : List ℕ} (hc : AlikeList s C D) where
     abbrev z : ℕ
     z = least (s .a) (minus (adj 0) (setOf (s .a) C))
 
@@ -142,55 +142,57 @@ module _ {s : Sides} {adj : ℕ → ℕ → Bool} (d : AlikeTable s adj adj) whe
         (explore (s .b) adj (single (s .b) (least (s .b) (minus (adj 0) (setOf (s .b) D)))) (minus (setOf (s .b) D) (single (s .b) 0)) (single (s .b) 0))
     third-search = explore-alike d (single-alike (least-alike (minus-alike (row-alike d 0) (set-alike hc)))) (minus-alike (set-alike hc) (single-alike zero-alike)) (single-alike zero-alike)
 
-    third-alike : AlikeFound s (thirdPath (s .a) adj C) (thirdPath (s .b) adj D)
+    pub third-alike : AlikeFound s (thirdPath (s .a) adj C) (thirdPath (s .b) adj D)
     third-alike = answered-alike third-search (single-alike zero-alike) (more zero-alike end)
 
-    z-missed : (z < s .a .vertices) × (setOf (s .a) C z ≡ false)
-    z-missed =
-        let x = minus-alike (row-alike d 0) (set-alike hc) in
-        let r = next-meets x 0 (a .missed) (a .is-missed) (omega arith) in
-        (omega (arith, x .low (a .missed) (a .is-missed)), minus-is (adj 0) (setOf (s .a) C) z (r .2) .1)
+    -- where the cycle misses a neighbour of 0 it goes there
+    module _ (a : Around s adj C) where
+      z-missed : (z < s .a .vertices) × (setOf (s .a) C z ≡ false)
+      z-missed =
+          let x = minus-alike (row-alike d 0) (set-alike hc) in
+          let r = next-meets x 0 (a .missed) (a .is-missed) (omega arith) in
+          (omega (arith, x .low (a .missed) (a .is-missed)), minus-is (adj 0) (setOf (s .a) C) z (r .2) .1)
 
-    z-not-zero : single (s .a) 0 z ≡ false
-    z-not-zero = off-one (λ k. clash (ap (setOf (s .a) C) (single-is (s .a) 0 z k) ∙ a .zero-in) (z-missed .1))
+      z-not-zero : single (s .a) 0 z ≡ false
+      z-not-zero = off-one (λ k. clash (ap (setOf (s .a) C) (single-is (s .a) 0 z k) ∙ a .zero-in) (z-missed .1))
 
-    third-apart : (x : ℕ) → single (s .a) z x ≡ true → minus (setOf (s .a) C) (single (s .a) 0) x ≡ false
-    third-apart x e = off-one (λ k. clash (minus-is (setOf (s .a) C) (single (s .a) 0) x k .0) (ap (setOf (s .a) C) (single-is (s .a) z x e) ∙ z-missed .1))
+      third-apart : (x : ℕ) → single (s .a) z x ≡ true → minus (setOf (s .a) C) (single (s .a) 0) x ≡ false
+      third-apart x e = off-one (λ k. clash (minus-is (setOf (s .a) C) (single (s .a) 0) x k .0) (ap (setOf (s .a) C) (single-is (s .a) z x e) ∙ z-missed .1))
 
-    third-is : isCut (s .a) (thirdPath (s .a) adj C .cutBy) ≡ false → Third s C (thirdPath (s .a) adj C .path)
-    third-is u = subst (Third s C) (sym (found-path third-search (single-alike zero-alike) (0 ∷ []) met)) (record {
-      begins = goal .0;
-      not-zero = λ e. clash (ap (single (s .a) 0) e ∙ on-single (s .a) 0 (omega arith)) (goal .1);
-      inner = z;
-      inner-in = and-on (on-all (s .a) emptySet T z (z-missed .0) (inr (in-left z (rest third-search) (0 ∷ []) z-in))) (off-one (λ k. ⊎-elim (λ e. clash (ap (setOf (s .a) C) e ∙ a .zero-in) (z-missed .1)) (λ e. clash (ap (setOf (s .a) C) e ∙ goal .0) (z-missed .1)) (pair-is (s .a) 0 b z k)));
-      inner-off = λ w e. let r = minus-is (setOf (s .a) T) (pair (s .a) 0 b) w e in off w (in-set (s .a) T w (r .0)) (r .1);
-    })
-      where
-        met : isFound (s .a) thirdSearch ≡ true
-        met = uncut third-search (single-alike zero-alike) (0 ∷ []) z (on-single (s .a) z (z-missed .0)) z-not-zero u
+      third-is : isCut (s .a) (thirdPath (s .a) adj C .cutBy) ≡ false → Third s C (thirdPath (s .a) adj C .path)
+      third-is u = subst (Third s C) (sym (found-path third-search (single-alike zero-alike) (0 ∷ []) met)) (record {
+        begins = goal .0;
+        not-zero = λ e. clash (ap (single (s .a) 0) e ∙ on-single (s .a) 0 (omega arith)) (goal .1);
+        inner = z;
+        inner-in = and-on (on-all (s .a) emptySet T z (z-missed .0) (inr (in-left z (rest third-search) (0 ∷ []) z-in))) (off-one (λ k. ⊎-elim (λ e. clash (ap (setOf (s .a) C) e ∙ a .zero-in) (z-missed .1)) (λ e. clash (ap (setOf (s .a) C) e ∙ goal .0) (z-missed .1)) (pair-is (s .a) 0 b z k)));
+        inner-off = λ w e. let r = minus-is (setOf (s .a) T) (pair (s .a) 0 b) w e in off w (in-set (s .a) T w (r .0)) (r .1);
+      })
+        where
+          met : isFound (s .a) thirdSearch ≡ true
+          met = uncut third-search (single-alike zero-alike) (0 ∷ []) z (on-single (s .a) z (z-missed .0)) z-not-zero u
 
-        b : ℕ
-        b = thirdSearch .goal
+          b : ℕ
+          b = thirdSearch .goal
 
-        T : List ℕ
-        T = route (s .a) thirdSearch ++ (0 ∷ [])
+          T : List ℕ
+          T = route (s .a) thirdSearch ++ (0 ∷ [])
 
-        goal : (setOf (s .a) C (thirdSearch .goal) ≡ true) × (single (s .a) 0 (thirdSearch .goal) ≡ false)
-        goal = minus-is (setOf (s .a) C) (single (s .a) 0) (thirdSearch .goal) (at-goal third-search met .1)
+          goal : (setOf (s .a) C (thirdSearch .goal) ≡ true) × (single (s .a) 0 (thirdSearch .goal) ≡ false)
+          goal = minus-is (setOf (s .a) C) (single (s .a) 0) (thirdSearch .goal) (at-goal third-search met .1)
 
-        z-in : In z (rest third-search)
-        z-in = subst (λ (v : ℕ). In v (rest third-search)) (single-is (s .a) z (lastOf (rest third-search)) (last-seed third-search met)) (last-rest third-search met)
+          z-in : In z (rest third-search)
+          z-in = subst (λ (v : ℕ). In v (rest third-search)) (single-is (s .a) z (lastOf (rest third-search)) (last-seed third-search met)) (last-rest third-search met)
 
-        b-low : thirdSearch .goal < s .a .vertices
-        b-low = ltb-true (thirdSearch .goal) (s .a .vertices) met
+          b-low : thirdSearch .goal < s .a .vertices
+          b-low = ltb-true (thirdSearch .goal) (s .a .vertices) met
 
-        off : (w : ℕ) → In w (route (s .a) thirdSearch ++ (0 ∷ [])) → pair (s .a) 0 (thirdSearch .goal) w ≡ false → setOf (s .a) C w ≡ false
-        off w (inl e) f = absurd (clash (ap (pair (s .a) 0 (thirdSearch .goal)) e ∙ on-inserted (s .a) (single (s .a) 0) (thirdSearch .goal) b-low) f)
-        off w (inr k) f = off-one (λ on. ⊎-elim (λ j. clash (and-on on (off-one (λ i. clash (inserted-keep (s .a) (single (s .a) 0) (thirdSearch .goal) w i) f))) (rest-off third-search met third-apart w j))
-            (λ j. clash (ap (pair (s .a) 0 (thirdSearch .goal)) (in-single w 0 j) ∙ inserted-keep (s .a) (single (s .a) 0) (thirdSearch .goal) 0 (on-single (s .a) 0 (omega arith))) f) (in-append w (rest third-search) (0 ∷ []) k))
+          off : (w : ℕ) → In w (route (s .a) thirdSearch ++ (0 ∷ [])) → pair (s .a) 0 (thirdSearch .goal) w ≡ false → setOf (s .a) C w ≡ false
+          off w (inl e) f = absurd (clash (ap (pair (s .a) 0 (thirdSearch .goal)) e ∙ on-inserted (s .a) (single (s .a) 0) (thirdSearch .goal) b-low) f)
+          off w (inr k) f = off-one (λ on. ⊎-elim (λ j. clash (and-on on (off-one (λ i. clash (inserted-keep (s .a) (single (s .a) 0) (thirdSearch .goal) w i) f))) (rest-off third-search met third-apart w j))
+              (λ j. clash (ap (pair (s .a) 0 (thirdSearch .goal)) (in-single w 0 j) ∙ inserted-keep (s .a) (single (s .a) 0) (thirdSearch .goal) 0 (on-single (s .a) 0 (omega arith))) f) (in-append w (rest third-search) (0 ∷ []) k))
 
   -- the path across
-  module _ {C D T U : List ℕ} (hc : AlikeList s C D) (ht : AlikeList s T U) (a : Third s C T) where
+  module _ {C D T U : List ℕ} (hc : AlikeList s C D) (ht : AlikeList s T U) where
     abbrev ends : VertexSet
     ends = pair (s .a) 0 (getD T 0 0)
 
@@ -204,83 +206,84 @@ module _ {s : Sides} {adj : ℕ → ℕ → Bool} (d : AlikeTable s adj adj) whe
         (explore (s .b) adj (minus (setOf (s .b) U) (pair (s .b) 0 (getD U 0 0))) (minus (setOf (s .b) D) (pair (s .b) 0 (getD U 0 0))) (pair (s .b) 0 (getD U 0 0)))
     across-search = explore-alike d (minus-alike (set-alike ht) ends-alike) (minus-alike (set-alike hc) ends-alike) ends-alike
 
-    across-alike : AlikeFound s (across (s .a) adj C T) (across (s .b) adj D U)
+    pub across-alike : AlikeFound s (across (s .a) adj C T) (across (s .b) adj D U)
     across-alike = answered-alike across-search ends-alike end
 
-    four-alike : {X Y : List ℕ} → AlikeList s X Y → AlikeSet s (fourOf (s .a) T X) (fourOf (s .b) U Y)
+    pub four-alike : {X Y : List ℕ} → AlikeList s X Y → AlikeSet s (fourOf (s .a) T X) (fourOf (s .b) U Y)
     four-alike hx = inserted-alike (inserted-alike ends-alike (at-alike hx 0)) (last-alike hx)
 
-    paths-alike : {X Y : List ℕ} → AlikeList s X Y → AlikeList s (threePaths (s .a) C T X) (threePaths (s .b) D U Y)
+    pub paths-alike : {X Y : List ℕ} → AlikeList s X Y → AlikeList s (threePaths (s .a) C T X) (threePaths (s .b) D U Y)
     paths-alike hx = add-alike (add-alike (add-alike end (more zero-alike hc)) ht) hx
 
-    -- the four branch vertices are different ones
-    module _ (met : isFound (s .a) acrossSearch ≡ true) where
-      abbrev X : List ℕ
-      X = route (s .a) acrossSearch
+    module _ (a : Third s C T) where
+      -- the four branch vertices are different ones
+      module _ (met : isFound (s .a) acrossSearch ≡ true) where
+        abbrev X : List ℕ
+        X = route (s .a) acrossSearch
 
-      goal-is : (setOf (s .a) C (acrossSearch .goal) ≡ true) × (ends (acrossSearch .goal) ≡ false)
-      goal-is = minus-is (setOf (s .a) C) ends (acrossSearch .goal) (at-goal across-search met .1)
+        goal-is : (setOf (s .a) C (acrossSearch .goal) ≡ true) × (ends (acrossSearch .goal) ≡ false)
+        goal-is = minus-is (setOf (s .a) C) ends (acrossSearch .goal) (at-goal across-search met .1)
 
-      abbrev seed : ℕ
-      seed = lastOf X
+        abbrev seed : ℕ
+        seed = lastOf X
 
-      seed-is : minus (setOf (s .a) T) ends seed ≡ true
-      seed-is = ap (minus (setOf (s .a) T) ends) (last-same across-search met) ∙ last-seed across-search met
+        seed-is : minus (setOf (s .a) T) ends seed ≡ true
+        seed-is = ap (minus (setOf (s .a) T) ends) (last-same across-search met) ∙ last-seed across-search met
 
-      on-ends : (ends 0 ≡ true) × (ends (getD T 0 0) ≡ true)
-      on-ends = (inserted-keep (s .a) (single (s .a) 0) (getD T 0 0) 0 (on-single (s .a) 0 (omega arith)), on-inserted (s .a) (single (s .a) 0) (getD T 0 0) (omega (arith, set-alike hc .low (getD T 0 0) (a .begins))))
+        on-ends : (ends 0 ≡ true) × (ends (getD T 0 0) ≡ true)
+        on-ends = (inserted-keep (s .a) (single (s .a) 0) (getD T 0 0) 0 (on-single (s .a) 0 (omega arith)), on-inserted (s .a) (single (s .a) 0) (getD T 0 0) (omega (arith, set-alike hc .low (getD T 0 0) (a .begins))))
 
-      abbrev branch : List ℕ
-      branch = 0 ∷ (getD T 0 0 ∷ (acrossSearch .goal ∷ (seed ∷ [])))
+        abbrev branch : List ℕ
+        branch = 0 ∷ (getD T 0 0 ∷ (acrossSearch .goal ∷ (seed ∷ [])))
 
-      branch-nodup : NoDup branch
-      branch-nodup = (zero-not, (begin-not, ((λ k. goal-not-seed (in-single _ _ k)), ((λ k. k), tt))))
+        branch-nodup : NoDup branch
+        branch-nodup = (zero-not, (begin-not, ((λ k. goal-not-seed (in-single _ _ k)), ((λ k. k), tt))))
+          where
+            goal-not-seed : acrossSearch .goal ≡ seed → ⊥
+            goal-not-seed e = clash (ap (setOf (s .a) C) (sym e) ∙ goal-is .0) (a .inner-off seed seed-is)
+
+            not-end : (v : ℕ) → ends v ≡ true → In v (acrossSearch .goal ∷ (seed ∷ [])) → ⊥
+            not-end v on (inl e) = clash (ap ends (sym e) ∙ on) (goal-is .1)
+            not-end v on (inr k) = clash (ap ends (sym (in-single v seed k)) ∙ on) (minus-is (setOf (s .a) T) ends seed seed-is .1)
+
+            zero-not : In 0 (getD T 0 0 ∷ (acrossSearch .goal ∷ (seed ∷ []))) → ⊥
+            zero-not (inl e) = a .not-zero (sym e)
+            zero-not (inr k) = not-end 0 (on-ends .0) k
+
+            begin-not : In (getD T 0 0) (acrossSearch .goal ∷ (seed ∷ [])) → ⊥
+            begin-not = not-end (getD T 0 0) (on-ends .1)
+
+        kept : (w : ℕ) → ends w ≡ true → fourOf (s .a) T X w ≡ true
+        kept w e = inserted-keep (s .a) (inserted (s .a) ends (acrossSearch .goal)) seed w (inserted-keep (s .a) ends (acrossSearch .goal) w e)
+
+        branch-on : (w : ℕ) → In w branch → fourOf (s .a) T X w ≡ true
+        branch-on w (inl e) = kept w (ap ends e ∙ on-ends .0)
+        branch-on w (inr (inl e)) = kept w (ap ends e ∙ on-ends .1)
+        branch-on w (inr (inr (inl e))) = inserted-keep (s .a) (inserted (s .a) ends (acrossSearch .goal)) seed w (ap (inserted (s .a) ends (acrossSearch .goal)) e ∙ on-inserted (s .a) ends (acrossSearch .goal) (ltb-true (acrossSearch .goal) (s .a .vertices) met))
+        branch-on w (inr (inr (inr (inl e)))) = ap (fourOf (s .a) T X) e ∙ on-inserted (s .a) (inserted (s .a) ends (acrossSearch .goal)) seed (omega (arith, minus-alike (set-alike ht) ends-alike .low seed seed-is))
+        branch-on w (inr (inr (inr (inr k)))) = absurd k
+
+      crossed-alike : 3 ≤ s .n → AlikeBegun s (crossed (s .a) C T (across (s .a) adj C T)) (crossed (s .b) D U (across (s .b) adj D U))
+      crossed-alike big = known-choice (AlikeBegun s) (cut-alike (across-alike .cutBy)) (λ e. broken-alike (across-alike .cutBy)) (λ e. started e)
         where
-          goal-not-seed : acrossSearch .goal ≡ seed → ⊥
-          goal-not-seed e = clash (ap (setOf (s .a) C) (sym e) ∙ goal-is .0) (a .inner-off seed seed-is)
-
-          not-end : (v : ℕ) → ends v ≡ true → In v (acrossSearch .goal ∷ (seed ∷ [])) → ⊥
-          not-end v on (inl e) = clash (ap ends (sym e) ∙ on) (goal-is .1)
-          not-end v on (inr k) = clash (ap ends (sym (in-single v seed k)) ∙ on) (minus-is (setOf (s .a) T) ends seed seed-is .1)
-
-          zero-not : In 0 (getD T 0 0 ∷ (acrossSearch .goal ∷ (seed ∷ []))) → ⊥
-          zero-not (inl e) = a .not-zero (sym e)
-          zero-not (inr k) = not-end 0 (on-ends .0) k
-
-          begin-not : In (getD T 0 0) (acrossSearch .goal ∷ (seed ∷ [])) → ⊥
-          begin-not = not-end (getD T 0 0) (on-ends .1)
-
-      kept : (w : ℕ) → ends w ≡ true → fourOf (s .a) T X w ≡ true
-      kept w e = inserted-keep (s .a) (inserted (s .a) ends (acrossSearch .goal)) seed w (inserted-keep (s .a) ends (acrossSearch .goal) w e)
-
-      branch-on : (w : ℕ) → In w branch → fourOf (s .a) T X w ≡ true
-      branch-on w (inl e) = kept w (ap ends e ∙ on-ends .0)
-      branch-on w (inr (inl e)) = kept w (ap ends e ∙ on-ends .1)
-      branch-on w (inr (inr (inl e))) = inserted-keep (s .a) (inserted (s .a) ends (acrossSearch .goal)) seed w (ap (inserted (s .a) ends (acrossSearch .goal)) e ∙ on-inserted (s .a) ends (acrossSearch .goal) (ltb-true (acrossSearch .goal) (s .a .vertices) met))
-      branch-on w (inr (inr (inr (inl e)))) = ap (fourOf (s .a) T X) e ∙ on-inserted (s .a) (inserted (s .a) ends (acrossSearch .goal)) seed (omega (arith, minus-alike (set-alike ht) ends-alike .low seed seed-is))
-      branch-on w (inr (inr (inr (inr k)))) = absurd k
-
-    crossed-alike : 3 ≤ s .n → AlikeBegun s (crossed (s .a) C T (across (s .a) adj C T)) (crossed (s .b) D U (across (s .b) adj D U))
-    crossed-alike big = known-choice (AlikeBegun s) (cut-alike (across-alike .cutBy)) (λ e. broken-alike (across-alike .cutBy)) (λ e. started e)
-      where
-        started : isCut (s .a) (across (s .a) adj C T .cutBy) ≡ false → AlikeBegun s (startOn (s .a) C T (across (s .a) adj C T .path)) (startOn (s .b) D U (across (s .b) adj D U .path))
-        started u =
-            let met = uncut across-search ends-alike [] (a .inner) (a .inner-in) (minus-is (setOf (s .a) T) ends (a .inner) (a .inner-in) .1) u in
-            let same = found-path across-search ends-alike [] met ∙ append-nil (X met) in
-            let hx = across-alike .path in
-            record {
-              four = four-alike hx;
-              flat = sorted-alike (marked-alike bare-alike (paths-alike hx)) (four-alike hx) (omega arith) (branch met) (branch-nodup met) (omega arith)
-                  (λ w k. ap (λ (l : List ℕ). fourOf (s .a) T l w) same ∙ branch-on met w k);
-              cutBy = no-cut;
-            }
+          started : isCut (s .a) (across (s .a) adj C T .cutBy) ≡ false → AlikeBegun s (startOn (s .a) C T (across (s .a) adj C T .path)) (startOn (s .b) D U (across (s .b) adj D U .path))
+          started u =
+              let met = uncut across-search ends-alike [] (a .inner) (a .inner-in) (minus-is (setOf (s .a) T) ends (a .inner) (a .inner-in) .1) u in
+              let same = found-path across-search ends-alike [] met ∙ append-nil (X met) in
+              let hx = across-alike .path in
+              record {
+                four = four-alike hx;
+                flat = sorted-alike (marked-alike bare-alike (paths-alike hx)) (four-alike hx) (omega arith) (branch met) (branch-nodup met) (omega arith)
+                    (λ w k. ap (λ (l : List ℕ). fourOf (s .a) T l w) same ∙ branch-on met w k);
+                cutBy = no-cut;
+              }
 
   begun-alike : 3 ≤ count (s .a) (adj 0) → AlikeBegun s (around (s .a) adj (cycle (s .a) adj)) (around (s .b) adj (cycle (s .b) adj))
   begun-alike three =
       let round = cycle-alike d in
       let big = at-most (s .n) (members (s .a) (adj 0)) (members-nodup (row-alike d 0)) (λ w k. row-alike d 0 .low w (members-in (row-alike d 0) w k)) in
       known-choice (AlikeBegun s) (cut-alike (round .cutBy)) (λ u. broken-alike (round .cutBy))
-      (λ u. let a = cycle-around three u in let t = third-alike (round .path) a in
+      (λ u. let a = cycle-around three u in let t = third-alike (round .path) in
       known-choice (AlikeBegun s) (cut-alike (t .cutBy)) (λ v. broken-alike (t .cutBy)) (λ v. crossed-alike (round .path) (t .path) (third-is (round .path) a v) (omega arith)))
 
   -- THE START

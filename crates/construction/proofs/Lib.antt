@@ -34,4 +34,5 @@ pub mod AlikeSearch
 pub mod AlikeEars
 pub mod AlikeStart
 pub mod AlikeBuild
+pub mod BuildEnds
 pub mod AnyWords
