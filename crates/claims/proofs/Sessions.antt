@@ -31,9 +31,6 @@ use Rattle.certificates.proofs.Paths.{further-path-law}
 use Rattle.certificates.proofs.Items.{decide-branch, start-law}
 use Rattle.graph.specs.Rows.{rowsGraph}
 use Rattle.paths.specs.Items.{limited}
-use Rattle.build.specs.declared.Session.{Session}
-use Rattle.build.specs.declared.Opened.{Opened}
-use Rattle.build.specs.declared.Stepped.{Stepped}
 use Rattle.sessions.specs.declared.Session.{Session}
 use Rattle.sessions.specs.declared.Opened.{Opened}
 use Rattle.sessions.specs.declared.Stepped.{Stepped}

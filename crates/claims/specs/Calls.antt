@@ -7,9 +7,6 @@ use Rattle.record.specs.Read.{Read.Got, Bytes}
 use Rattle.record.specs.Number.{number}
 use Rattle.record.specs.declared.Answer.the-variants.{Accepted, Grade}
 use Rattle.reading.specs.Plan.{Plan, planBytes}
-use Rattle.build.specs.declared.Session.{Session}
-use Rattle.build.specs.declared.Stepped.{Stepped}
-use Rattle.build.specs.Session.{opening, startStep, pathStep, closeStep, startRest, pathRest}
 use Rattle.sessions.specs.declared.Session.{Session}
 use Rattle.sessions.specs.declared.Stepped.{Stepped}
 use Rattle.sessions.specs.Session.{opening, startStep, pathStep, closeStep, startRest, pathRest}

@@ -10,7 +10,6 @@ use Rattle.record.specs.declared.Answer.the-variants.{Accepted, Grade, PlanFaul
 use Rattle.connectivity.specs.Connectivity.{connectivity}
 use Rattle.reading.specs.Plan.{Plan}
 use Rattle.reading.specs.Code.{wholePlan}
-use Rattle.build.specs.Session.{opening, closeStep}
 use Rattle.sessions.specs.Session.{opening, closeStep}
 use Rattle.checker.specs.Check.{planGraph, checkOf}
 use Rattle.certifier.specs.Made.{roomAsked, made, madeFrom, filledFrom}
