@@ -1,5 +1,5 @@
 -- THE DEMANDS, proved. Assumes nothing.
-use Prim.Native.Nat.{ℕ, _≤_, _<_, _+_}
+use Prim.Native.Nat.{ℕ, _≤_, _<_, _+_, _*_}
 use mathlib.Core.List.{List, [], _∷_, _++_}
 use mathlib.Core.Bool.{Bool, true, false, cond}
 use mathlib.Core.Path.{_≡_, refl, sym, ap, _∙_, subst}
@@ -8,6 +8,7 @@ use lib.Dec.{ltb}
 use lib.ListN.{length, drop}
 use borrow.Author.Tests.{lt-ltb, le-ltb}
 use Rattle.record.specs.Read.{Read, Read.Got, Read.Refused, Bytes, ended}
+use Rattle.record.specs.Number.{numberBytes, listBytes}
 use Rattle.record.specs.Write.{overwritten}
 use Rattle.record.specs.declared.Answer.the-variants.{Accepted, Grade, PlanFault}
 use Rattle.record.proofs.Laws.{ended-there}
@@ -22,11 +23,12 @@ use Rattle.reading.proofs.Adjacency.{graph-listed}
 use Rattle.construction.proofs.PlanLaws.{plan-drawn, plan-edges}
 use Rattle.construction.proofs.CertificateLaws as construction
 use Rattle.construction.proofs.CertificateLaws.{certified}
+use Rattle.construction.proofs.AnyWords.{plan-any-steps}
 use Rattle.checker.specs.Check.{planGraph, checkOf}
 use Rattle.certifier.specs.declared.Made.{Made}
 use Rattle.certifier.specs.Made.{roomAsked, made, madeBy, madeFrom, filledBy, filledFrom, certificateOf, gradeMade}
 use Rattle.claims.specs.Certified.{IsPlan, IsGrade}
-use Rattle.claims.specs.Demands.{Demand2, PlanAccepted, AcceptedGrade, AcceptedGrade.checked, AcceptedGrade.made-for, AcceptedGrade.closed-on, GradeIsFigure, SameGrades, Writes, MakerWrites, SameCertificate, RefusedKeeps}
+use Rattle.claims.specs.Demands.{Demand2, PlanAccepted, AcceptedGrade, AcceptedGrade.checked, AcceptedGrade.made-for, AcceptedGrade.closed-on, GradeIsFigure, SameGrades, Writes, MakerWrites, SameCertificate, CertificateOfPlan, RefusedKeeps}
 use Rattle.claims.proofs.Checking.{demand-2, certified-grade, certified-sound, grade-sound}
 use Rattle.claims.proofs.Sessions.{closing-sound}
 
@@ -146,6 +148,11 @@ written-is P buffer x = go (ended plan P 0) (ltb (length buffer) roomAsked) refl
 
 pub same-certificate : SameCertificate
 same-certificate P a b x y = written-is P a x ∙ sym (written-is P b y)
+
+pub certificate-of-plan : CertificateOfPlan
+certificate-of-plan P buffer p i x =
+    let g : wholePlan P .graph ≡ graphOf p = rw (i .bytes) (ap (λ (r : PlanRead). r .graph) (accepts p (i .allowed))) in
+    written-is P buffer x ∙ ap certificateOf g ∙ ap (λ (l : List ℕ). listBytes numberBytes l) (plan-any-steps p (i .allowed) (2 * p .n + 1) (omega arith))
 
 -- refusals
 pub refused-keeps : RefusedKeeps

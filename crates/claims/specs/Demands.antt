@@ -1,17 +1,21 @@
 -- THE DEMANDS of document 01, each as one statement; proofs/Demands.antt proves them. (Demand 1 is the promise of each public
 -- call: docs/PROOFS.md has the table.) P, Q are plan records, C is a certificate record, k a grade.
-use Prim.Native.Nat.{ℕ, _≤_, _<_}
+use Prim.Native.Nat.{ℕ, _+_, _*_, _≤_, _<_}
 use mathlib.Core.List.{List, _++_}
 use mathlib.Core.Path.{_≡_}
 use mathlib.Core.Logic.{_↔_}
 use lib.ListN.{length, drop}
 use Rattle.record.specs.Read.{Bytes}
+use Rattle.record.specs.Number.{numberBytes, listBytes}
 use Rattle.record.specs.declared.Answer.the-variants.{Accepted, Grade, PlanFault}
+use Rattle.connectivity.specs.Graph.{listed}
 use Rattle.connectivity.specs.Connectivity.{connectivity}
 use Rattle.reading.specs.Plan.{Plan}
 use Rattle.reading.specs.Code.{wholePlan}
 use Rattle.sessions.specs.Session.{opening, closeStep}
 use Rattle.checker.specs.Check.{planGraph, checkOf}
+use Rattle.construction.specs.Ears.{pathSpace}
+use Rattle.construction.specs.Construction.{certificate}
 use Rattle.certifier.specs.Made.{roomAsked, made, madeFrom, filledFrom}
 use Rattle.claims.specs.Certified.{IsPlan, Certified, IsGrade}
 use Rattle.claims.specs.Calls.{Call, CallBytes, after}
@@ -57,6 +61,12 @@ MakerWrites = (P : List ℕ) → Bytes P → wholePlan P .answer ≡ Accepted �
 -- and it is the same certificate, whatever buffer is lent
 abbrev pub SameCertificate : Type 0
 SameCertificate = (P a b : List ℕ) (x : Writes P a) (y : Writes P b) → x .certificate ≡ y .certificate
+
+-- and it is a function of the plan's boxes and cables: no row and no word is in it, and of the limits only the room for its paths
+abbrev pub CertificateOfPlan : Type 0
+CertificateOfPlan =
+    (P buffer : List ℕ) (p : Plan) → IsPlan P p → (x : Writes P buffer)
+    → x .certificate ≡ listBytes numberBytes (certificate pathSpace (2 * p .n + 1) (p .n) (listed (p .edges)))
 
 -- A refused maker writes no byte. A plan's fault comes first; below 1,536 bytes an accepted plan gets 30 at 0.
 pub record MakerRefuses (P buffer : List ℕ) : Type 0 where
