@@ -1,13 +1,13 @@
 -- One step of setting the pointers of a path's inner vertices. Assumes nothing.
 use Prim.Native.Nat.{ℕ, suc, _+_, _-_, _<_, _≤_}
 use mathlib.Core.List.{List, [], _∷_}
-use mathlib.Core.Path.{_≡_, refl, sym, ap, _∙_}
+use mathlib.Core.Path.{_≡_, refl}
 use native.Mathlib.Omega.{arith}
 use native.Mathlib.Numerals.{add-one}
 use lib.ListN.{length, getD, drop, length-drop}
 use lib.Seq.{drop-cons}
 use Rattle.vertexset.specs.Set.{capacity}
-use Rattle.links.specs.Tables.{pointed, pointedBoth, pointAlong}
+use Rattle.links.specs.Tables.{pointed, pointAlong}
 
 -- two vertices and what comes after them
 next-two : (list : List ℕ) (i : ℕ) → i + 1 < length list → drop i list ≡ getD list i 0 ∷ getD list (i + 1) 0 ∷ drop (suc (suc i)) list

@@ -1,8 +1,7 @@
 -- `links::point_along` meets its contract: the pointers that are still to be set give the same from here as from the start. Assumes nothing.
 use Prim.Native.Nat.{_-_, _≤_}
-use mathlib.Core.Path.{_≡_, refl, _∙_}
+use mathlib.Core.Path.{_≡_, _∙_}
 use borrow.Author.Needs.{needs}
-use native.Mathlib.Omega.{arith}
 use lib.ListN.{length, drop}
 use Rattle.links.specs.Tables.{pointAlong}
 use Rattle.links.proofs.Pointers.{along-first, along-on, along-done}
