@@ -9,7 +9,7 @@ use native.Mathlib.Decide.{ℕ-discrete}
 use lib.Dec.{eqb, leb, ltb}
 use borrow.Author.Tests.{eqb-true, eq-eqb, leb-true, le-leb, ltb-true, lt-ltb}
 use Rattle.connectivity.specs.Lists.{In, NoDup, member}
-use Rattle.connectivity.specs.Path.{Path, Along, vertices}
+use Rattle.connectivity.specs.Path.{Path, Along}
 use Rattle.connectivity.proofs.Lists.{clash, or-true, true-or, and-true, member-in, in-member}
 use Rattle.certificates.specs.Tests.{someBelow, allBelow, anyLink, each, along, distinct}
 use Rattle.record.specs.Read.{within}

@@ -13,7 +13,7 @@ use Rattle.record.specs.Number.{numberBytes, listBytes, numberLimit}
 use Rattle.record.proofs.Laws.{Reads, pair-law, many-law, same-law, bytes-law, check-law}
 use Rattle.connectivity.specs.Lists.{In}
 use Rattle.connectivity.specs.Graph.{Graph, Adj, Simple}
-use Rattle.connectivity.specs.Path.{Path, vertices}
+use Rattle.connectivity.specs.Path.{Path}
 use Rattle.connectivity.specs.Build.{IsBranch, four, endPairs, Starts, StartRules, BGPath, taken, Steps}
 use Rattle.connectivity.specs.Certificate.{Tree, Ears, inside}
 use Rattle.connectivity.proofs.Lists.{clash, in-single}

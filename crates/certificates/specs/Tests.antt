@@ -2,7 +2,7 @@
 use Prim.Native.Nat.{ℕ, zero, suc}
 use mathlib.Core.List.{List, [], _∷_, _++_}
 use mathlib.Core.Bool.{Bool, true, false, cond, _&&_, _||_, not}
-use lib.Dec.{leb, eqb}
+use lib.Dec.{eqb}
 use Rattle.connectivity.specs.Lists.{member}
 use Rattle.connectivity.specs.Graph.{Graph}
 use Rattle.connectivity.specs.Path.{Path, vertices}

@@ -15,7 +15,7 @@ use Rattle.construction.specs.Sets.{minus, withAll, members, empty}
 use Rattle.construction.specs.Ears as construction
 use Rattle.construction.specs.Ears.{noCut, cut, isCut, eared, ears, pathSpace}
 use Rattle.construction.specs.Start.{Begun, begin}
-use Rattle.construction.specs.Steps as stepping
+use Rattle.construction.specs.Steps.{State, build, finish}
 use Rattle.construction.specs.Certificate.{treeNumbers, evidence, lengthened, cutNumbers, cutCertificate, buildCertificate, begunCertificate, chosen, sideNumbers, buildNumbers, certificateNumbers, fullSet}
 use Rattle.search.specs.Code.{reachOf}
 use Rattle.search.specs.declared.Reach.{Reach}
@@ -42,13 +42,13 @@ cut-same rows full c =
     ∙ ap (λ (l : List ℕ). cond (ltb (count (c .removed .words)) 2) (cutNumbers (firstSearch rows) (eared [] 0 noCut) c) l) (numbers-same rows (ears rows full) (chosen (ears rows full) c))
 
 module _ (rows : List ℕ) (n : ℕ) (full : VertexSet) where
-  built-same : (four : VertexSet) (st : stepping.State) → builtCertificateIn rows n full four st ≡ buildCertificate (firstSearch rows) rows n full four st
-  built-same four st = ap (λ (l : List ℕ). cond (isCut (st .cutBy)) l (buildNumbers four (stepping.finish rows n (st .flat)))) (cut-same rows full (st .cutBy))
+  built-same : (four : VertexSet) (st : State) → builtCertificateIn rows n full four st ≡ buildCertificate (firstSearch rows) rows n full four st
+  built-same four st = ap (λ (l : List ℕ). cond (isCut (st .cutBy)) l (buildNumbers four (finish rows n (st .flat)))) (cut-same rows full (st .cutBy))
 
-  pub start-same : (b : Begun) → startCertificateIn rows n full (startOf b) ≡ buildCertificate (firstSearch rows) rows n full (b .four) (stepping.build rows full b)
+  pub start-same : (b : Begun) → startCertificateIn rows n full (startOf b) ≡ buildCertificate (firstSearch rows) rows n full (b .four) (build rows full b)
   start-same b =
-      ap (λ (l : List ℕ). builtCertificateIn rows n full (b .four) (stepping.build rows full (record { four = b .four; flat = l; cutBy = b .cutBy }))) (flat-same (b .flat))
-      ∙ built-same (b .four) (stepping.build rows full b)
+      ap (λ (l : List ℕ). builtCertificateIn rows n full (b .four) (build rows full (record { four = b .four; flat = l; cutBy = b .cutBy }))) (flat-same (b .flat))
+      ∙ built-same (b .four) (build rows full b)
 
 -- ---- the vertices below n, taken in one by one
 
@@ -109,12 +109,12 @@ module _ (rows : List ℕ) (n : ℕ) {full rest : VertexSet} {tree : Reach} (f�
     begun-test = ap (λ (x : Start). isCut (cutIn (x .cut))) (sym e) ∙ sym u
 
     begun-is : {b : Bool} → z ≡ b
-        → cond b (cutCertificate (firstSearch rows) rows (fullSet n) (begin rows .cutBy)) (buildCertificate (firstSearch rows) rows n (fullSet n) (begin rows .four) (stepping.build rows (fullSet n) (begin rows)))
+        → cond b (cutCertificate (firstSearch rows) rows (fullSet n) (begin rows .cutBy)) (buildCertificate (firstSearch rows) rows n (fullSet n) (begin rows .four) (build rows (fullSet n) (begin rows)))
         ≡ certificateNumbers rows n
     begun-is q =
         ap
         (λ (b : Bool).
-        cond b (cutCertificate (firstSearch rows) rows (fullSet n) (begin rows .cutBy)) (buildCertificate (firstSearch rows) rows n (fullSet n) (begin rows .four) (stepping.build rows (fullSet n) (begin rows))))
+        cond b (cutCertificate (firstSearch rows) rows (fullSet n) (begin rows .cutBy)) (buildCertificate (firstSearch rows) rows n (fullSet n) (begin rows .four) (build rows (fullSet n) (begin rows))))
         (sym (begun-test ∙ q))
         ∙ whole rows n (test ∙ on all h)
 

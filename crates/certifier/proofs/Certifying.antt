@@ -13,8 +13,8 @@ use Rattle.vertexset.specs.declared.VertexSet.{VertexSet}
 use Rattle.construction.specs.Sets.{members, added}
 use Rattle.construction.specs.Ears as construction
 use Rattle.construction.specs.Ears.{noCut, isCut, pathSpace, eared, ears}
-use Rattle.construction.specs.Start as starting
-use Rattle.construction.specs.Steps as stepping
+use Rattle.construction.specs.Start.{Begun, begun}
+use Rattle.construction.specs.Steps.{State, build, finish}
 use Rattle.construction.specs.Certificate.{lengthened, chosen, buildNumbers}
 use Rattle.construction.proofs.SetLaws.{added-room}
 use Rattle.detours.specs.Code.{cutOf, cutIn, flatOf, earsOf}
@@ -38,7 +38,7 @@ ears-low x e q h =
     let z : length (flatOf (x .flat)) ≡ pathSpace = sym (ap (λ (y : Ears). length (y .flat)) q) ∙ h in
     subst (λ (n : ℕ). n ≤ pathSpace) (sym (ap (λ (y : Ears). y .len) q)) (flat-short (x .flat) z)
 
-pub start-low : (x : starting.Begun) (s : Start) → s ≡ startOf x → length (s .flat) ≡ pathSpace → s .len ≤ pathSpace
+pub start-low : (x : Begun) (s : Start) → s ≡ startOf x → length (s .flat) ≡ pathSpace → s .len ≤ pathSpace
 start-low x s q h =
     let z : length (flatOf (x .flat)) ≡ pathSpace = sym (ap (λ (y : Start). length (y .flat)) q) ∙ h in
     subst (λ (n : ℕ). n ≤ pathSpace) (sym (ap (λ (y : Start). y .len) q)) (flat-short (x .flat) z)
@@ -72,13 +72,13 @@ module _ (rows : List ℕ) (full : VertexSet) (c : Cut) {k : ℕ} (n : k ≡ cou
 -- ---- the certificate of a build
 
 -- the build takes the start's vertices and paths only
-build-same : (rows : List ℕ) (full : VertexSet) (b : starting.Begun) → stepping.build rows full (starting.begun (b .four) (b .flat)) ≡ stepping.build rows full b
-unfolding stepping.build
+build-same : (rows : List ℕ) (full : VertexSet) (b : Begun) → build rows full (begun (b .four) (b .flat)) ≡ build rows full b
+unfolding build
 build-same rows full b = refl
 
 module _ (rows : List ℕ) (n : ℕ) (full : VertexSet) (s : Start) (low : s .len ≤ pathSpace) {b : Built} (e : b ≡ builtIn rows n full (s .four) (front (s .flat) (s .len))) where
-  abbrev st : stepping.State
-  st = stepping.build rows full (startIn s)
+  abbrev st : State
+  st = build rows full (startIn s)
 
   paths-are : added pathSpace [] (front (s .flat) (s .len)) ≡ take (s .len) (s .flat)
   paths-are =
@@ -87,22 +87,22 @@ module _ (rows : List ℕ) (n : ℕ) (full : VertexSet) (s : Start) (low : s .le
 
   built-is : b ≡ finishedOf rows n st
   built-is =
-      e ∙ ap (λ (l : List ℕ). finishedOf rows n (stepping.build rows full (starting.begun (s .four) l))) paths-are
+      e ∙ ap (λ (l : List ℕ). finishedOf rows n (build rows full (begun (s .four) l))) paths-are
       ∙ ap (finishedOf rows n) (build-same rows full (startIn s))
 
   module _ {y : Bool} (t : y ≡ isCut (cutIn (b .cut))) where
     build-test : isCut (st .cutBy) ≡ y
     build-test = ap (λ (x : Built). isCut (cutIn (x .cut))) (sym built-is) ∙ sym t
 
-    by-cut : {x : Bool} → y ≡ x → cond x (cutCertificateIn rows full (cutOf (st .cutBy))) (buildNumbers (s .four) (stepping.finish rows n (st .flat))) ≡ startCertificateIn rows n full s
-    by-cut u = ap (λ (x : Bool). cond x (cutCertificateIn rows full (cutOf (st .cutBy))) (buildNumbers (s .four) (stepping.finish rows n (st .flat)))) (sym (build-test ∙ u))
+    by-cut : {x : Bool} → y ≡ x → cond x (cutCertificateIn rows full (cutOf (st .cutBy))) (buildNumbers (s .four) (finish rows n (st .flat))) ≡ startCertificateIn rows n full s
+    by-cut u = ap (λ (x : Bool). cond x (cutCertificateIn rows full (cutOf (st .cutBy))) (buildNumbers (s .four) (finish rows n (st .flat)))) (sym (build-test ∙ u))
 
     pub build-cut : y ≡ true → cutCertificateIn rows full (b .cut) ≡ startCertificateIn rows n full s
     build-cut u = ap (λ (x : Built). cutCertificateIn rows full (x .cut)) built-is ∙ by-cut u
 
     module _ (u : y ≡ false) where
       abbrev paths : List ℕ
-      paths = stepping.finish rows n (st .flat)
+      paths = finish rows n (st .flat)
 
       all-built : b ≡ builtOf paths (st .cutBy)
       all-built = built-is ∙ ap (λ (x : Bool). builtOf (cond x (st .flat) paths) (st .cutBy)) (build-test ∙ u)

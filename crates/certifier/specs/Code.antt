@@ -12,8 +12,8 @@ use Rattle.construction.specs.Sets.{single, members}
 use Rattle.construction.specs.Search as searching
 use Rattle.construction.specs.Ears as construction
 use Rattle.construction.specs.Ears.{pathSpace}
-use Rattle.construction.specs.Start as starting
-use Rattle.construction.specs.Steps as stepping
+use Rattle.construction.specs.Start.{Begun}
+use Rattle.construction.specs.Steps.{State, build, finish}
 use Rattle.construction.specs.Certificate.{pairsFrom, treeNumbers, lengthened, sideNumbers, chosen, buildNumbers}
 use Rattle.detours.specs.Code.{cutOf, cutIn, earsOf}
 use Rattle.detours.specs.declared.Cut.{Cut}
@@ -47,15 +47,15 @@ abbrev pub cutCertificateIn : List ℕ → VertexSet → Cut → List ℕ
 cutCertificateIn rows full c =
     cond (ltb (count (c .removed .words)) 2) (cutNumbersIn rows (earsOf (construction.eared [] 0 construction.noCut)) c) (cutNumbersIn rows (earsOf (construction.ears rows full)) (cutOf (chosen (construction.ears rows full) (cutIn c))))
 
-abbrev pub startIn : Start → starting.Begun
+abbrev pub startIn : Start → Begun
 startIn s = record { four = s .four; flat = take (s .len) (s .flat); cutBy = cutIn (s .cut) }
 
-abbrev pub builtCertificateIn : List ℕ → ℕ → VertexSet → VertexSet → stepping.State → List ℕ
+abbrev pub builtCertificateIn : List ℕ → ℕ → VertexSet → VertexSet → State → List ℕ
 builtCertificateIn rows n full four st =
-    cond (construction.isCut (st .cutBy)) (cutCertificateIn rows full (cutOf (st .cutBy))) (buildNumbers four (stepping.finish rows n (st .flat)))
+    cond (construction.isCut (st .cutBy)) (cutCertificateIn rows full (cutOf (st .cutBy))) (buildNumbers four (finish rows n (st .flat)))
 
 abbrev pub startCertificateIn : List ℕ → ℕ → VertexSet → Start → List ℕ
-startCertificateIn rows n full s = builtCertificateIn rows n full (s .four) (stepping.build rows full (startIn s))
+startCertificateIn rows n full s = builtCertificateIn rows n full (s .four) (build rows full (startIn s))
 
 -- numbers that have a form of one or two bytes
 abbrev pub Small : List ℕ → Type 0

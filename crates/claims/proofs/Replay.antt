@@ -15,7 +15,7 @@ use Rattle.record.proofs.Laws.{ended-back, carry}
 use Rattle.record.proofs.Parts.{Calls, Calls.no-call, Calls.call}
 use Rattle.connectivity.specs.Path.{Path}
 use Rattle.connectivity.specs.Build.{taken, final}
-use Rattle.connectivity.specs.Certificate.{Certificate, Certificate.separation, Certificate.tree, Certificate.ears, Certificate.build, grade, kind}
+use Rattle.connectivity.specs.Certificate.{Certificate, Certificate.separation, Certificate.tree, Certificate.ears, Certificate.build, grade}
 use Rattle.reading.specs.Plan.{Plan, Allowed, planBytes}
 use Rattle.reading.specs.Code.{graphOf}
 use Rattle.reading.proofs.Plans.{plan-law}

@@ -6,10 +6,10 @@ use mathlib.Core.Bool.{Bool, true, false, cond}
 use Prim.Native.Nat.{ℕ, suc, _<_}
 use native.Mathlib.Omega.{arith}
 use lib.ListN.{length}
-use Rattle.connectivity.specs.Lists.{In, member, below}
+use Rattle.connectivity.specs.Lists.{In, member}
 use Rattle.connectivity.specs.Graph.{Graph, Adj, Simple, edges}
-use Rattle.connectivity.specs.Path.{Path, link, vertices, End, IsPath, edge, edgesAlong, pathEdges}
-use Rattle.connectivity.specs.Build.{InBuild, IsBranch, four, endPairs, linkEnds, BGPath, frontPart, backPart, splitAt, taken, Steps, final}
+use Rattle.connectivity.specs.Path.{Path, vertices, End, IsPath, edge, edgesAlong, pathEdges}
+use Rattle.connectivity.specs.Build.{InBuild, IsBranch, endPairs, linkEnds, BGPath, frontPart, backPart, splitAt, taken, Steps, final}
 use Rattle.connectivity.specs.Certificate.{BuildRules}
 use Rattle.connectivity.specs.TopologicalGraph.{TGraph, Adjacent, IsSimple, SameGraph, subdivide, VertexVertex, EdgeVertex, EdgeEdge, Addition, vertex-vertex, edge-vertex, edge-edge, BGSequence, none, then, complete, listedGraph, endsOf, topological, Place, branch, inner, Added}
 use Rattle.connectivity.proofs.Lists.{member-in, member-out, in-single, in-below, below-in}

@@ -10,7 +10,7 @@ use Rattle.connectivity.specs.Graph.{Graph, HasConnectivity, Simple, Sep
 use Rattle.connectivity.specs.Connectivity.{connectivity}
 use Rattle.connectivity.specs.Path.{Path, vertices, usedEdges}
 use Rattle.connectivity.specs.Build.{StartRules, Steps, IsBranch, final, SimpleBuild, EachEdgeOnce, furtherCount}
-use Rattle.connectivity.specs.Certificate.{Separation, Tree, Cycle, Ears, inside, BuildRules, Certificate, Rules, grade, kind}
+use Rattle.connectivity.specs.Certificate.{Separation, Tree, Cycle, Ears, inside, BuildRules, Certificate, Rules, grade}
 use Rattle.connectivity.proofs.Lists.{either, below?}
 use Rattle.connectivity.proofs.Separators.{connectivity-unique}
 use Rattle.connectivity.proofs.Closure.{has-connectivity, connectivity-is, connectivity-has}

@@ -10,7 +10,7 @@ use lib.Dec.{eqb}
 use borrow.Author.Tests.{eqb-true, eq-eqb}
 use Rattle.connectivity.specs.Lists.{In}
 use Rattle.connectivity.specs.Graph.{edges, isPair}
-use Rattle.connectivity.specs.Path.{Path, link, vertices, edge}
+use Rattle.connectivity.specs.Path.{Path, vertices, edge}
 use Rattle.connectivity.specs.Build.{IsBranch, four, sixPairs, endPairs, linkEnds}
 use Rattle.connectivity.specs.TopologicalGraph.{TGraph, IsSimple, SameMembers, SameGraph, addEdge, without, subdivide, VertexVertex, EdgeVertex, EdgeEdge, Addition, vertex-vertex, edge-vertex, edge-edge, BGSequence, none, then, complete, endsOf, topological}
 use Rattle.connectivity.proofs.Lists.{clash, and-true}

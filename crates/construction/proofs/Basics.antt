@@ -8,8 +8,8 @@ use lib.ListN.{length}
 use Rattle.vertexset.specs.Set.{has, wordCount, capacity}
 use Rattle.vertexset.specs.declared.VertexSet.{VertexSet}
 use Rattle.vertexset.proofs.Laws.{Words}
-use Rattle.graph.specs.Rows.{adjacentIn, rowWords, rowsGraph}
-use Rattle.connectivity.specs.Graph.{Graph, Simple}
+use Rattle.graph.specs.Rows.{rowWords, rowsGraph}
+use Rattle.connectivity.specs.Graph.{Simple}
 use Rattle.connectivity.specs.Path.{Path, vertices}
 use Rattle.connectivity.proofs.Lists.{rev}
 use Rattle.connectivity.proofs.Search as searching

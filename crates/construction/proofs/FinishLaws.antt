@@ -14,7 +14,7 @@ use Rattle.graph.specs.Limits.{maxEdges}
 use Rattle.graph.specs.Rows.{adjacentIn, rowOf, rowWords, bareRows, rowsGraph}
 use Rattle.connectivity.specs.Lists.{In, NoDup, below, upFrom}
 use Rattle.connectivity.specs.Graph.{Graph, Adj, edgeCount}
-use Rattle.connectivity.specs.Path.{Path, link, vertices, usedEdges, edge}
+use Rattle.connectivity.specs.Path.{Path, link, usedEdges, edge}
 use Rattle.connectivity.proofs.Lists.{in-append, in-left, in-right, in-single, true?, select-nodup, below?, nodup-below, below-in}
 use Rattle.connectivity.proofs.Paths.{branchVertices, branch-built, Consecutive, Neighbours, used-in, in-used, path-consecutive, consecutive-path, edge-same, edge-comm}
 use Rattle.connectivity.proofs.Edges.{edge-high, edge-differ}

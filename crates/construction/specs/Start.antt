@@ -7,7 +7,7 @@ use lib.ListN.{getD}
 use Rattle.vertexset.specs.Set.{emptySet, inserted, count, next}
 use Rattle.vertexset.specs.declared.VertexSet.{VertexSet}
 use Rattle.graph.specs.Rows.{rowOf, bareRows, joinedRows}
-use Rattle.construction.specs.Sets.{stop, minus, single, pair, setOf, least, lastOf}
+use Rattle.construction.specs.Sets.{minus, single, pair, setOf, least, lastOf}
 use Rattle.construction.specs.Search.{explore, route}
 use Rattle.construction.specs.Ears.{Cut, cut, noCut, isCut, Found, answered, cycle, addPath}
 

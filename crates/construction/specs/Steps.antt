@@ -9,7 +9,7 @@ use Rattle.vertexset.specs.declared.VertexSet.{VertexSet}
 use Rattle.graph.specs.Limits.{maxEdges}
 use Rattle.graph.specs.Rows.{adjacentIn, rowOf, bareRows}
 use Rattle.connectivity.specs.Lists.{below}
-use Rattle.construction.specs.Sets.{stop, minus, pair, withAll, setOf, membersFrom, empty, reversed, lastOf, placeOf}
+use Rattle.construction.specs.Sets.{minus, pair, withAll, setOf, membersFrom, empty, reversed, lastOf, placeOf}
 use Rattle.construction.specs.Search.{explore}
 use Rattle.construction.specs.Ears.{Cut, noCut, isCut, Found, answered, detour, pathSpace, addPath}
 use Rattle.construction.specs.Start.{Begun, marked}

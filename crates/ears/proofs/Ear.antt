@@ -9,7 +9,7 @@ use Rattle.record.proofs.Loops.{three-tests}
 use Rattle.vertexset.specs.Set.{has}
 use Rattle.connectivity.specs.Graph.{Graph}
 use Rattle.connectivity.specs.Path.{Path}
-use Rattle.certificates.specs.Tests.{pathAlong, pathNew, allBelow}
+use Rattle.certificates.specs.Tests.{pathAlong, pathNew}
 use Rattle.certificates.specs.Records.{path}
 use Rattle.paths.specs.Paths.{pathTold}
 use Rattle.paths.specs.declared.PathRead.{PathRead}

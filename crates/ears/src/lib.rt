@@ -3,7 +3,6 @@ ghost use mathlib.Core.Path.{_≡_};
 ghost use Prim.Native.Nat.{_≤_};
 ghost use Rattle.vertexset.specs.Set.{has, capacity};
 ghost use Rattle.graph.specs.Rows.{adjacentIn, rowsGraph};
-ghost use Rattle.certificates.specs.Tests.{allBelow};
 ghost use Rattle.certificates.specs.Records.{body};
 ghost use Rattle.paths.specs.Items.{endRead, limited};
 ghost use Rattle.ears.specs.Code.{noEars, earRead, earTested, earBeside, allEars};

@@ -3,7 +3,7 @@ use Prim.Native.Nat.{ℕ, zero, suc, _+_, _*_, _/_, _%_, _^_}
 use mathlib.Core.List.{List, [], _∷_}
 use mathlib.Core.Bool.{Bool, cond, _&&_}
 use lib.Dec.{ltb}
-use lib.ListN.{length, getD, replicate, set}
+use lib.ListN.{getD, replicate, set}
 use Rattle.connectivity.specs.Graph as connectivity
 use Rattle.vertexset.specs.Set.{has, withBit, less, wordCount, emptySet, capacity}
 use Rattle.vertexset.specs.declared.VertexSet.{VertexSet}

@@ -1,6 +1,5 @@
 -- A number of a certificate that was read and tested, as the code hands it on.
 use Prim.Native.Nat.{ℕ}
-use mathlib.Core.List.{List}
 use mathlib.Core.Bool.{cond}
 use lib.Dec.{leb}
 use Rattle.record.specs.Read.{Read, Read.Got, Read.Refused, Reader}

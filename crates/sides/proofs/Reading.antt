@@ -15,7 +15,7 @@ use Rattle.vertexset.specs.Set.{has, emptySet, inserted, wordCount, capacity}
 use Rattle.connectivity.specs.Lists.{member}
 use Rattle.connectivity.specs.Graph.{Graph}
 use Rattle.connectivity.specs.Certificate.{Certificate.tree}
-use Rattle.certificates.specs.Tests.{nobody, with, someBelow, rest, bothHold, noEdgeBetween}
+use Rattle.certificates.specs.Tests.{nobody, with, someBelow, bothHold, noEdgeBetween}
 use Rattle.certificates.specs.Records.{vertex, sideVertex, side, pair, body}
 use Rattle.paths.specs.Items.{endRead, limited}
 use Rattle.graph.specs.Rows.{rowsGraph}

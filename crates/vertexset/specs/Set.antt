@@ -1,5 +1,5 @@
 -- Vertex sets (sets of boxes) as lists of words, 64 vertices to a word, at any number of words.
-use mathlib.Core.Bool.{Bool, true, cond, _&&_, _||_}
+use mathlib.Core.Bool.{Bool, true, cond, _&&_}
 use mathlib.Core.List.{List, [], _∷_}
 use Prim.Native.Nat.{ℕ, zero, suc, _+_, _*_, _-_, _/_, _%_, _^_}
 use lib.ListN.{length, getD, set, replicate}
