@@ -41,7 +41,7 @@ use Rattle.refinement.proofs.Start.{start-same, shows-start}
 use Rattle.refinement.proofs.Reading.{shows-path, shows-read}
 use Rattle.checker.specs.Check.{planGraph}
 use Rattle.claims.specs.Certified.{IsPlan, IsGrade}
-use Rattle.claims.specs.Calls.{Call, Call.start, Call.path, Call.close, called, after, CallBytes}
+use Rattle.claims.specs.Calls.{Call, Call.start, Call.path, Call.close, called, sessionAfter, CallBytes}
 use Rattle.claims.proofs.Checking.{plan-simple, plan-few, is-grade}
 use Rattle.vertexset.specs.Set.{capacity}
 
@@ -74,7 +74,7 @@ never-accepts (start part) = refl
 never-accepts (path part) = refl
 never-accepts close = refl
 
-pub never-opened : (calls : List Call) → after noSession calls ≡ noSession
+pub never-opened : (calls : List Call) → sessionAfter noSession calls ≡ noSession
 never-opened [] = refl
 never-opened (c ∷ cs) = rw (never-accepts c) (never-opened cs)
 
@@ -232,7 +232,7 @@ module _ (p : Plan) (al : Allowed p) where
             building = rw z (path-building (b .building) part P next g);
           })
 
-  pub given : (calls : List Call) → CallBytes calls → (s : Session) → Given p s → Given p (after s calls)
+  pub given : (calls : List Call) → CallBytes calls → (s : Session) → Given p s → Given p (sessionAfter s calls)
   given [] bytes s g = g
   given (start part ∷ cs) bytes s g = given cs (bytes .1) (startStep s part .session) (given-start s part (bytes .0) g)
   given (path part ∷ cs) bytes s g = given cs (bytes .1) (pathStep s part .session) (given-path s part (bytes .0) g)
@@ -256,17 +256,17 @@ module _ (p : Plan) (al : Allowed p) where
 
 -- CLOSING: take any opening and, from the session it gives, any list of calls; a closing that is accepted then answers the connectivity
 -- of the plan that the session was opened on.
-pub closing-sound : (P : List ℕ) → Bytes P → (calls : List Call) → CallBytes calls → (k : ℕ) → closeStep (after (opening P .session) calls) .answer ≡ Grade k
+pub closing-sound : (P : List ℕ) → Bytes P → (calls : List Call) → CallBytes calls → (k : ℕ) → closeStep (sessionAfter (opening P .session) calls) .answer ≡ Grade k
     → (p : Plan) × IsPlan P p × IsGrade p k
 unfolding opening
 closing-sound P bp calls bytes k e = on (opens (ended plan P 0))
   where
-    never : closeStep (after noSession calls) .answer ≡ CertificateFault 31 0
+    never : closeStep (sessionAfter noSession calls) .answer ≡ CertificateFault 31 0
     never = rw (never-opened calls, never-accepts close)
 
     on : Opens (ended plan P 0) → (p : Plan) × IsPlan P p × IsGrade p k
     on (refused r q f) =
-        let z : _≡_ {A = ℕ} 0 1 = cc (ap (λ (x : Opened). closeStep (after (x .session) calls) .answer) f, never) in
+        let z : _≡_ {A = ℕ} 0 1 = cc (ap (λ (x : Opened). closeStep (sessionAfter (x .session) calls) .answer) f, never) in
         absurd (omega arith)
     on (accepted p next g enough f) =
         let r = ended-there plan-law bp g in

@@ -22,9 +22,9 @@ called s (path part) = pathStep s part
 called s close = closeStep s
 
 -- the session after a list of calls, refused ones among them: each gets the session that the last one returned
-abbrev pub after : Session → List Call → Session
-after s [] = s
-after s (c ∷ cs) = after (called s c .session) cs
+abbrev pub sessionAfter : Session → List Call → Session
+sessionAfter s [] = s
+sessionAfter s (c ∷ cs) = sessionAfter (called s c .session) cs
 
 -- what is handed in are bytes
 abbrev pub CallBytes : List Call → Type 0

@@ -18,7 +18,7 @@ use Rattle.construction.specs.Ears.{pathSpace}
 use Rattle.construction.specs.Construction.{certificate}
 use Rattle.certifier.specs.Made.{roomAsked, made, madeFrom, filledFrom}
 use Rattle.claims.specs.Certified.{IsPlan, Certified, IsGrade}
-use Rattle.claims.specs.Calls.{Call, CallBytes, after}
+use Rattle.claims.specs.Calls.{Call, CallBytes, sessionAfter}
 
 -- DEMAND 2. "A certificate is accepted, with its kind as the grade, exactly when every rule for its kind holds."
 abbrev pub Demand2 : Type 0
@@ -33,7 +33,7 @@ PlanAccepted = (P : List ℕ) → Bytes P → (wholePlan P .answer ≡ Accepted)
 pub data AcceptedGrade (P : List ℕ) (k : ℕ) : Type 0 where
   checked : (C : List ℕ) → Bytes C → checkOf P C ≡ Grade k → AcceptedGrade P k
   made-for : (buffer : List ℕ) → madeFrom P buffer .answer ≡ Grade k → AcceptedGrade P k
-  closed-on : (calls : List Call) → CallBytes calls → closeStep (after (opening P .session) calls) .answer ≡ Grade k → AcceptedGrade P k
+  closed-on : (calls : List Call) → CallBytes calls → closeStep (sessionAfter (opening P .session) calls) .answer ≡ Grade k → AcceptedGrade P k
 
 -- DEMAND 3. "Every accepted grade, from the checker, the maker or closing a session after any list of calls, is the plan's loss figure."
 abbrev pub GradeIsFigure : Type 0
