@@ -10,7 +10,7 @@ ghost use Rattle.connectivity.specs.Build.{furtherCount};
 ghost use Rattle.certificates.specs.Records.{vertex, branchFour};
 ghost use Rattle.paths.specs.Items.{itemRead, endRead, rowsGraph, limited};
 ghost use Rattle.build.specs.State.{entered, pathTaken, buildPath, bareBuild, fourSet, startOn, startOf, buildStart, buildBody};
-ghost use Rattle.build.specs.Code.{pathFault, buildIn, enteredFrom, Leaves, towards, noFour, fourRead, fourOf, firsts, lasts, pairAt, noStart, startRead, startLoop, furtherLoop};
+ghost use Rattle.build.specs.Code.{pathFault, buildIn, enteredFrom, Leaves, towards, noFour, fourRead, fourOf, firsts, lasts, pathEnds, noStart, startRead, startLoop, furtherLoop};
 use graph::Graph;
 use links::Ends;
 use links::Link;
@@ -198,7 +198,7 @@ impl Four {
     // The ends of the path at a place, in the order pq, pr, ps, qr, qs, rs.
     fn pair(self, i: usize) -> Link
         requires { ⌜ i < 6 ⌝ }
-        ensures { λ r. ⌜ r ≡ pairAt (firsts self) (lasts self) i ⌝ }
+        ensures { λ r. ⌜ r ≡ pathEnds (firsts self) (lasts self) i ⌝ }
     {
         let first = [self.p, self.p, self.p, self.q, self.q, self.r];
         let last = [self.q, self.r, self.s, self.r, self.s, self.s];
