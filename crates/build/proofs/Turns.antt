@@ -25,7 +25,7 @@ use Rattle.build.specs.declared.Build.{Build}
 use Rattle.build.specs.declared.Four.{Four}
 use Rattle.build.specs.declared.Taken.{Taken}
 use Rattle.build.specs.State.{entered, pathTaken, buildPath, BuildStart, bareBuild, fourSet, startOf, startOn}
-use Rattle.build.specs.Code.{buildIn, onPathRead, Leaves, towards, fourOf, firsts, lasts, pairAt, noStart, startLoop, furtherLoop}
+use Rattle.build.specs.Code.{buildIn, onPathRead, Leaves, towards, fourOf, firsts, lasts, pathEnds, noStart, startLoop, furtherLoop}
 use Rattle.build.proofs.Taking.{limit-kept}
 
 -- a vertex above the one before it
@@ -124,12 +124,12 @@ same-start e f = rw (e, f)
 
 -- a turn over the paths of the start
 module _ (n : ℕ) (rows s first last : List ℕ) (b : Build) (at k : ℕ) {r : Taken} {pointers linked : List ℕ}
-    (low : n ≤ capacity) (some : 0 < k) (six : k ≤ 6) {l : Link} (ends : l ≡ pairAt first last (6 - k))
+    (low : n ≤ capacity) (some : 0 < k) (six : k ≤ 6) {l : Link} (ends : l ≡ pathEnds first last (6 - k))
     (h : Leaves n (λ b. startOn (rowsGraph n rows) (towards l b)) entered b s at r pointers linked) where
   tested-next : startOn (rowsGraph n rows) (startWith first last k b) s at ≡ startOn (rowsGraph n rows) (towards l b) s at
   tested-next =
       ap (λ (es : List (ℕ × ℕ)). startOn (rowsGraph n rows) (record { ends = es; build = b }) s at) (first-pair first last k some six)
-      ∙ next-pair (rowsGraph n rows) (pairAt first last (6 - k)) (pairsFrom first last (k - 1) (6 - (k - 1))) b s at
+      ∙ next-pair (rowsGraph n rows) (pathEnds first last (6 - k)) (pairsFrom first last (k - 1) (6 - (k - 1))) b s at
       ∙ ap (λ (l : Link). startOn (rowsGraph n rows) (towards l b) s at) (sym ends)
 
   pub start-stop : {q p : ℕ} → r .end ≡ Fault q p → noStart (r .end) ≡ runs (startLoop n rows) k (startWith first last k b) (startWith first last k b) s at

@@ -73,8 +73,8 @@ firsts f = f .p ∷ f .p ∷ f .p ∷ f .q ∷ f .q ∷ f .r ∷ []
 abbrev pub lasts : Four → List ℕ
 lasts f = f .q ∷ f .r ∷ f .s ∷ f .r ∷ f .s ∷ f .s ∷ []
 
-abbrev pub pairAt : List ℕ → List ℕ → ℕ → Link
-pairAt first last i = record { a = getD first i 0; b = getD last i 0 }
+abbrev pub pathEnds : List ℕ → List ℕ → ℕ → Link
+pathEnds first last i = record { a = getD first i 0; b = getD last i 0 }
 
 -- the build after its start, and where reading goes on or the fault
 abbrev pub noStart : Item → Started

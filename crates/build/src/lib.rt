@@ -11,8 +11,12 @@ ghost use Rattle.certificates.specs.Records.{vertex, branchFour};
 ghost use Rattle.paths.specs.Items.{itemRead, endRead, limited};
 ghost use Rattle.graph.specs.Rows.{rowsGraph};
 ghost use Rattle.build.specs.State.{entered, pathTaken, buildPath, bareBuild, fourSet, startOn, startOf, buildStart, buildBody};
-ghost use Rattle.build.specs.Code.{pathFault, buildIn, enteredFrom, Leaves, towards, noFour, fourRead, fourOf, firsts, lasts, pairAt, noStart, startRead, startLoop, furtherLoop};
+<<<<<<< HEAD
+ghost use Rattle.build.specs.Code.{pathFault, buildIn, enteredFrom, Leaves, towards, noFour, fourRead, fourOf, firsts, lasts, pairAt, noStart, startRead, startLoop, furtherLoop, pathEnds};
 use graph::GraphTable;
+=======
+use graph::GraphTable;
+>>>>>>> 6c1e76dbdc8086dffdcb1fdb6c574b96744c7078
 use links::Ends;
 use links::Link;
 use paths::Item;
@@ -199,7 +203,7 @@ impl Four {
     // The ends of the path at a place, in the order pq, pr, ps, qr, qs, rs.
     fn pair(self, i: usize) -> Link
         requires { ⌜ i < 6 ⌝ }
-        ensures { λ r. ⌜ r ≡ pairAt (firsts self) (lasts self) i ⌝ }
+        ensures { λ r. ⌜ r ≡ pathEnds (firsts self) (lasts self) i ⌝ }
     {
         let first = [self.p, self.p, self.p, self.q, self.q, self.r];
         let last = [self.q, self.r, self.s, self.r, self.s, self.s];

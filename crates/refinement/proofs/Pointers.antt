@@ -49,8 +49,8 @@ module _ (p q : ℕ → ℕ) where
 
 -- the two halves of the table
 pub data Half : ℕ → Type 0 where
-  before : Half 0
-  after : Half capacity
+  lower : Half 0
+  upper : Half capacity
 
 -- one pointer that is set: its place, and the places of other vertices and of the other half
 module _ (p : List ℕ) where
@@ -74,10 +74,10 @@ module _ (p : List ℕ) where
       go true d true e = getD-set-other p (half + v) (other + w) to 0 (n (ltb-true v capacity d) (ltb-true w capacity e))
 
 other-place : (half other v w : ℕ) → Half half → Half other → w ≢ v → v < capacity → w < capacity → other + w ≢ half + v
-other-place half other v w before before n h k e = n (omega arith)
-other-place half other v w before after n h k e = omega arith
-other-place half other v w after before n h k e = omega arith
-other-place half other v w after after n h k e = n (omega arith)
+other-place half other v w lower lower n h k e = n (omega arith)
+other-place half other v w lower upper n h k e = omega arith
+other-place half other v w upper lower n h k e = omega arith
+other-place half other v w upper upper n h k e = n (omega arith)
 
 -- both pointers of a vertex that are set
 module _ (p : List ℕ) (u v w : ℕ) where
@@ -86,8 +86,8 @@ module _ (p : List ℕ) (u v w : ℕ) where
 
   both-other : (half x : ℕ) → Half half → x ≢ v → pointer (pointedBoth p u v w) half x ≡ pointer p half x
   both-other half x h n =
-      pointed-apart (pointed p 0 v u) capacity v w half x (other-place capacity half v x after h n)
-      ∙ pointed-apart p 0 v u half x (other-place 0 half v x before h n)
+      pointed-apart (pointed p 0 v u) capacity v w half x (other-place capacity half v x upper h n)
+      ∙ pointed-apart p 0 v u half x (other-place 0 half v x lower h n)
 
   module _ (long : length p ≡ pointerCount) (low : v < capacity) where
     both-before : pointer (pointedBoth p u v w) 0 v ≡ u
@@ -132,8 +132,8 @@ module _ (t : ℕ) where
       let w = headOf l t in
       let q = pointedBoth p u v w in
       let r = along-set q v l (both-length p u v w ∙ long) (nd .1) (λ x h. low x (inr h)) in
-      let b = along-other q v l t 0 v before (nd .0) ∙ both-before p u v w long (low v (inl refl)) in
-      let a = along-other q v l t capacity v after (nd .0) ∙ both-after p u v w long (low v (inl refl)) in
+      let b = along-other q v l t 0 v lower (nd .0) ∙ both-before p u v w long (low v (inl refl)) in
+      let a = along-other q v l t capacity v upper (nd .0) ∙ both-after p u v w long (low v (inl refl)) in
       rw (along-step p u v l t) ((b, r .0), (a, r .1))
 
 -- where pointers lead: from a vertex of the list, past vertices that are no branch vertices, to its end

@@ -28,7 +28,7 @@ use Rattle.links.specs.Ends.{linkEnd, sameLink}
 use Rattle.links.specs.Tables.{splitRows, splitBy, pointer, pointerCount, pointAlong}
 use Rattle.build.specs.State.{pathAddition, entered, raised, pathTaken}
 use Rattle.refinement.proofs.Tests.{iff-test, false-of, left-true, built-tells, branch-tells}
-use Rattle.refinement.proofs.Pointers.{Back, On, Half.before, Half.after, back-cut, on-cut, back-same, on-same, along-other, along-set, along-length}
+use Rattle.refinement.proofs.Pointers.{Back, On, Half.lower, Half.upper, back-cut, on-cut, back-same, on-same, along-other, along-set, along-length}
 use Rattle.refinement.proofs.Table.{Low, with-length, without-length, with-tells, without-tells}
 use Rattle.refinement.proofs.Splits.{Sole, split-joined, split-none, split-swap, piece-there, branch-kept, branch-split}
 use Rattle.refinement.proofs.Shows.{Shows, Sizes, Listed, Runs, AllLow, ends, end-branch, end-inner, not-inside, sole-link, placed, Placed, everyEdge, branch-shown}
@@ -100,8 +100,8 @@ module _ (p : List ℕ) (links : List Path) (h : Runs p links) where
       go : In M (P ∷ links) → Back (pointer (pointAlong p (vertices P)) 0) (M .s) (M .inner) × On (pointer (pointAlong p (vertices P)) capacity) (M .inner) (M .t)
       go (inl e) = rw e (along-set (P .t) p (P .s) (P .inner) long (nodup-inner P nd) (λ w i. low w (inner-in w P i)))
       go (inr i) = (
-        back-same to-before (pointer (pointAlong p (vertices P)) 0) (M .s) (M .inner) (λ w k. along-other p (P .s) (P .inner) (P .t) 0 w before (new M i w k)) (h M i .0),
-        on-same to-after (pointer (pointAlong p (vertices P)) capacity) (M .inner) (M .t) (λ w k. along-other p (P .s) (P .inner) (P .t) capacity w after (new M i w k)) (h M i .1),
+        back-same to-before (pointer (pointAlong p (vertices P)) 0) (M .s) (M .inner) (λ w k. along-other p (P .s) (P .inner) (P .t) 0 w lower (new M i w k)) (h M i .0),
+        on-same to-after (pointer (pointAlong p (vertices P)) capacity) (M .inner) (M .t) (λ w k. along-other p (P .s) (P .inner) (P .t) capacity w upper (new M i w k)) (h M i .1),
       )
 
 -- the vertices of a list as a set
