@@ -11,12 +11,8 @@ ghost use Rattle.certificates.specs.Records.{vertex, branchFour};
 ghost use Rattle.paths.specs.Items.{itemRead, endRead, limited};
 ghost use Rattle.graph.specs.Rows.{rowsGraph};
 ghost use Rattle.build.specs.State.{entered, pathTaken, buildPath, bareBuild, fourSet, startOn, startOf, buildStart, buildBody};
-<<<<<<< HEAD
-ghost use Rattle.build.specs.Code.{pathFault, buildIn, enteredFrom, Leaves, towards, noFour, fourRead, fourOf, firsts, lasts, pairAt, noStart, startRead, startLoop, furtherLoop, pathEnds};
+ghost use Rattle.build.specs.Code.{pathFault, buildIn, enteredFrom, Leaves, towards, noFour, fourRead, fourOf, firsts, lasts, noStart, startRead, startLoop, furtherLoop, pathEnds};
 use graph::GraphTable;
-=======
-use graph::GraphTable;
->>>>>>> 6c1e76dbdc8086dffdcb1fdb6c574b96744c7078
 use links::Ends;
 use links::Link;
 use paths::Item;
