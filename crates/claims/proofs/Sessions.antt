@@ -14,7 +14,7 @@ use Rattle.record.proofs.Laws.{ended-there}
 use Rattle.connectivity.specs.Graph.{Graph, Adj, edgeCount}
 use Rattle.connectivity.specs.Connectivity.{connectivity}
 use Rattle.connectivity.specs.Path.{Path}
-use Rattle.connectivity.specs.Build.{StartRules, Steps, taken, final}
+use Rattle.connectivity.specs.Build.{StartRules, Steps, taken, final, furtherCount}
 use Rattle.connectivity.specs.Certificate.{Certificate.build}
 use Rattle.connectivity.proofs.Edges.{fromEdges-count}
 use Rattle.connectivity.proofs.Steps.{final-append, steps-append}
@@ -105,7 +105,7 @@ pub plan-count : (p : Plan) → Allowed p → edgeCount (planGraph p) ≡ length
 plan-count p al = fromEdges-count (p .n) (p .edges) (edge-list p al)
 
 abbrev pub due : Plan → ℕ
-due p = length (p .edges) - p .n - 2
+due p = furtherCount (length (p .edges)) (p .n)
 
 -- a session that was started on a plan, its build showing these links
 pub record Building (p : Plan) (s : Session) (links : List Path) : Type 0 where
@@ -164,7 +164,7 @@ module _ (p : Plan) (al : Allowed p) where
     unfolding pathStep graphOf
     path-step part =
         ap (λ (b : Bool). cond (b && ltb (s .taken) (pathCount s)) (onPath s (readIn (s .graph))) (refusedStep s 31 0)) (h .started)
-        ∙ ap (λ (g : GraphTable). cond (ltb (s .taken) (g .m - g .n - 2)) (onPath s (readIn g)) (refusedStep s 31 0)) (h .graph)
+        ∙ ap (λ (g : GraphTable). cond (ltb (s .taken) (furtherCount (g .m) (g .n))) (onPath s (readIn g)) (refusedStep s 31 0)) (h .graph)
         ∙ ap (λ (x : Read Path). cond (ltb (s .taken) (due p)) (onPath s x) (refusedStep s 31 0)) (rows-read (λ g. buildPath g (s .build)) part ∙ shows-path (planGraph p) (h .shows) part 0)
       where
         readIn : GraphTable → Read Path

@@ -3,6 +3,7 @@ use Prim.Native.Nat.{ℕ, zero, suc, _-_}
 use mathlib.Core.List.{List, [], _∷_}
 use mathlib.Core.Path.{_≡_}
 use lib.ListN.{length, drop}
+use Rattle.connectivity.specs.Build.{furtherCount}
 use Rattle.record.specs.Read.{Read.Got, Bytes}
 use Rattle.record.specs.Number.{number}
 use Rattle.record.specs.declared.Answer.the-variants.{Accepted, Grade}
@@ -47,4 +48,4 @@ pub record Replayed (p : Plan) (C : List ℕ) : Type 0 where
   pub opened : opening (planBytes p) .answer ≡ Accepted
   pub three : number C 0 ≡ Got 3 1
   pub started : startStep (sessionOn p) (drop 1 C) .answer ≡ Accepted
-  pub finishes : Finishes (length (p .edges) - p .n - 2) (startStep (sessionOn p) (drop 1 C) .session) (startRest (sessionOn p) (drop 1 C))
+  pub finishes : Finishes (furtherCount (length (p .edges)) (p .n)) (startStep (sessionOn p) (drop 1 C) .session) (startRest (sessionOn p) (drop 1 C))

@@ -12,7 +12,7 @@ use Rattle.certificates.specs.Encoding.{pathBytes, certificateBytes}
 use Rattle.connectivity.specs.Lists.{In, select, below}
 use Rattle.connectivity.specs.Graph.{Graph, Simple, Adj, edgeCount, edgesBelow, withHigher}
 use Rattle.connectivity.specs.Path.{Path, vertices, IsPath, usedEdges}
-use Rattle.connectivity.specs.Build.{four, sixPairs, endPairs}
+use Rattle.connectivity.specs.Build.{four, sixPairs, endPairs, furtherCount}
 use Rattle.connectivity.specs.Certificate.{Certificate.build, BuildRules}
 use Rattle.connectivity.proofs.Lists.{fewer, beside, below?, nodup-below, length-below, select-in, select-nodup, at-most}
 use Rattle.connectivity.proofs.Paths.{branchVertices, branch-built, end-or-inner, length-ends}
@@ -63,7 +63,7 @@ edges-most g (suc v) h =
     let ih = edges-most g v (omega arith) in
     omega (arith, length-below v, length-higher v l, length-append (withHigher v l) (edgesBelow g v))
 
-record-room : (m n u k : ℕ) → u ≤ m → n + 2 ≤ m → k ≡ (m - n) - 2 → m ≤ maxEdges → (n ≤ 6 → m ≤ 36) → 5 + (u + 2 * (6 + k)) ≤ pathSpace
+record-room : (m n u k : ℕ) → u ≤ m → n + 2 ≤ m → k ≡ furtherCount m n → m ≤ maxEdges → (n ≤ 6 → m ≤ 36) → 5 + (u + 2 * (6 + k)) ≤ pathSpace
 record-room m n u k hu hn hk hm small = go (below? n 7)
   where
     go : Dec (n < 7) → 5 + (u + 2 * (6 + k)) ≤ pathSpace
