@@ -291,8 +291,7 @@ fn decide(plan: &[u8], room: usize) -> Draft
         return no_draft(Answer::PlanFault(30, 0));
     }
     let g = p.graph;
-    let rows = g.rows;
-    let c = certificate(&rows, g.n);
+    let c = certificate(&g.rows, g.n);
     let items = c.items;
     let count = c.count;
     Draft {
