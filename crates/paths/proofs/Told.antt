@@ -36,7 +36,8 @@ not-accepted (CertificateFault r p) i e = let z : _≡_ {A = ℕ} 0 1 = cc in om
 abbrev pub Stopped : {A : Type 0} → Read A → Item → Type 0
 Stopped r x = (q : ℕ) × (p : ℕ) × (r ≡ Refused q p) × (x ≡ refused q p)
 
-never : {A : Type 0} {a : Answer} (r p : ℕ) → a ≡ Accepted → a ≡ CertificateFault r p → A
+-- no answer is both
+pub never : {A : Type 0} {a : Answer} (r p : ℕ) → a ≡ Accepted → a ≡ CertificateFault r p → A
 never r p d e = let z : _≡_ {A = ℕ} 0 1 = cc in absurd (omega arith)
 
 answer-is : {x y : Item} → x ≡ y → x .answer ≡ y .answer
