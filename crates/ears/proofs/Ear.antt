@@ -8,6 +8,7 @@ use lib.Dec.{ltb}
 use borrow.Author.Tests.{lt-ltb, le-ltb}
 use Rattle.record.specs.Read.{Read, Read.Got, Read.Refused, _needs⟨_⟩_, folded}
 use Rattle.record.specs.declared.Answer.the-variants.{Accepted}
+use Rattle.record.proofs.Faults.{NotAccepted, not-accepted}
 use Rattle.record.proofs.Loops.{three-tests}
 use Rattle.vertexset.specs.Set.{has, inserted}
 use Rattle.vertexset.specs.declared.VertexSet.{VertexSet}
@@ -18,7 +19,7 @@ use Rattle.certificates.specs.Records.{path}
 use Rattle.paths.specs.Items.{taken, refused}
 use Rattle.paths.specs.Paths.{pathTold, verticesAt}
 use Rattle.paths.specs.declared.PathRead.{PathRead}
-use Rattle.paths.proofs.Told.{NotAccepted, not-accepted, never, Stopped}
+use Rattle.paths.proofs.Told.{Stopped, never}
 use Rattle.paths.proofs.Reading.{vertices-again}
 use Rattle.ears.specs.Code.{earsWith, earRead, earFault, earBeside}
 use Rattle.ears.specs.declared.Ears.{Ears}
