@@ -6,7 +6,7 @@ use crate::reference::*;
 use crate::table;
 
 /// Changes that are tried where no number is given: about two minutes.
-pub const STEPS: u64 = 45_000;
+pub const STEPS: u64 = 50_000;
 /// Rounds of timings for a changed plan beside the plan before it: it must be slower in the first, in the next few, and in the last.
 const ROUNDS: [usize; 3] = [1, 5, 25];
 /// The least rise that counts: below it lies the noise.
