@@ -223,7 +223,7 @@ module _ {s : Sides} where
   last-alike (more e end) = e
   last-alike (more e (more f h)) = last-alike (more f h)
 
-  take-alike : (k : ℕ) {l m : List ℕ} → AlikeList s l m → AlikeList s (take k l) (take k m)
+  pub take-alike : (k : ℕ) {l m : List ℕ} → AlikeList s l m → AlikeList s (take k l) (take k m)
   take-alike zero h = end
   take-alike (suc k) end = end
   take-alike (suc k) (more e h) = more e (take-alike k h)

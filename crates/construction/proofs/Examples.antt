@@ -68,3 +68,11 @@ two-rows = folded joined bareRows ((0, 1) ∷ (0, 2) ∷ (0, 3) ∷ (1, 2) ∷ (
 pub two-numbers : certificateNumbers two-rows 6 ≡ 2 ∷ 1 ∷ 2 ∷ 4 ∷ 3 ∷ 2 ∷ 1 ∷ 0 ∷ 3 ∷ 1 ∷ 3 ∷ 0 ∷ 3 ∷ 2 ∷ 4 ∷ 1 ∷ 3 ∷ 2 ∷ 5 ∷ 1 ∷ 1 ∷ 4 ∷ []
 unfolding folded zip count none firstFrom wordsFrom reversed lastOf placeOf visit explore back wayOut detour cycle earsOn ears marked sorted begin linkStep pairPlace outStep step steps build addEdges addRows finish certificateNumbers lengthened pairsFrom ones
 two-numbers = refl
+
+-- the search off the link 3, 7, 5, 2, 4 finds 1, 5, 2: it is cut at 5
+abbrev pub leaving-rows : List ℕ
+leaving-rows = folded joined bareRows ((0, 1) ∷ (0, 3) ∷ (0, 4) ∷ (0, 6) ∷ (1, 3) ∷ (1, 4) ∷ (1, 5) ∷ (2, 4) ∷ (2, 5) ∷ (2, 6) ∷ (3, 7) ∷ (5, 7) ∷ (6, 7) ∷ [])
+
+pub leaving-numbers : certificateNumbers leaving-rows 8 ≡ 3 ∷ 0 ∷ 1 ∷ 3 ∷ 4 ∷ 2 ∷ 0 ∷ 1 ∷ 2 ∷ 0 ∷ 3 ∷ 2 ∷ 0 ∷ 4 ∷ 2 ∷ 1 ∷ 3 ∷ 2 ∷ 1 ∷ 4 ∷ 5 ∷ 3 ∷ 7 ∷ 5 ∷ 2 ∷ 4 ∷ 2 ∷ 1 ∷ 5 ∷ 3 ∷ 0 ∷ 6 ∷ 7 ∷ 2 ∷ 6 ∷ 2 ∷ []
+unfolding folded zip count none firstFrom wordsFrom reversed lastOf placeOf visit explore back wayOut detour cycle earsOn ears marked sorted begin linkStep pairPlace outStep step steps build addEdges addRows finish certificateNumbers lengthened pairsFrom ones
+leaving-numbers = refl

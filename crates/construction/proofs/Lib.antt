@@ -14,6 +14,7 @@ pub mod ThreePaths
 pub mod StartLaws
 pub mod StepLaws
 pub mod Finding
+pub mod Leaving
 pub mod Reroutes
 pub mod LinkSteps
 pub mod OutSteps

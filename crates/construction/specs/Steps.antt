@@ -35,7 +35,8 @@ abbrev pub extended : State → List ℕ → ℕ → State
 extended st path at =
     state (addPath (st .flat) path) (inserted (inserted (st .branch) (getD path 0 0)) (lastOf path)) (withAll (st .built) path) at
 
--- (a) A LINK WITH INNER VERTICES stands at the places i - 1 to j: from inside it to the rest of the build, without its ends.
+-- (a) A LINK WITH INNER VERTICES stands at the places i - 1 to j: a search from its two outermost inner vertices to the rest of the build, without
+-- its ends. It may run along the link before it leaves it: of the path only what lies beyond the last vertex inside the link is taken, and that vertex.
 abbrev pub segment : List ℕ → ℕ → ℕ → List ℕ
 segment l i j = take (j - i) (drop i l)
 
@@ -44,17 +45,22 @@ linkEnds flat i j = pair (getD flat (i - 1) 0) (getD flat j 0)
 
 abbrev pub offLink : List ℕ → State → ℕ → ℕ → Found
 offLink rows st i j =
-    answered (explore rows (setOf (segment (st .flat) i j)) (minus (minus (st .built) (setOf (segment (st .flat) i j))) (linkEnds (st .flat) i j)) (linkEnds (st .flat) i j))
+    answered (explore rows (pair (getD (st .flat) i 0) (getD (st .flat) (j - 1) 0)) (minus (minus (st .built) (setOf (segment (st .flat) i j))) (linkEnds (st .flat) i j)) (linkEnds (st .flat) i j))
     (linkEnds (st .flat) i j) []
 
-abbrev pub linkTaken : State → ℕ → Found → State
-linkTaken st i f = cond (isCut (f .cutBy)) (stopped st (f .cutBy)) (extended st (f .path) i)
+-- a path is listed from its goal: it ends at the first vertex that is in the set
+abbrev pub upTo : VertexSet → List ℕ → List ℕ
+upTo set path = take (placeOf (has (set .words)) path + 1) path
+
+abbrev pub linkTaken : State → ℕ → ℕ → Found → State
+linkTaken st i j f = cond (isCut (f .cutBy)) (stopped st (f .cutBy)) (extended st (upTo (setOf (segment (st .flat) i j)) (f .path)) i)
 
 abbrev pub runEnd : List ℕ → VertexSet → ℕ → ℕ
 runEnd flat inner i = i + placeOf (λ v. not (has (inner .words) v)) (drop i flat)
 
 unfoldable pub linkStep : List ℕ → State → ℕ → State
-linkStep rows st i = linkTaken st i (offLink rows st i (runEnd (st .flat) (minus (st .built) (st .branch)) i))
+linkStep rows st i =
+    linkTaken st i (runEnd (st .flat) (minus (st .built) (st .branch)) i) (offLink rows st i (runEnd (st .flat) (minus (st .built) (st .branch)) i))
 
 -- (b) OUT AND BACK: y, .., c, x. Where x and y are neighbours on a path, the new vertices are put in between them.
 unfoldable pub pairPlace : ℕ → ℕ → List ℕ → ℕ
