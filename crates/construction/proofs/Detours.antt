@@ -184,12 +184,12 @@ way-out rows n d set s = go (ltb c capacity) refl
     no-way e = ⊎-elim (λ k. absurd (clash (lt-ltb c capacity (low-capacity n c (d .low) (d .simple .low c (least both) (row-on rows c (least both) (common-on (rowOf rows c) set row s (least both) (least-on both sized-both k) .0))))) e)) (λ k. k) (bool? (ltb (least both) capacity))
 
     shut : ltb c capacity ≡ false → (x w : ℕ) → On set x → adjacentIn rows x w ≡ true → On set w
-    shut e x w h k = ⊎-elim (λ i. i) (λ i. absurd (least-none out sized-out e w (on-minus (near rows set) set (sized-near rows (d .words) set) s w (on-near rows (d .words) set x w s h k) (λ j. clash j i)))) (bool? (has (set .words) w))
+    shut e x w h k = ⊎-elim (λ i. i) (λ i. absurd (least-none out sized-out e w (on-minus (near rows set) set (sized-near rows (d .words) set) s w (on-near rows set x w s h k) (λ j. clash j i)))) (bool? (has (set .words) w))
 
     go : (b : Bool) → ltb c capacity ≡ b → Way rows set (least both, c)
     go true e =
         let r = minus-on (near rows set) set (sized-near rows (d .words) set) s c (least-on out sized-out e) in
-        let v = near-on rows (d .words) set c (r .0) in
+        let v = near-on rows set c (r .0) in
         found-way (r .1) (v .0) (v .1) (v .2)
     go false e = inr (no-way e, shut e)
 

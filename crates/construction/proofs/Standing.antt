@@ -120,14 +120,14 @@ near-stands {rows} d {s} h = record {
   where
     into : (w : ℕ) → On (near rows s) w → plain.near codeBounds (adjacentIn rows) (has (s .words)) w ≡ true
     into w e =
-        let r = near-on rows (d .words) s w e in
+        let r = near-on rows s w e in
         true-any (λ v. has (s .words) v && adjacentIn rows v w) (below capacity) (r .0) (below-in capacity (r .0) (on-low s (r .0) (h .sized) (r .1))) (λ i. r .1 i && r .2 i)
 
     back : (w : ℕ) → plain.near codeBounds (adjacentIn rows) (has (s .words)) w ≡ true → On (near rows s) w
     back w e =
         let r = any-true (λ v. has (s .words) v && adjacentIn rows v w) (below capacity) e in
         let k = and-true (has (s .words) (r .0)) (adjacentIn rows (r .0) w) (r .2) in
-        on-near rows (d .words) s (r .0) w (h .sized) (k .0) (k .1)
+        on-near rows s (r .0) w (h .sized) (k .0) (k .1)
 
 -- ---- what is asked of sets
 
