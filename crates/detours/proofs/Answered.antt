@@ -14,7 +14,7 @@ use Rattle.search.specs.Code.{pathOf, reachOf, searchSpace, leftIn, answerIn, n
 use Rattle.search.specs.declared.VertexList.{VertexList}
 use Rattle.search.specs.declared.Reach.{Reach}
 use Rattle.search.proofs.Lent.{answer-is, routed}
-use Rattle.construction.specs.Sets.{minus, single, least, members}
+use Rattle.construction.specs.Sets.{minus, single, least}
 use Rattle.construction.specs.Search as searching
 use Rattle.construction.specs.Search.{explore, route, isFound, reached}
 use Rattle.construction.specs.Ears as construction

@@ -1,6 +1,6 @@
 -- `detours::near_all` meets its contract: the rest of the list, taken in from here, gives the whole. Assumes nothing.
 use Prim.Native.Nat.{ℕ, _-_}
-use mathlib.Core.Path.{_≡_, refl, sym, ap, _∙_}
+use mathlib.Core.Path.{_≡_, refl, sym, _∙_}
 use lib.ListN.{length, drop}
 use borrow.Author.Needs.{needs}
 use Rattle.vertexset.specs.declared.VertexSet.{VertexSet}
