@@ -5,12 +5,12 @@ use mathlib.Core.Bool.{Bool, cond, not}
 use mathlib.Core.List.{List, [], _∷_}
 use mathlib.Core.Logic.{inl, inr}
 use lib.Dec.{ltb}
-use lib.ListN.{getD, drop}
+use lib.ListN.{getD, take, drop}
 use Rattle.connectivity.specs.Lists.{In, upFrom, below}
 use Rattle.connectivity.proofs.Lists.{in-below, select-in}
 use Rattle.construction.specs.Sets.{lastOf, placeOf}
-use Rattle.construction.specs.Construction.{VertexSet, Cut, Found, Begun, State, stopped, minus, membersFrom, extended, offLink, linkTaken, runEnd, linkStep, besidePlace, reroute, outTaken, outStep, innerPlace, step, steps, firstState, build, addEdges, addRows, finish}
-use Rattle.construction.proofs.Alike.{Sides, AlikeNumber, vertex, AlikeList, end, more, AlikeSet, AlikeTable, AlikeCut, known-choice, member-alike, row-alike, minus-alike, inserted-alike, pair-alike, all-alike, set-alike, members-from, none-left, no-cut, cut-alike, length-alike, at-alike, last-alike, drop-alike, segment-alike, turned-alike, place-alike, beside-alike, edge-alike, add-alike, put-alike, bare-alike, marked-alike}
+use Rattle.construction.specs.Construction.{VertexSet, Cut, Found, Begun, State, stopped, minus, membersFrom, extended, offLink, upTo, linkTaken, runEnd, linkStep, besidePlace, reroute, outTaken, outStep, innerPlace, step, steps, firstState, build, addEdges, addRows, finish}
+use Rattle.construction.proofs.Alike.{Sides, AlikeNumber, vertex, AlikeList, end, more, AlikeSet, AlikeTable, AlikeCut, known-choice, member-alike, row-alike, minus-alike, inserted-alike, pair-alike, all-alike, set-alike, members-from, none-left, no-cut, cut-alike, length-alike, at-alike, last-alike, take-alike, drop-alike, segment-alike, turned-alike, place-alike, beside-alike, edge-alike, near-alike, add-alike, put-alike, bare-alike, marked-alike}
 use Rattle.construction.proofs.AlikeSearch.{AlikeFound, explore-alike, answered-alike}
 use Rattle.construction.proofs.AlikeEars.{detour-alike}
 use Rattle.construction.proofs.AlikeStart.{AlikeBegun}
@@ -40,8 +40,11 @@ module _ {s : Sides} where
     cutBy = no-cut;
   }
 
-  taken-alike : {x y : State} {i j : ℕ} {f g : Found} → AlikeState s x y → i ≡ j → AlikeFound s f g → AlikeState s (linkTaken (s .a) x i f) (linkTaken (s .b) y j g)
-  taken-alike h e f = known-choice (AlikeState s) (cut-alike (f .cutBy)) (λ z. stopped-alike h (f .cutBy)) (λ z. extended-alike h (f .path) e)
+  pub up-to-alike : {p q : VertexSet} {l m : List ℕ} → AlikeSet s p q → AlikeList s l m → AlikeList s (upTo p l) (upTo q m)
+  up-to-alike {p} {q} {l} {m} h k = subst (λ (i : ℕ). AlikeList s (upTo p l) (take (i + 1) m)) (place-alike p q (λ v w e. member-alike h e) k) (take-alike (placeOf p l + 1) k)
+
+  taken-alike : {x y : State} (i j : ℕ) {f g : Found} → AlikeState s x y → AlikeFound s f g → AlikeState s (linkTaken (s .a) x i j f) (linkTaken (s .b) y i j g)
+  taken-alike i j h f = known-choice (AlikeState s) (cut-alike (f .cutBy)) (λ z. stopped-alike h (f .cutBy)) (λ z. extended-alike h (up-to-alike (set-alike (segment-alike i j (h .flat))) (f .path)) refl)
 
   reroute-alike : {x y : State} {p q : List ℕ} (k : ℕ) → AlikeState s x y → AlikeList s p q → AlikeState s (reroute (s .a) x p k) (reroute (s .b) y q k)
   reroute-alike k h p = record {
@@ -58,7 +61,7 @@ module _ {s : Sides} where
     off-alike i j h =
         let inner = set-alike (segment-alike i j (h .flat)) in
         let ends = pair-alike (at-alike (h .flat) (i - 1)) (at-alike (h .flat) j) in
-        answered-alike (explore-alike d inner (minus-alike (minus-alike (h .built) inner) ends) ends) ends end
+        answered-alike (explore-alike d (pair-alike (at-alike (h .flat) i) (at-alike (h .flat) (j - 1))) (minus-alike (minus-alike (h .built) inner) ends) ends) ends end
 
     run-alike : {x y : State} (i : ℕ) → AlikeState s x y → runEnd (s .a) (x .flat) (minus (x .built) (x .branch)) i ≡ runEnd (s .b) (y .flat) (minus (y .built) (y .branch)) i
     run-alike {x} {y} i h =
@@ -68,8 +71,8 @@ module _ {s : Sides} where
     link-step-alike : {x y : State} (i : ℕ) → AlikeState s x y → AlikeState s (linkStep (s .a) adj x i) (linkStep (s .b) adj y i)
     unfolding linkStep
     link-step-alike {x} {y} i h =
-        let e = run-alike i h in
-        taken-alike h refl (subst (λ (j : ℕ). AlikeFound s (offLink (s .a) adj x i (runEnd (s .a) (x .flat) (minus (x .built) (x .branch)) i)) (offLink (s .b) adj y i j)) e (off-alike i (runEnd (s .a) (x .flat) (minus (x .built) (x .branch)) i) h))
+        let k = runEnd (s .a) (x .flat) (minus (x .built) (x .branch)) i in
+        subst (λ (j : ℕ). AlikeState s (linkTaken (s .a) x i k (offLink (s .a) adj x i k)) (linkTaken (s .b) y i j (offLink (s .b) adj y i j))) (run-alike i h) (taken-alike i k h (off-alike i k h))
 
     beside-place : {x y u v : ℕ} {f g : List ℕ} → AlikeNumber s x y → AlikeNumber s u v → AlikeList s f g → besidePlace (s .a) adj x u f ≡ besidePlace (s .b) adj y v g
     beside-place e k f = λ i. cond (edge-alike d e k i) (beside-alike e k f i) (length-alike f i)
@@ -85,7 +88,7 @@ module _ {s : Sides} where
     module _ {full full′ : VertexSet} (hf : AlikeSet s full full′) where
       out-step-alike : {x y : State} → AlikeState s x y → AlikeState s (outStep (s .a) adj full x) (outStep (s .b) adj full′ y)
       unfolding outStep
-      out-step-alike h = known-choice (AlikeState s) (none-left (minus-alike hf (h .built))) (λ z. stopped-alike h no-cut) (λ z. out-taken-alike h (detour-alike d hf (h .built)))
+      out-step-alike h = known-choice (AlikeState s) (none-left (minus-alike hf (h .built))) (λ z. stopped-alike h no-cut) (λ z. out-taken-alike h (detour-alike d (near-alike d (h .built)) (h .built)))
 
       inner-alike : {x y : State} → AlikeState s x y → innerPlace (s .a) x ≡ innerPlace (s .b) y
       inner-alike {x} {y} h =

@@ -3,27 +3,27 @@ use Prim.Native.Nat.{ℕ, zero, suc, _+_, _-_, _<_, _≤_}
 use mathlib.Core.Path.{_≡_, refl, sym, ap, subst, _∙_}
 use mathlib.Core.Bool.{Bool, true, false, cond, not}
 use mathlib.Core.Logic.{_⊎_, inl, inr, ⊎-elim}
-use mathlib.Core.List.{List, [], _∷_, _++_, append-nil}
+use mathlib.Core.List.{List, [], _∷_, _++_}
 use native.Mathlib.Omega.{arith}
 use lib.Dec.{ltb, leb, eqb}
 use lib.ListN.{length, getD, take, drop, length-drop, take-append-drop, List·getD-eq-default}
-use lib.Seq.{take-append-le, take-append-seam, getD-append-seam, getD-drop, drop-cons, take-add, take-all, take-take, length-take-le}
+use lib.Seq.{take-append-le, take-append-seam, getD-append-seam, getD-drop, take-add, take-all, take-take, length-take-le}
 use borrow.Author.Tests.{ltb-true, ltb-false, not-false, not-true}
 use Rattle.connectivity.specs.Lists.{In}
 use Rattle.connectivity.proofs.Lists.{bool?, clash, in-append, in-left, in-right, rev-in, below?}
 use Rattle.construction.specs.Sets.{lastOf, placeOf, reversed}
 use Rattle.construction.specs.Search.{back}
 use Rattle.construction.specs.Steps.{segment, turned}
-use Rattle.construction.specs.Construction.{Bounds, VertexSet, Reach, Cut, Found, Begun, State, broken, stopped, cut, noCut, emptySet, bare, minus, empty, single, count, least, nextAfter, cycle, marked, linkIn, addLink, sorted, threePaths, fourOf, startOn, across, thirdPath, around, begin, firstState, inserted, pair, addPath, putIn, extended, reroute, offLink, linkEnds, linkStep, besidePlace, outTaken, detour, outStep, innerPlace, step, steps, route, isCut, explore}
-use Rattle.construction.proofs.SetLaws.{rev-same, added-room}
-use Rattle.construction.proofs.Places.{place-in}
-use Rattle.construction.proofs.Finding.{first-at, place-is, place-none}
+use Rattle.construction.specs.Construction.{Bounds, VertexSet, Reach, Cut, Found, Begun, State, broken, stopped, cut, noCut, emptySet, bare, minus, empty, single, count, least, nextAfter, cycle, marked, linkIn, addLink, sorted, threePaths, fourOf, startOn, across, thirdPath, around, begin, firstState, inserted, pair, setOf, addPath, putIn, extended, reroute, offLink, upTo, linkEnds, linkStep, besidePlace, outTaken, near, detour, outStep, innerPlace, step, steps, route, isCut, explore}
+use Rattle.construction.proofs.SetLaws.{rev-same, added-room, last-snoc}
+use Rattle.construction.proofs.Places.{place-in, take-place, segment-place}
+use Rattle.construction.proofs.Finding.{first-at, place-is, place-none, place-within, up-to-first}
 use Rattle.construction.proofs.StepLaws.{take-in}
-use Rattle.construction.proofs.Alike.{Sides, off-one, AlikeNumber, AlikeList, zero-alike, single-alike, least-alike, after-alike, bare-alike, marked-alike, end, AlikeSet, AlikeTable, minus-alike, inserted-alike, pair-alike, all-alike, set-alike, at-alike, last-alike, segment-alike, known-choice}
-use Rattle.construction.proofs.AlikeSearch.{both, nothing-left, and-on, minus-is, explore-alike, rest, last-same, last-seed, answered-alike, uncut, found-path}
+use Rattle.construction.proofs.Alike.{Sides, off-one, near-alike, AlikeNumber, AlikeList, zero-alike, single-alike, least-alike, after-alike, bare-alike, marked-alike, end, AlikeSet, AlikeTable, minus-alike, inserted-alike, pair-alike, all-alike, set-alike, at-alike, last-alike, segment-alike, known-choice}
+use Rattle.construction.proofs.AlikeSearch.{both, nothing-left, and-on, minus-is, explore-alike, rest, last-rest, last-seed, answered-alike, uncut, found-path}
 use Rattle.construction.proofs.AlikeEars.{on-single, cycle-alike, on-inserted, inserted-keep, pair-is, all-keep, on-all, detour-alike, detour-grows, left, fewer-left, no-more-left}
 use Rattle.construction.proofs.AlikeStart.{in-set, third-alike, across-alike, four-alike, paths-alike}
-use Rattle.construction.proofs.AlikeBuild.{AlikeState, step-alike}
+use Rattle.construction.proofs.AlikeBuild.{AlikeState, up-to-alike, step-alike}
 
 -- ---- the first place at which a test holds
 
@@ -43,12 +43,11 @@ unfolding placeOf
 place-past p [] h e = absurd (omega arith)
 place-past p (a ∷ l) h e = subst (λ (b : Bool). 0 < cond b 0 (placeOf p l + 1)) (sym e) (omega arith)
 
-first-in : (l : List ℕ) (i j : ℕ) → i < length l → i < j → In (getD l i 0) (segment l i j)
-first-in l i j h k = subst (λ (m : List ℕ). In (getD l i 0) (take (j - i) m)) (sym (drop-cons l i 0 h)) (go (j - i) (omega arith))
-  where
-    go : (m : ℕ) → 0 < m → In (getD l i 0) (take m (getD l i 0 ∷ drop (suc i) l))
-    go zero z = absurd (omega arith)
-    go (suc m) z = inl refl
+-- what is taken of a path ends in the set
+last-up-to : (p : VertexSet) (l : List ℕ) (w : ℕ) → In w l → p w ≡ true → p (lastOf (upTo p l)) ≡ true
+last-up-to p l w h k = ⊎-elim
+    (λ r. ap (λ (m : List ℕ). p (lastOf m)) (ap (upTo p) (r .is) ∙ up-to-first p (r .front) (r .x) (r .back) (r .none) (r .holds)) ∙ ap p (last-snoc (r .front) (r .x)) ∙ r .holds)
+    (λ f. absurd (clash k (f w h))) (first-at p l)
 
 drop-in : (w i : ℕ) (l : List ℕ) → In w (drop i l) → In w l
 drop-in w i l h = subst (λ (k : List ℕ). In w k) (take-append-drop i l) (in-right w (take i l) (drop i l) h)
@@ -59,12 +58,6 @@ turned-in path z w = go (segment path 1 (length path - 1)) (eqb z (getD path 0 0
     go : (m : List ℕ) (t : Bool) → (In w m → In w path) → In w (cond t m (reversed m)) → In w path
     go m true f k = f k
     go m false f k = f (rev-in w m (subst (λ (j : List ℕ). In w j) (rev-same m) k))
-
-take-place : (l : List ℕ) (j k : ℕ) → j < k → j < length l → In (getD l j 0) (take k l)
-take-place [] j k h i = absurd (omega arith)
-take-place (a ∷ l) j zero h i = absurd (omega arith)
-take-place (a ∷ l) zero (suc k) h i = inl refl
-take-place (a ∷ l) (suc j) (suc k) h i = inr (take-place l j k (omega arith) (omega arith))
 
 by-test : (P : State → Type 0) (t : Bool) (x y : State) → (t ≡ true → P x) → (t ≡ false → P y) → P (cond t x y)
 by-test P true x y f g = f refl
@@ -199,21 +192,43 @@ module _ {s : Sides} {adj : ℕ → ℕ → Bool} (d : AlikeTable s adj adj) {fu
       not-end : linkEnds (s .a) (x .flat) i (i + run-length) here-vertex ≡ false
       not-end = off-one (λ e. ⊎-elim (λ z. clash is-inner (ap inner z ∙ begun-outer)) (λ z. clash is-inner (ap inner z ∙ end-outer)) (pair-is (s .a) (getD (x .flat) (i - 1) 0) (getD (x .flat) (i + run-length) 0) here-vertex e))
 
+      abbrev run : List ℕ
+      run = segment (x .flat) i (i + run-length)
+
+      -- the place before the run's end
+      abbrev last-place : ℕ
+      last-place = i + run-length - 1
+
+      here-in : In here-vertex run
+      here-in = segment-place (x .flat) i (i + run-length) i (omega arith) (omega (arith, some-run)) low
+
+      last-in : In (getD (x .flat) last-place 0) run
+      last-in = segment-place (x .flat) i (i + run-length) last-place (omega (arith, some-run)) (omega (arith, some-run)) (omega (arith, some-run, place-within outer (drop i (x .flat)), length-drop i (x .flat)))
+
+      seed-in : (v : ℕ) → pair (s .a) here-vertex (getD (x .flat) last-place 0) v ≡ true → In v run
+      seed-in v e = ⊎-elim (λ z. rw z here-in) (λ z. rw z last-in) (pair-is (s .a) here-vertex (getD (x .flat) last-place 0) v e)
+
+      abbrev off-link : Found
+      off-link = offLink (s .a) adj x i (i + run-length)
+
       link-kept : Kept (open-ones x) (linkStep (s .a) adj x i)
       unfolding linkStep
-      link-kept = by-test (Kept (open-ones x)) (isCut (s .a) (offLink (s .a) adj x i (i + run-length) .cutBy)) (stopped x (offLink (s .a) adj x i (i + run-length) .cutBy)) (extended (s .a) x (offLink (s .a) adj x i (i + run-length) .path) i) (λ u. inl refl) longer
+      link-kept = by-test (Kept (open-ones x)) (isCut (s .a) (off-link .cutBy)) (stopped x (off-link .cutBy)) (extended (s .a) x (upTo (setOf (s .a) run) (off-link .path)) i) (λ u. inl refl) longer
         where
-          longer : isCut (s .a) (offLink (s .a) adj x i (i + run-length) .cutBy) ≡ false → Kept (open-ones x) (extended (s .a) x (offLink (s .a) adj x i (i + run-length) .path) i)
+          longer : isCut (s .a) (off-link .cutBy) ≡ false → Kept (open-ones x) (extended (s .a) x (upTo (setOf (s .a) run) (off-link .path)) i)
           longer u =
-              let run = segment-alike i (i + run-length) (h .flat) in
+              let inside = set-alike (segment-alike i (i + run-length) (h .flat)) in
               let ends = pair-alike (at-alike (h .flat) (i - 1)) (at-alike (h .flat) (i + run-length)) in
-              let m = explore-alike d (set-alike run) (minus-alike (minus-alike (h .built) (set-alike run)) ends) ends in
+              let m = explore-alike d (pair-alike (at-alike (h .flat) i) (at-alike (h .flat) last-place)) (minus-alike (minus-alike (h .built) inside) ends) ends in
               let v-low = minus-alike (h .built) (h .branch) .low here-vertex is-inner in
-              let r = some-run in
-              let met = uncut m ends [] here-vertex (on-all (s .a) emptySet (segment (x .flat) i (i + run-length)) here-vertex (omega arith) (first-in (x .flat) i (i + run-length) low (omega arith))) not-end u in
-              let c-inner = segment-inner (lastOf (rest m)) (in-set (s .a) (segment (x .flat) i (i + run-length)) (lastOf (rest m)) (last-seed m met)) in
-              new-branch (answered-alike m ends end .path) i (omega arith) seen (lastOf (rest m)) (ap lastOf (found-path m ends [] met ∙ append-nil _) ∙ last-same m met)
-              (minus-alike (h .built) (h .branch) .low (lastOf (rest m)) c-inner) (minus-is (x .built) (x .branch) (lastOf (rest m)) c-inner .1)
+              let met = uncut m ends [] here-vertex (inserted-keep (s .a) (single (s .a) here-vertex) (getD (x .flat) last-place 0) here-vertex (on-single (s .a) here-vertex (omega arith))) not-end u in
+              let in-run = seed-in (lastOf (rest m)) (last-seed m met) in
+              let seed-low = minus-alike (h .built) (h .branch) .low (lastOf (rest m)) (segment-inner (lastOf (rest m)) in-run) in
+              let on-path : In (lastOf (rest m)) (off-link .path) = subst (λ (l : List ℕ). In (lastOf (rest m)) l) (sym (found-path m ends [] met)) (inr (in-left (lastOf (rest m)) (rest m) [] (last-rest m met))) in
+              let c = lastOf (upTo (setOf (s .a) run) (off-link .path)) in
+              let c-inner = segment-inner c (in-set (s .a) run c (last-up-to (setOf (s .a) run) (off-link .path) (lastOf (rest m)) on-path (on-all (s .a) emptySet run (lastOf (rest m)) (omega arith) in-run))) in
+              new-branch (up-to-alike inside (answered-alike m ends end .path)) i (omega arith) seen c refl
+              (minus-alike (h .built) (h .branch) .low c c-inner) (minus-is (x .built) (x .branch) c c-inner .1)
 
     -- ---- out and back
 
@@ -239,17 +254,19 @@ module _ {s : Sides} {adj : ℕ → ℕ → Bool} (d : AlikeTable s adj adj) {fu
       out-kept = by-test (Kept (open-ones x)) (empty (s .a) (minus full (x .built))) (stopped x noCut) (outTaken (s .a) adj x way) (λ e. inl refl) (λ e. by-test (Kept (open-ones x)) (isCut (s .a) (way .cutBy)) (stopped x (way .cutBy)) _ (λ u. inl refl) longer)
         where
           way : Found
-          way = detour (s .a) adj full (x .built)
+          way = detour (s .a) adj (near (s .a) adj (x .built)) (x .built)
 
           place : ℕ
           place = besidePlace (s .a) adj (lastOf (way .path)) (getD (way .path) 0 0) (x .flat)
 
           longer : isCut (s .a) (way .cutBy) ≡ false → Kept (open-ones x) (cond (ltb place (length (x .flat))) (reroute (s .a) x (way .path) place) (extended (s .a) x (way .path) (length (x .flat))))
           longer u =
-              let new = detour-grows d hf (h .built) (o .some) (o .some-built) u in
+              let hn = near-alike d (h .built) in
+              let r = detour-grows d hn (h .built) (o .some) (o .some-built) u in
+              let new : minus full (x .built) (r .0) ≡ true = and-on (all (r .0) (r .2)) (r .3) in
               by-test (Kept (open-ones x)) (ltb place (length (x .flat))) (reroute (s .a) x (way .path) place) (extended (s .a) x (way .path) (length (x .flat)))
-              (λ e. reroute-kept (detour-alike d hf (h .built) .path) place (ltb-true place (length (x .flat)) e) (new .0) (new .1) (new .2))
-              (λ e. new-vertex (detour-alike d hf (h .built) .path) (length (x .flat)) (omega arith) (λ w j. quiet w (take-in w (length (x .flat)) (x .flat) j)) (new .0) (new .1) (new .2))
+              (λ e. reroute-kept (detour-alike d hn (h .built) .path) place (ltb-true place (length (x .flat)) e) (r .0) (r .1) new)
+              (λ e. new-vertex (detour-alike d hn (h .built) .path) (length (x .flat)) (omega arith) (λ w j. quiet w (take-in w (length (x .flat)) (x .flat) j)) (r .0) (r .1) new)
 
     -- ONE STEP
     abbrev at-inner : ℕ

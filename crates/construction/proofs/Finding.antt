@@ -6,7 +6,8 @@ use mathlib.Core.Bool.{Bool, true, false, cond, _&&_, _||_}
 use Prim.Native.Nat.{ℕ, suc, _+_, _≤_, _<_}
 use native.Mathlib.Omega.{arith}
 use lib.Dec.{eqb}
-use lib.ListN.{length}
+use lib.ListN.{length, take}
+use lib.Seq.{take-append-add}
 use borrow.Author.Tests.{eqb-true, eq-eqb}
 use Rattle.connectivity.specs.Lists.{In}
 use Rattle.connectivity.proofs.Lists.{or-true, true-or, and-true}
@@ -57,6 +58,20 @@ place-none p (a ∷ l) f =
     let ih = place-none p l (λ w k. f w (inr k)) in
     let e : placeOf p l + 1 ≡ suc (length l) = omega arith in
     ap (λ (b : Bool). cond b 0 (placeOf p l + 1)) (f a (inl refl)) ∙ e
+
+pub place-within : (p : ℕ → Bool) (l : List ℕ) → placeOf p l ≤ length l
+unfolding placeOf
+place-within p [] = omega arith
+place-within p (a ∷ l) = go (p a) (place-within p l)
+  where
+    go : (b : Bool) → placeOf p l ≤ length l → cond b 0 (placeOf p l + 1) ≤ suc (length l)
+    go true h = omega arith
+    go false h = omega arith
+
+-- the list up to the first place
+pub up-to-first : (p : ℕ → Bool) (front : List ℕ) (x : ℕ) (back : List ℕ) → ((w : ℕ) → In w front → p w ≡ false) → p x ≡ true
+    → take (placeOf p (front ++ (x ∷ back)) + 1) (front ++ (x ∷ back)) ≡ front ++ (x ∷ [])
+up-to-first p front x back f h = ap (λ (k : ℕ). take (k + 1) (front ++ (x ∷ back))) (place-is p front x back f h) ∙ take-append-add front (x ∷ back) 1
 
 -- x and y as neighbours, in either order
 abbrev isPair : ℕ → ℕ → ℕ → ℕ → Bool

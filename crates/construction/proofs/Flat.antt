@@ -196,10 +196,6 @@ pub flat-place : (before : List Path) (L : Path) (behind : List Path) → flatte
 flat-place before L behind = flatten-append before (L ∷ behind)
 
 -- A PATH LISTED FROM ITS OTHER END.
-pub rev-rev : (l : List ℕ) → rev (rev l) ≡ l
-rev-rev [] = refl
-rev-rev (a ∷ l) = rev-end (rev l) a ∙ ap (λ (k : List ℕ). a ∷ k) (rev-rev l)
-
 pub rev-vertices : (P : Path) → rev (vertices P) ≡ vertices (reversed P)
 rev-vertices P = ap (λ (k : List ℕ). k ++ (P .s ∷ [])) (rev-end (P .inner) (P .t))
 

@@ -1,6 +1,7 @@
 pub mod Basics
 pub mod SetLaws
 pub mod Places
+pub mod Near
 pub mod Visits
 pub mod SpanningTree
 pub mod Searching
@@ -14,6 +15,7 @@ pub mod ThreePaths
 pub mod StartLaws
 pub mod StepLaws
 pub mod Finding
+pub mod Leaving
 pub mod Reroutes
 pub mod LinkSteps
 pub mod OutSteps

@@ -24,7 +24,8 @@ use Rattle.graph.specs.Rows.{rowsGraph}
 use Rattle.construction.proofs.Basics.{Drawn, Sized, On, Asked, Met, Shut}
 use Rattle.construction.proofs.SetLaws.{sized-single, sized-pair, sized-minus, on-low, single-on, on-single, pair-on, on-pair, minus-on, on-minus}
 use Rattle.construction.proofs.Searching.{explored}
-use Rattle.construction.proofs.Flat.{rev-rev, rev-vertices, path-reversed}
+use Rattle.construction.proofs.Places.{rev-rev}
+use Rattle.construction.proofs.Flat.{rev-vertices, path-reversed}
 use Rattle.vertexset.specs.Set.{capacity}
 
 -- ---- the edges of a path at one of its vertices

@@ -22,7 +22,8 @@ use Rattle.construction.specs.Steps.{State, state, segment, turned, putI
 use Rattle.graph.specs.Rows.{rowsGraph}
 use Rattle.construction.proofs.Basics.{Drawn, On, flatten}
 use Rattle.construction.proofs.SetLaws.{sized-all, on-low, all-on, on-all, rev-same}
-use Rattle.construction.proofs.Flat.{newestFirst, Placed, placed, ends-kept, ConsecutiveAt, consecutive-at, flat-place, rev-rev}
+use Rattle.construction.proofs.Flat.{newestFirst, Placed, placed, ends-kept, ConsecutiveAt, consecutive-at, flat-place}
+use Rattle.construction.proofs.Places.{rev-rev}
 use Rattle.construction.proofs.StepLaws.{Going, Stepped, goes, room}
 use Rattle.vertexset.specs.Set.{capacity}
 

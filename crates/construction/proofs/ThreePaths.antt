@@ -20,7 +20,7 @@ use Rattle.vertexset.specs.Set.{capacity}
 use Rattle.construction.specs.Start.{threePaths}
 use Rattle.graph.specs.Rows.{rowsGraph}
 use Rattle.construction.proofs.Basics.{Drawn, Sized, On}
-use Rattle.construction.proofs.Flat.{rev-rev}
+use Rattle.construction.proofs.Places.{rev-rev}
 use Rattle.construction.proofs.Table.{tableOf, table-used, used-table, table-drawn}
 use Rattle.construction.proofs.LinksIn.{edges-rev}
 use Rattle.construction.proofs.LinkOrder.{Room, add-room, InOrder, in-order}

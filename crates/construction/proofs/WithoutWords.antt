@@ -14,17 +14,17 @@ use Rattle.reading.specs.Code.{graphOf}
 use Rattle.reading.proofs.Adjacency.{adjacent-listed}
 use Rattle.connectivity.specs.Lists.{below}
 use Rattle.connectivity.specs.Graph.{listed}
-use Rattle.construction.specs.Sets.{lastOf, placeOf}
+use Rattle.construction.specs.Sets.{minus, lastOf, placeOf}
 use Rattle.construction.specs.Search.{Reach}
 use Rattle.construction.specs.Ears.{Cut, noCut, Found, Eared, eared}
 use Rattle.construction.specs.Start.{Begun}
-use Rattle.construction.specs.Steps.{State, stopped, extended, segment, offLink, linkTaken, linkStep, pairPlace, turned, besidePlace, reroute, outTaken, outStep, innerPlace, step, steps, build, addEdges, addRows, finish}
+use Rattle.construction.specs.Steps.{State, stopped, extended, segment, offLink, upTo, linkTaken, runEnd, linkStep, pairPlace, turned, besidePlace, reroute, outTaken, outStep, innerPlace, step, steps, build, addEdges, addRows, finish}
 use Rattle.construction.specs.Certificate as by-rows
 use Rattle.construction.specs.Certificate.{pairsFrom}
 use Rattle.construction.specs.Construction as plain
 use Rattle.construction.specs.Construction.{codeBounds, certificateNumbers}
 use Rattle.construction.proofs.PlanLaws.{plan-drawn}
-use Rattle.construction.proofs.Standing.{Stands, Draws, choice, row-stands, empty-stands, minus-stands, inserted-stands, single-stands, pair-stands, all-stands, set-stands, members-from, members-same, count-same, empty-same, marked-drawn}
+use Rattle.construction.proofs.Standing.{Stands, Draws, choice, row-stands, empty-stands, minus-stands, inserted-stands, single-stands, pair-stands, all-stands, set-stands, near-stands, members-from, members-same, count-same, empty-same, marked-drawn}
 use Rattle.construction.proofs.SameAnswers.{SameReach, SameCut, SameFound, SameEared, SameBegun, SameState, no-cut, cut-same, add-same, answered-same, explore-same, detour-same, ears-same, begin-same}
 
 -- ---- further paths
@@ -42,8 +42,13 @@ extended-same h p e = record {
   cutBy = no-cut;
 }
 
-taken-same : {s : State} {t : plain.State} {i k : ℕ} {f : Found} {g : plain.Found} → SameState s t → i ≡ k → SameFound f g → SameState (linkTaken s i f) (plain.linkTaken codeBounds t k g)
-taken-same h e f = choice SameState (cut-same (f .cutBy)) (stopped-same h (f .cutBy)) (extended-same h (f .path) e)
+up-to-same : {a : VertexSet} {p : ℕ → Bool} {l m : List ℕ} → Stands a p → l ≡ m → upTo a l ≡ plain.upTo p m
+up-to-same h e = λ i. plain.upTo (h .same i) (e i)
+
+taken-same : {s : State} {t : plain.State} {i k j l : ℕ} {f : Found} {g : plain.Found} → SameState s t → i ≡ k → j ≡ l → SameFound f g → SameState (linkTaken s i j f) (plain.linkTaken codeBounds t k l g)
+taken-same h e d f =
+    let inner = set-stands (λ i. segment (h .flat i) (e i) (d i)) in
+    choice SameState (cut-same (f .cutBy)) (stopped-same h (f .cutBy)) (extended-same h (up-to-same inner (f .path)) e)
 
 reroute-same : {s : State} {t : plain.State} {p q : List ℕ} {k l : ℕ} → SameState s t → p ≡ q → k ≡ l → SameState (reroute s p k) (plain.reroute codeBounds t q l)
 reroute-same h p e = record {
@@ -60,13 +65,15 @@ module _ {rows : List ℕ} {adj : ℕ → ℕ → Bool} (d : Draws rows adj) whe
   off-same h e f =
       let inner = set-stands (λ i. segment (h .flat i) (e i) (f i)) in
       let ends = pair-stands (λ i. getD (h .flat i) (e i - 1) 0) (λ i. getD (h .flat i) (f i) 0) in
-      answered-same (explore-same d inner (minus-stands (minus-stands (h .built) inner) ends) ends) ends refl
+      let seeds = pair-stands (λ i. getD (h .flat i) (e i) 0) (λ i. getD (h .flat i) (f i - 1) 0) in
+      answered-same (explore-same d seeds (minus-stands (minus-stands (h .built) inner) ends) ends) ends refl
 
   link-step-same : {s : State} {t : plain.State} {i k : ℕ} → SameState s t → i ≡ k → SameState (linkStep rows s i) (plain.linkStep codeBounds adj t k)
   unfolding linkStep plain.linkStep
-  link-step-same h e =
+  link-step-same {s} {t} {i} {k} h e =
       let inner = minus-stands (h .built) (h .branch) in
-      taken-same h e (off-same h e (λ i. e i + placeOf (λ v. not (inner .same i v)) (drop (e i) (h .flat i))))
+      let behind : runEnd (s .flat) (minus (s .built) (s .branch)) i ≡ plain.runEnd codeBounds (t .flat) (plain.minus (t .built) (t .branch)) k = λ z. e z + placeOf (λ v. not (inner .same z v)) (drop (e z) (h .flat z)) in
+      taken-same h e behind (off-same h e behind)
 
   beside-same : {x y z w : ℕ} {f g : List ℕ} → x ≡ z → y ≡ w → f ≡ g → besidePlace rows x y f ≡ plain.besidePlace codeBounds adj z w g
   beside-same x y f = λ i. cond (d .same i (x i) (y i)) (pairPlace (x i) (y i) (f i)) (length (f i))
@@ -80,7 +87,7 @@ module _ {rows : List ℕ} {adj : ℕ → ℕ → Bool} (d : Draws rows adj) whe
   module _ {full : VertexSet} {p : ℕ → Bool} (hf : Stands full p) where
     out-step-same : {s : State} {t : plain.State} → SameState s t → SameState (outStep rows full s) (plain.outStep codeBounds adj p t)
     unfolding outStep plain.outStep
-    out-step-same h = choice SameState (empty-same (minus-stands hf (h .built))) (stopped-same h no-cut) (out-taken-same h (detour-same d hf (h .built)))
+    out-step-same h = choice SameState (empty-same (minus-stands hf (h .built))) (stopped-same h no-cut) (out-taken-same h (detour-same d (near-stands d (h .built)) (h .built)))
 
     step-same : {s : State} {t : plain.State} → SameState s t → SameState (step rows full s) (plain.step codeBounds adj p t)
     unfolding step plain.step

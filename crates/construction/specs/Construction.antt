@@ -111,6 +111,10 @@ minus a c = λ x. a x && not (c x)
 abbrev pub common : VertexSet → VertexSet → VertexSet
 common a c = λ x. a x && c x
 
+-- a path is listed from its goal: it ends at the first vertex that is in the set
+abbrev pub upTo : VertexSet → List ℕ → List ℕ
+upTo set path = take (placeOf set path + 1) path
+
 -- no edges
 abbrev pub bare : ℕ → ℕ → Bool
 bare = λ x y. false
@@ -200,11 +204,13 @@ module _ (b : Bounds) where
   abbrev pub answered : Reach → VertexSet → List ℕ → Found
   answered r removed more = cond (isFound r) (found (route r ++ more)) (failed removed (reached r removed))
 
-  -- the first of the listed vertices with a neighbour in the set, and the least such neighbour: (inside, outside)
-  unfoldable pub wayOut : (ℕ → ℕ → Bool) → VertexSet → List ℕ → ℕ × ℕ
-  wayOut adj set [] = (capacity, capacity)
-  wayOut adj set (c ∷ l) =
-      cond (ltb (least (common (adj c) set)) capacity) (least (common (adj c) set), c) (wayOut adj set l)
+  -- the neighbours of the members of a set
+  abbrev pub near : (ℕ → ℕ → Bool) → VertexSet → VertexSet
+  near adj set = λ w. any (λ v. set v && adj v w) (below capacity)
+
+  -- the least vertex outside a set that is near it, and its least neighbour inside: (inside, outside); capacity where there is none
+  abbrev pub wayOut : (ℕ → ℕ → Bool) → VertexSet → VertexSet → ℕ × ℕ
+  wayOut adj near set = (least (common (adj (least (minus near set))) set), least (minus near set))
 
   -- OUT AND BACK: an edge from x in the set to c outside, and from c back to another vertex of the set; listed from there: .., c, x
   abbrev pub backFrom : (ℕ → ℕ → Bool) → VertexSet → ℕ × ℕ → Found
@@ -214,7 +220,7 @@ module _ (b : Bounds) where
       (failed emptySet set)
 
   unfoldable pub detour : (ℕ → ℕ → Bool) → VertexSet → VertexSet → Found
-  detour adj full set = backFrom adj set (wayOut adj set (members (minus full set)))
+  detour adj near set = backFrom adj set (wayOut adj near set)
 
   -- A CYCLE THROUGH VERTEX 0, listed from one neighbour to the least one, and then 0
   unfoldable pub cycle : (ℕ → ℕ → Bool) → Found
@@ -236,9 +242,9 @@ module _ (b : Bounds) where
   earsOn adj full (suc f) flat k set =
       cond (empty (minus full set))
       (eared flat k noCut)
-      (cond (isCut (detour adj full set .cutBy))
-      (eared flat k (detour adj full set .cutBy))
-      (earsOn adj full f (addPath flat (detour adj full set .path)) (k + 1) (withAll set (detour adj full set .path))))
+      (cond (isCut (detour adj (near adj set) set .cutBy))
+      (eared flat k (detour adj (near adj set) set .cutBy))
+      (earsOn adj full f (addPath flat (detour adj (near adj set) set .path)) (k + 1) (withAll set (detour adj (near adj set) set .path))))
 
   -- EARS
   unfoldable pub ears : (ℕ → ℕ → Bool) → VertexSet → Eared
@@ -315,23 +321,25 @@ module _ (b : Bounds) where
   extended st path at =
       state (addPath (st .flat) path) (inserted (inserted (st .branch) (getD path 0 0)) (lastOf path)) (withAll (st .built) path) at
 
-  -- (a) A LINK WITH INNER VERTICES stands at the places i - 1 to j: from inside it to the rest of the build, without its ends.
+  -- (a) A LINK WITH INNER VERTICES stands at the places i - 1 to j: a search from its two outermost inner vertices to the rest of the build, without
+  -- its ends. It may run along the link before it leaves it: of the path only what lies beyond the last vertex inside the link is taken, and that vertex.
   abbrev pub linkEnds : List ℕ → ℕ → ℕ → VertexSet
   linkEnds flat i j = pair (getD flat (i - 1) 0) (getD flat j 0)
 
   abbrev pub offLink : (ℕ → ℕ → Bool) → State → ℕ → ℕ → Found
   offLink adj st i j =
-      answered (explore adj (setOf (segment (st .flat) i j)) (minus (minus (st .built) (setOf (segment (st .flat) i j))) (linkEnds (st .flat) i j)) (linkEnds (st .flat) i j))
+      answered (explore adj (pair (getD (st .flat) i 0) (getD (st .flat) (j - 1) 0)) (minus (minus (st .built) (setOf (segment (st .flat) i j))) (linkEnds (st .flat) i j)) (linkEnds (st .flat) i j))
       (linkEnds (st .flat) i j) []
 
-  abbrev pub linkTaken : State → ℕ → Found → State
-  linkTaken st i f = cond (isCut (f .cutBy)) (stopped st (f .cutBy)) (extended st (f .path) i)
+  abbrev pub linkTaken : State → ℕ → ℕ → Found → State
+  linkTaken st i j f = cond (isCut (f .cutBy)) (stopped st (f .cutBy)) (extended st (upTo (setOf (segment (st .flat) i j)) (f .path)) i)
 
   abbrev pub runEnd : List ℕ → VertexSet → ℕ → ℕ
   runEnd flat inner i = i + placeOf (λ v. not (inner v)) (drop i flat)
 
   unfoldable pub linkStep : (ℕ → ℕ → Bool) → State → ℕ → State
-  linkStep adj st i = linkTaken st i (offLink adj st i (runEnd (st .flat) (minus (st .built) (st .branch)) i))
+  linkStep adj st i =
+      linkTaken st i (runEnd (st .flat) (minus (st .built) (st .branch)) i) (offLink adj st i (runEnd (st .flat) (minus (st .built) (st .branch)) i))
 
   -- (b) OUT AND BACK: y, .., c, x. Where x and y are neighbours on a path, the new vertices are put in between them.
   abbrev pub besidePlace : (ℕ → ℕ → Bool) → ℕ → ℕ → List ℕ → ℕ
@@ -353,7 +361,7 @@ module _ (b : Bounds) where
       (extended st (f .path) (length (st .flat))))
 
   unfoldable pub outStep : (ℕ → ℕ → Bool) → VertexSet → State → State
-  outStep adj full st = cond (empty (minus full (st .built))) (stopped st noCut) (outTaken adj st (detour adj full (st .built)))
+  outStep adj full st = cond (empty (minus full (st .built))) (stopped st noCut) (outTaken adj st (detour adj (near adj (st .built)) (st .built)))
 
   -- ONE STEP
   abbrev pub innerPlace : State → ℕ

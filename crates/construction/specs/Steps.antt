@@ -11,7 +11,7 @@ use Rattle.graph.specs.Rows.{adjacentIn, rowOf, bareRows}
 use Rattle.connectivity.specs.Lists.{below}
 use Rattle.construction.specs.Sets.{minus, pair, withAll, setOf, membersFrom, empty, reversed, lastOf, placeOf}
 use Rattle.construction.specs.Search.{explore}
-use Rattle.construction.specs.Ears.{Cut, noCut, isCut, Found, answered, detour, pathSpace, addPath}
+use Rattle.construction.specs.Ears.{Cut, noCut, isCut, Found, answered, near, detour, pathSpace, addPath}
 use Rattle.construction.specs.Start.{Begun, marked}
 
 -- A build in the making: its whole paths, the oldest first, a stop before each; its branch vertices and all its vertices; the
@@ -35,7 +35,8 @@ abbrev pub extended : State → List ℕ → ℕ → State
 extended st path at =
     state (addPath (st .flat) path) (inserted (inserted (st .branch) (getD path 0 0)) (lastOf path)) (withAll (st .built) path) at
 
--- (a) A LINK WITH INNER VERTICES stands at the places i - 1 to j: from inside it to the rest of the build, without its ends.
+-- (a) A LINK WITH INNER VERTICES stands at the places i - 1 to j: a search from its two outermost inner vertices to the rest of the build, without
+-- its ends. It may run along the link before it leaves it: of the path only what lies beyond the last vertex inside the link is taken, and that vertex.
 abbrev pub segment : List ℕ → ℕ → ℕ → List ℕ
 segment l i j = take (j - i) (drop i l)
 
@@ -44,17 +45,22 @@ linkEnds flat i j = pair (getD flat (i - 1) 0) (getD flat j 0)
 
 abbrev pub offLink : List ℕ → State → ℕ → ℕ → Found
 offLink rows st i j =
-    answered (explore rows (setOf (segment (st .flat) i j)) (minus (minus (st .built) (setOf (segment (st .flat) i j))) (linkEnds (st .flat) i j)) (linkEnds (st .flat) i j))
+    answered (explore rows (pair (getD (st .flat) i 0) (getD (st .flat) (j - 1) 0)) (minus (minus (st .built) (setOf (segment (st .flat) i j))) (linkEnds (st .flat) i j)) (linkEnds (st .flat) i j))
     (linkEnds (st .flat) i j) []
 
-abbrev pub linkTaken : State → ℕ → Found → State
-linkTaken st i f = cond (isCut (f .cutBy)) (stopped st (f .cutBy)) (extended st (f .path) i)
+-- a path is listed from its goal: it ends at the first vertex that is in the set
+abbrev pub upTo : VertexSet → List ℕ → List ℕ
+upTo set path = take (placeOf (has (set .words)) path + 1) path
+
+abbrev pub linkTaken : State → ℕ → ℕ → Found → State
+linkTaken st i j f = cond (isCut (f .cutBy)) (stopped st (f .cutBy)) (extended st (upTo (setOf (segment (st .flat) i j)) (f .path)) i)
 
 abbrev pub runEnd : List ℕ → VertexSet → ℕ → ℕ
 runEnd flat inner i = i + placeOf (λ v. not (has (inner .words) v)) (drop i flat)
 
 unfoldable pub linkStep : List ℕ → State → ℕ → State
-linkStep rows st i = linkTaken st i (offLink rows st i (runEnd (st .flat) (minus (st .built) (st .branch)) i))
+linkStep rows st i =
+    linkTaken st i (runEnd (st .flat) (minus (st .built) (st .branch)) i) (offLink rows st i (runEnd (st .flat) (minus (st .built) (st .branch)) i))
 
 -- (b) OUT AND BACK: y, .., c, x. Where x and y are neighbours on a path, the new vertices are put in between them.
 unfoldable pub pairPlace : ℕ → ℕ → List ℕ → ℕ
@@ -86,7 +92,7 @@ outTaken rows st f =
     (extended st (f .path) (length (st .flat))))
 
 unfoldable pub outStep : List ℕ → VertexSet → State → State
-outStep rows full st = cond (empty (minus full (st .built))) (stopped st noCut) (outTaken rows st (detour rows full (st .built)))
+outStep rows full st = cond (empty (minus full (st .built))) (stopped st noCut) (outTaken rows st (detour rows (near rows (st .built)) (st .built)))
 
 -- ONE STEP
 abbrev pub innerPlace : State → ℕ

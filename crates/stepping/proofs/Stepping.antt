@@ -2,19 +2,21 @@
 use Prim.Native.Nat.{ℕ, zero, suc, _+_, _-_, _≤_, _<_}
 use mathlib.Core.Path.{_≡_, refl, sym, ap, subst, _∙_}
 use mathlib.Core.Bool.{Bool, true, false, cond, not}
-use mathlib.Core.List.{List, [], _∷_}
+use mathlib.Core.List.{List, []}
 use native.Mathlib.Omega.{arith}
 use lib.Dec.{ltb}
 use lib.ListN.{length, take, drop, getD, length-drop}
+use lib.Seq.{take-all}
 use borrow.Author.Tests.{lt-ltb, le-ltb}
-use Rattle.vertexset.specs.Set.{emptySet}
+use Rattle.vertexset.specs.Set.{has, emptySet}
 use Rattle.vertexset.specs.declared.VertexSet.{VertexSet}
 use Rattle.search.specs.Code.{pathRoom}
-use Rattle.construction.specs.Sets.{pair, withAll, minus, lastOf, placeOf, empty}
+use Rattle.construction.specs.Sets.{pair, withAll, setOf, minus, lastOf, placeOf, empty}
 use Rattle.construction.specs.Search.{explore}
 use Rattle.construction.specs.Ears as construction
 use Rattle.construction.specs.Ears.{noCut, isCut, answered, detour}
-use Rattle.construction.specs.Steps.{State, state, stopped, extended, segment, offLink, linkTaken, runEnd, linkStep, besidePlace, reroute, outTaken, outStep, innerPlace, step, steps}
+use Rattle.construction.specs.Steps.{State, state, stopped, extended, segment, offLink, upTo, runEnd, linkStep, besidePlace, reroute, outTaken, outStep, innerPlace, step, steps}
+use Rattle.construction.proofs.Finding.{place-within}
 use Rattle.detours.specs.Code.{cutOf, cutIn, foundOf, Kept}
 use Rattle.detours.specs.declared.Cut.{Cut}
 use Rattle.detours.specs.declared.Found.{Found}
@@ -38,38 +40,49 @@ cut-test x e q t = ap (λ (y : Cut). isCut (cutIn y)) (sym e) ∙ sym q ∙ t
 
 -- ---- (a) from inside a link
 
-pub off-found : (rows list : List ℕ) (built : VertexSet) (i j : ℕ) {u v p : ℕ} {ends none inner rest goals : VertexSet} → p ≡ i - 1 → u ≡ getD list p 0 → v ≡ getD list j 0
-    → ends ≡ pair u v → none ≡ emptySet → inner ≡ withAll none (segment list i j) → rest ≡ minus built inner → goals ≡ minus rest ends
-    → answered (explore rows inner goals ends) ends [] ≡ offLink rows (state list built built 0) i j
-off-found rows list built i j p u v e n s r g = rw (g, r, s, n, e, u, v, p)
+pub off-found : (rows list : List ℕ) (built : VertexSet) (i j : ℕ) {p q a b u v : ℕ} {ends seeds inner rest goals : VertexSet} → p ≡ i - 1 → a ≡ getD list p 0 → b ≡ getD list j 0 → ends ≡ pair a b
+    → u ≡ getD list i 0 → q ≡ j - 1 → v ≡ getD list q 0 → seeds ≡ pair u v → inner ≡ setOf (segment list i j) → rest ≡ minus built inner → goals ≡ minus rest ends
+    → answered (explore rows seeds goals ends) ends [] ≡ offLink rows (state list built built 0) i j
+off-found rows list built i j p a b e u q v s n r g = rw (g, r, n, s, v, q, u, e, b, a, p)
 
-place-within : (p : ℕ → Bool) (l : List ℕ) → placeOf p l ≤ length l
-unfolding placeOf
-place-within p [] = omega arith
-place-within p (a ∷ l) = go (p a) (place-within p l)
-  where
-    go : (b : Bool) → placeOf p l ≤ length l → cond b 0 (placeOf p l + 1) ≤ suc (length l)
-    go true h = omega arith
-    go false h = omega arith
+-- a path up to a set
+module _ (path : List ℕ) (set : VertexSet) {k : ℕ} (e : k ≡ 0 + placeOf (sideOf set true) (drop 0 path)) where
+  pub up-to-part : take (k + 1 - 0) (drop 0 path) ≡ upTo set path
+  up-to-part = let z : k + 1 - 0 ≡ placeOf (has (set .words)) path + 1 = omega (arith, e) in rw z
 
--- the way off the link that stands at the place i
+  pub up-to-all : length path ≤ k → path ≡ upTo set path
+  up-to-all h = sym (take-all (placeOf (has (set .words)) path + 1) path (omega (arith, e)))
+
+pub set-made : (l : List ℕ) {none set : VertexSet} → none ≡ emptySet → set ≡ withAll none l → set ≡ setOf l
+set-made l n e = e ∙ ap (λ (s : VertexSet). withAll s l) n
+
+-- the way off the link that stands at the place i, and the vertices inside the link
 unfoldable pub linkWay : List ℕ → State → ℕ → construction.Found
 linkWay rows st i = offLink rows st i (runEnd (st .flat) (minus (st .built) (st .branch)) i)
 
-link-taken : (rows : List ℕ) (st : State) (i : ℕ) → linkTaken st i (linkWay rows st i) ≡ linkStep rows st i
-unfolding linkWay linkStep
+unfoldable pub linkInner : State → ℕ → VertexSet
+linkInner st i = setOf (segment (st .flat) i (runEnd (st .flat) (minus (st .built) (st .branch)) i))
+
+link-taken : (rows : List ℕ) (st : State) (i : ℕ)
+    → cond (isCut (linkWay rows st i .cutBy)) (stopped st (linkWay rows st i .cutBy)) (extended st (upTo (linkInner st i) (linkWay rows st i .path)) i) ≡ linkStep rows st i
+unfolding linkWay linkInner linkStep
 link-taken rows st i = refl
 
 module _ (rows flat : List ℕ) (b : Progress) (kept : Kept flat (b .len)) (i : ℕ) where
-  pub link-end : (inner : VertexSet) {j : ℕ} → i ≤ b .len → j ≡ i + placeOf (sideOf inner false) (drop i (front flat (b .len))) → (i ≤ j) × (j ≤ length (front flat (b .len)))
-  link-end inner h e =
-      let n : length (front flat (b .len)) ≡ b .len = ap length (front-take flat (b .len)) ∙ kept-size flat (b .len) kept in
-      omega (arith, place-within (sideOf inner false) (drop i (front flat (b .len))), length-drop i (front flat (b .len)))
+  -- j is the place behind the link's inner vertices
+  module _ {inside : VertexSet} {j : ℕ} (a : inside ≡ minus (b .built) (b .branch)) (e : j ≡ i + placeOf (sideOf inside false) (drop i (front flat (b .len)))) where
+    pub link-end : i ≤ b .len → (i ≤ j) × (j ≤ length (front flat (b .len)))
+    link-end h =
+        let n : length (front flat (b .len)) ≡ b .len = ap length (front-take flat (b .len)) ∙ kept-size flat (b .len) kept in
+        omega (arith, place-within (sideOf inside false) (drop i (front flat (b .len))), length-drop i (front flat (b .len)))
 
-  pub link-found : {inner : VertexSet} {j : ℕ} {f : Found} → inner ≡ minus (b .built) (b .branch) → j ≡ i + placeOf (sideOf inner false) (drop i (front flat (b .len)))
-      → f ≡ foundOf (offLink rows (state (front flat (b .len)) (b .built) (b .built) 0) i j) → f ≡ foundOf (linkWay rows (stateIn flat b) i)
-  unfolding linkWay
-  link-found a e q = q ∙ rw (e, a, front-take flat (b .len))
+    pub link-inner : {inner : VertexSet} → inner ≡ setOf (segment (front flat (b .len)) i j) → inner ≡ linkInner (stateIn flat b) i
+    unfolding linkInner
+    link-inner q = q ∙ rw (e, a, front-take flat (b .len))
+
+    pub link-found : {f : Found} → f ≡ foundOf (offLink rows (state (front flat (b .len)) (b .built) (b .built) 0) i j) → f ≡ foundOf (linkWay rows (stateIn flat b) i)
+    unfolding linkWay
+    link-found q = q ∙ rw (e, a, front-take flat (b .len))
 
   module _ {f : Found} (e : f ≡ foundOf (linkWay rows (stateIn flat b) i)) where
     way-cut : f .cut ≡ cutOf (linkWay rows (stateIn flat b) i .cutBy)
@@ -81,12 +94,12 @@ module _ (rows flat : List ℕ) (b : Progress) (kept : Kept flat (b .len)) (i : 
         let w : stopped (stateIn flat b) (linkWay rows (stateIn flat b) i .cutBy) ≡ linkStep rows (stateIn flat b) i = rw (← link-taken rows (stateIn flat b) i, h) in
         subst (λ (st : State). Shows flat r st) w (stops flat b kept (linkWay rows (stateIn flat b) i .cutBy) way-cut q)
 
-    pub link-goes : {y : Bool} → y ≡ isCut (cutIn (f .cut)) → y ≡ false → {l : List ℕ} → l ≡ pathPart f → {out : List ℕ} {r : Progress} → Shows out r (extended (stateIn flat b) l i)
-        → Shows out r (linkStep rows (stateIn flat b) i)
-    link-goes c t q {out} {r} s =
+    pub link-goes : {y : Bool} → y ≡ isCut (cutIn (f .cut)) → y ≡ false → {inner : VertexSet} → inner ≡ linkInner (stateIn flat b) i → {path l : List ℕ} → path ≡ pathPart f → l ≡ upTo inner path
+        → {out : List ℕ} {r : Progress} → Shows out r (extended (stateIn flat b) l i) → Shows out r (linkStep rows (stateIn flat b) i)
+    link-goes c t n q u {out} {r} s =
         let h : isCut (linkWay rows (stateIn flat b) i .cutBy) ≡ false = cut-test (linkWay rows (stateIn flat b) i .cutBy) way-cut c t in
-        let w : extended (stateIn flat b) (linkWay rows (stateIn flat b) i .path) i ≡ linkStep rows (stateIn flat b) i = rw (← link-taken rows (stateIn flat b) i, h) in
-        subst (λ (st : State). Shows out r st) (ap (λ (l : List ℕ). extended (stateIn flat b) l i) (q ∙ part-is f (linkWay rows (stateIn flat b) i) e) ∙ w) s
+        let w : extended (stateIn flat b) (upTo (linkInner (stateIn flat b) i) (linkWay rows (stateIn flat b) i .path)) i ≡ linkStep rows (stateIn flat b) i = rw (← link-taken rows (stateIn flat b) i, h) in
+        subst (λ (st : State). Shows out r st) (ap (λ (l : List ℕ). extended (stateIn flat b) l i) (u ∙ (λ z. upTo (n z) ((q ∙ part-is f (linkWay rows (stateIn flat b) i) e) z))) ∙ w) s
 
 -- ---- (b) out and back
 

@@ -6,8 +6,8 @@ ghost use Prim.Native.Nat.{_+_, _-_, _≤_, _<_};
 ghost use lib.ListN.{length, take, drop};
 ghost use Rattle.graph.specs.Limits.{maxEdges};
 ghost use Rattle.search.specs.Code.{pathOf, pathRoom, searchSpace};
-ghost use Rattle.construction.specs.Sets.{membersFrom, reversed, placeOf};
-ghost use Rattle.construction.specs.Steps.{state, extended, offLink, linkStep, turned, pairPlace, besidePlace, reroute, outStep, step, steps, addEdges, finish};
+ghost use Rattle.construction.specs.Sets.{setOf, membersFrom, reversed, placeOf};
+ghost use Rattle.construction.specs.Steps.{state, extended, segment, offLink, upTo, linkStep, turned, pairPlace, besidePlace, reroute, outStep, step, steps, addEdges, finish};
 ghost use Rattle.detours.specs.Code.{foundOf, Kept, FlatShows};
 ghost use Rattle.stepping.specs.Code.{sideOf, hasPair, putBetween, putBetweenEnd, stateIn, Shows, builtIn};
 use detours::Cut;
@@ -60,24 +60,39 @@ fn before(i: usize) -> usize
     i - 1
 }
 
-// (a) From inside the link at the places i - 1 to j to the rest of the build, without the link's ends.
+// (a) From the two outermost inner vertices of the link at the places i - 1 to j to the rest of the build, without the link's ends.
 fn off_link<'a>(
     rows: &'a [u64; GraphTable::ROW_WORDS],
     space: &'a mut [u16],
     list: &'a [u16],
     built: VertexSet,
+    inner: VertexSet,
     i: usize,
     j: usize,
 ) -> Found
-    requires { ⌜ (length (now space) ≡ searchSpace) × ((i ≤ j) × (j ≤ length (now list))) ⌝ }
+    requires { ⌜ (length (now space) ≡ searchSpace) × (inner ≡ setOf (segment (now list) i j)) ⌝ }
     ensures { λ r. ⌜ r ≡ foundOf (offLink (now (rows .entry)) (state (now (list .entry)) built built 0) i j) ⌝ }
 {
     let ends = detours::pair(
         detours::number_at(list, before(i)),
         detours::number_at(list, j),
     );
-    let inner = detours::with_all(VertexSet::empty(), &list[i..j]);
-    detours::find(rows, space, inner, built.minus(inner).minus(ends), ends)
+    let seeds = detours::pair(
+        detours::number_at(list, i),
+        detours::number_at(list, before(j)),
+    );
+    detours::find(rows, space, seeds, built.minus(inner).minus(ends), ends)
+}
+
+// A path up to its first vertex in the set; all where none is.
+fn up_to<'a>(path: &'a [u16], set: VertexSet) -> &'a [u16]
+    ensures { λ r. ⌜ now r ≡ upTo set (now (path .entry)) ⌝ }
+{
+    let k = place_of(path, set, true, 0);
+    if k < path.len() {
+        return &path[0..k + 1];
+    }
+    path
 }
 
 fn stopped(b: Progress, c: Cut) -> Progress
@@ -128,13 +143,16 @@ fn link_step<'a>(
     let len = b.len;
     let built = b.built;
     let branch = b.branch;
-    let j = place_of(&flat[0..len], built.minus(branch), false, i);
-    let f = off_link(rows, space, &flat[0..len], built, i, j);
+    let list = &flat[0..len];
+    let j = place_of(list, built.minus(branch), false, i);
+    let inner = detours::with_all(VertexSet::empty(), &list[i..j]);
+    let f = off_link(rows, space, list, built, inner, i, j);
     let c = f.cut;
     if c.is_cut() {
         return stopped(b, c);
     }
-    extend(flat, b, detours::front(&f.path.vertices, f.path.count), i)
+    let path = detours::front(&f.path.vertices, f.path.count);
+    extend(flat, b, up_to(path, inner), i)
 }
 
 // Two vertices stand side by side somewhere in a list. No place ends the loop, so that the compiler takes several at once.
