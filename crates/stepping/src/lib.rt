@@ -9,7 +9,7 @@ ghost use Rattle.search.specs.Code.{pathOf, pathRoom, searchSpace};
 ghost use Rattle.construction.specs.Sets.{setOf, membersFrom, reversed, placeOf};
 ghost use Rattle.construction.specs.Steps.{state, extended, segment, offLink, upTo, linkStep, turned, pairPlace, besidePlace, reroute, outStep, step, steps, addEdges, finish};
 ghost use Rattle.detours.specs.Code.{foundOf, Kept, FlatShows};
-ghost use Rattle.stepping.specs.Code.{sideOf, hasPair, putBetween, putBetweenEnd, stateIn, Shows, builtIn};
+ghost use Rattle.stepping.specs.Code.{sideOf, hasPair, putBetween, putBetweenEnd, stateIn, Holds, Shows, builtIn};
 use detours::Cut;
 use detours::Ears;
 use detours::Found;
@@ -29,6 +29,8 @@ pub struct Built {
 struct Progress {
     branch: VertexSet,
     built: VertexSet,
+    // the neighbours of what is built
+    near: VertexSet,
     len: usize,
     // no inner vertex stands before this place
     at: usize,
@@ -96,13 +98,15 @@ fn up_to<'a>(path: &'a [u16], set: VertexSet) -> &'a [u16]
 }
 
 fn stopped(b: Progress, c: Cut) -> Progress
-    ensures { λ r. ⌜ r ≡ record { branch = b .branch; built = b .built; len = b .len; at = b .at; going = false; cut = c } ⌝ }
+    ensures { λ r. ⌜ r ≡ record { branch = b .branch; built = b .built; near = b .near; len = b .len; at = b .at; going = false; cut = c } ⌝ }
 {
     let branch = b.branch;
     let built = b.built;
+    let near = b.near;
     Progress {
         branch,
         built,
+        near,
         len: b.len,
         at: b.at,
         going: false,
@@ -111,18 +115,26 @@ fn stopped(b: Progress, c: Cut) -> Progress
 }
 
 // A path is taken in; its ends are, or become, branch vertices.
-fn extend<'a>(flat: &'a mut [u16], b: Progress, path: &'a [u16], at: usize) -> Progress
-    requires { ⌜ Kept (now flat) (b .len) ⌝ }
-    ensures { λ r. ⌜ Shows (now (flat .exit)) r (extended (stateIn (now (flat .entry)) b) (now (path .entry)) at) ⌝ }
+fn extend<'a>(
+    rows: &'a [u64; GraphTable::ROW_WORDS],
+    flat: &'a mut [u16],
+    b: Progress,
+    path: &'a [u16],
+    at: usize,
+) -> Progress
+    requires { ⌜ Holds (now rows) (now flat) b ⌝ }
+    ensures { λ r. ⌜ Shows (now (rows .entry)) (now (flat .exit)) r (extended (stateIn (now (flat .entry)) b) (now (path .entry)) at) ⌝ }
 {
     let len = detours::add_path(flat, b.len, path);
     let branch = b.branch;
     let built = b.built;
+    let near = b.near;
     Progress {
         branch: branch
             .insert(detours::number_at(path, 0))
             .insert(detours::last_of(path)),
         built: detours::with_all(built, path),
+        near: detours::near_all(rows, near, path),
         len,
         at,
         going: true,
@@ -137,8 +149,8 @@ fn link_step<'a>(
     b: Progress,
     i: usize,
 ) -> Progress
-    requires { ⌜ (length (now space) ≡ searchSpace) × (Kept (now flat) (b .len) × (i ≤ b .len)) ⌝ }
-    ensures { λ r. ⌜ Shows (now (flat .exit)) r (linkStep (now (rows .entry)) (stateIn (now (flat .entry)) b) i) ⌝ }
+    requires { ⌜ (length (now space) ≡ searchSpace) × (Holds (now rows) (now flat) b × (i ≤ b .len)) ⌝ }
+    ensures { λ r. ⌜ Shows (now (rows .entry)) (now (flat .exit)) r (linkStep (now (rows .entry)) (stateIn (now (flat .entry)) b) i) ⌝ }
 {
     let len = b.len;
     let built = b.built;
@@ -152,7 +164,7 @@ fn link_step<'a>(
         return stopped(b, c);
     }
     let path = detours::front(&f.path.vertices, f.path.count);
-    extend(flat, b, up_to(path, inner), i)
+    extend(rows, flat, b, up_to(path, inner), i)
 }
 
 // Two vertices stand side by side somewhere in a list. No place ends the loop, so that the compiler takes several at once.
@@ -278,17 +290,25 @@ fn put_between<'a>(flat: &'a mut [u16], len: usize, k: usize, new: &'a [u16]) ->
 }
 
 // The inner vertices of a path are put in between its ends, which stand side by side at the place k.
-fn reroute<'a>(flat: &'a mut [u16], b: Progress, path: &'a [u16], k: usize) -> Progress
-    requires { ⌜ Kept (now flat) (b .len) × ((k < b .len) × (length (now path) ≤ pathRoom)) ⌝ }
-    ensures { λ r. ⌜ Shows (now (flat .exit)) r (reroute (stateIn (now (flat .entry)) b) (now (path .entry)) k) ⌝ }
+fn reroute<'a>(
+    rows: &'a [u64; GraphTable::ROW_WORDS],
+    flat: &'a mut [u16],
+    b: Progress,
+    path: &'a [u16],
+    k: usize,
+) -> Progress
+    requires { ⌜ Holds (now rows) (now flat) b × ((k < b .len) × (length (now path) ≤ pathRoom)) ⌝ }
+    ensures { λ r. ⌜ Shows (now (rows .entry)) (now (flat .exit)) r (reroute (stateIn (now (flat .entry)) b) (now (path .entry)) k) ⌝ }
 {
     let new = turned(path, flat[k]);
     let len = put_between(flat, b.len, k + 1, detours::front(&new.vertices, new.count));
     let branch = b.branch;
     let built = b.built;
+    let near = b.near;
     Progress {
         branch,
         built: detours::with_all(built, path),
+        near: detours::near_all(rows, near, path),
         len,
         at: k + 1,
         going: true,
@@ -304,14 +324,14 @@ fn out_step<'a>(
     flat: &'a mut [u16],
     b: Progress,
 ) -> Progress
-    requires { ⌜ (length (now space) ≡ searchSpace) × Kept (now flat) (b .len) ⌝ }
-    ensures { λ r. ⌜ Shows (now (flat .exit)) r (outStep (now (rows .entry)) full (stateIn (now (flat .entry)) b)) ⌝ }
+    requires { ⌜ (length (now space) ≡ searchSpace) × Holds (now rows) (now flat) b ⌝ }
+    ensures { λ r. ⌜ Shows (now (rows .entry)) (now (flat .exit)) r (outStep (now (rows .entry)) full (stateIn (now (flat .entry)) b)) ⌝ }
 {
     let built = b.built;
     if full.minus(built).is_empty() {
         return stopped(b, Cut::none());
     }
-    let f = detours::detour(rows, space, full, built);
+    let f = detours::detour(rows, space, b.near, built);
     let c = f.cut;
     if c.is_cut() {
         return stopped(b, c);
@@ -325,9 +345,9 @@ fn out_step<'a>(
         detours::number_at(path, 0),
     );
     if k < len {
-        return reroute(flat, b, path, k);
+        return reroute(rows, flat, b, path, k);
     }
-    extend(flat, b, path, len)
+    extend(rows, flat, b, path, len)
 }
 
 // One step: (a) where an inner vertex is left, else (b).
@@ -338,8 +358,8 @@ fn step<'a>(
     flat: &'a mut [u16],
     b: Progress,
 ) -> Progress
-    requires { ⌜ (length (now space) ≡ searchSpace) × Kept (now flat) (b .len) ⌝ }
-    ensures { λ r. ⌜ Shows (now (flat .exit)) r (step (now (rows .entry)) full (stateIn (now (flat .entry)) b)) ⌝ }
+    requires { ⌜ (length (now space) ≡ searchSpace) × Holds (now rows) (now flat) b ⌝ }
+    ensures { λ r. ⌜ Shows (now (rows .entry)) (now (flat .exit)) r (step (now (rows .entry)) full (stateIn (now (flat .entry)) b)) ⌝ }
 {
     let len = b.len;
     let built = b.built;
@@ -359,8 +379,8 @@ fn all_steps<'a>(
     flat: &'a mut [u16],
     first: Progress,
 ) -> Progress
-    requires { ⌜ (length (now space) ≡ searchSpace) × Kept (now flat) (first .len) ⌝ }
-    ensures { λ r. ⌜ Shows (now (flat .exit)) r (steps (now (rows .entry)) full (maxEdges + 1) (stateIn (now (flat .entry)) first)) ⌝ }
+    requires { ⌜ (length (now space) ≡ searchSpace) × Holds (now rows) (now flat) first ⌝ }
+    ensures { λ r. ⌜ Shows (now (rows .entry)) (now (flat .exit)) r (steps (now (rows .entry)) full (maxEdges + 1) (stateIn (now (flat .entry)) first)) ⌝ }
 {
     let mut b = first;
     let mut left = GraphTable::MAX_EDGES + 1;
@@ -427,6 +447,7 @@ pub fn build<'a>(
     let first = Progress {
         branch: four,
         built: detours::with_all(VertexSet::empty(), &flat[0..len]),
+        near: detours::near_all(rows, VertexSet::empty(), &flat[0..len]),
         len,
         at: 0,
         going: true,

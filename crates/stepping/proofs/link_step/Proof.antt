@@ -9,7 +9,7 @@ use Rattle.stepping.proofs.link_step.Tie as tie
 part-list-end : tie.Need-part-list-end
 part-list-end c =
     let s = c .before .before .before .before .before in
-    omega (arith, kept-length (s .args .flat .now) (s .args .b .len) (s .pre .1 .0), s .pre .1 .0 .1)
+    omega (arith, kept-length (s .args .flat .now) (s .args .b .len) (s .pre .1 .0 .kept), s .pre .1 .0 .kept .1)
 
 part-with-all-end : tie.Need-part-with-all-end
 part-with-all-end c =

@@ -9,7 +9,7 @@ use Rattle.stepping.proofs.step.Tie as tie
 part-place-of-end : tie.Need-part-place-of-end
 part-place-of-end c =
     let s = c .before .before .before .before .before in
-    omega (arith, kept-length (s .args .flat .now) (s .args .b .len) (s .pre .1), s .pre .1 .1)
+    omega (arith, kept-length (s .args .flat .now) (s .args .b .len) (s .pre .1 .kept), s .pre .1 .kept .1)
 
 link-step-requires : tie.Need-link-step-requires
 link-step-requires c κs =
