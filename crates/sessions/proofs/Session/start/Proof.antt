@@ -13,16 +13,20 @@ returns c =
 
 returns-2 : tie.Need-returns-2
 returns-2 c =
-    let k = c .before .before .before in
-    let a = k .before .before .before .before .before .before .args in
-    c .unread .ensures ∙ start-refused (a .self) (a .part .now) (not-false _ (k .before .before .before .before .if1 .left)) (k .read-start .ensures) (c .before .enum-told .given .1)
+    let m = c .before in
+    let k = m .before .before in
+    let i = k .before .before .before .before .before .before in
+    let a = i .before .before .args in
+    c .unread .ensures ∙ start-refused (a .self) (a .part .now) (not-false _ (i .if1 .left)) (k .read-start .ensures .0) (k .read-start .ensures .1) (m .match .keys2)
 
 returns-3 : tie.Need-returns-3
 returns-3 c =
-    let k = c .before .before .before .before in
-    let a = k .before .before .before .before .before .before .args in
-    start-accepted (a .self) (a .part .now) (not-false _ (k .before .before .before .before .if1 .left)) (k .read-start .ensures) (c .before .before .end .given .1)
+    let t = c .before in
+    let k = t .before .before .before in
+    let i = k .before .before .before .before .before .before in
+    let a = i .before .before .args in
+    start-accepted (a .self) (a .part .now) (not-false _ (i .if1 .left)) (k .read-start .ensures .0) (k .read-start .ensures .1) (t .enum-told .given .1)
 
 pub start-spec : {M : Type 1} → statement M
 start-spec = tie.close (tie.spec
-    (λ c κs. search needs) returns (λ c κs. search needs) (λ c. search needs) (λ c. search needs) (λ c κs. search needs) returns-2 returns-3)
+    (λ c κs. search needs) returns (λ c κs. search needs) (λ c. search needs) (λ c κs. search needs) returns-2 returns-3)

@@ -7,16 +7,18 @@ use Rattle.sessions.proofs.Session.take.Tie as tie
 
 returns : tie.Need-returns
 returns c =
-    let k = c .before .before .before in
+    let m = c .before in
+    let k = m .before .before in
     let a = k .before .before .before .before .before .before .before .before .before .before .args in
-    c .unread .ensures ∙ due-refused (a .self) (a .part .now) (k .take-path .ensures) (c .before .enum-told .given .1)
+    c .unread .ensures ∙ due-refused (a .self) (a .part .now) (k .take-path .ensures) (m .match .keys2)
 
 returns-2 : tie.Need-returns-2
 returns-2 c =
-    let k = c .before .before .before .before .before in
+    let t = c .before .before in
+    let k = t .before .before .before in
     let a = k .before .before .before .before .before .before .before .before .before .before .args in
-    due-accepted (a .self) (a .part .now) (k .take-path .ensures) (c .before .before .before .end .given .1) refl
+    due-accepted (a .self) (a .part .now) (k .take-path .ensures) (t .enum-told .given .1) refl
 
 pub take-spec : {M : Type 1} → statement M
 take-spec = tie.close (tie.spec
-    (λ c κs. search needs) (λ c. search needs) (λ c. search needs) (λ c κs. search needs) returns (λ c. search needs) returns-2)
+    (λ c κs. search needs) (λ c. search needs) (λ c κs. search needs) returns (λ c. search needs) returns-2)
