@@ -45,14 +45,14 @@ abbrev pub mated : List ℕ → ℕ → ℕ → List ℕ
 mated pointers first last = pointed (pointed pointers mates first last) mates last first
 
 -- the last vertex of a list, v where it is empty
-abbrev pub lastOf : ℕ → List ℕ → ℕ
-lastOf v [] = v
-lastOf v (w ∷ l) = lastOf w l
+abbrev pub lastFrom : ℕ → List ℕ → ℕ
+lastFrom v [] = v
+lastFrom v (w ∷ l) = lastFrom w l
 
 -- so do those of a link with these inner vertices, where it has any
 abbrev pub matedEnds : List ℕ → List ℕ → List ℕ
 matedEnds pointers [] = pointers
-matedEnds pointers (v ∷ l) = mated pointers v (lastOf v l)
+matedEnds pointers (v ∷ l) = mated pointers v (lastFrom v l)
 
 -- the two outermost inner vertices of the link on which u and w stand, u before w: walked both ways at once, in at most the given
 -- number of steps, until one side meets a branch vertex
