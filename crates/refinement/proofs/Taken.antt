@@ -1,32 +1,33 @@
 -- TAKING A PATH IN: the build that the code keeps shows the links afterwards too. Assumes nothing.
 use Prim.Native.Nat.{ℕ, suc, _<_}
 use mathlib.Core.List.{List, [], _∷_}
-use mathlib.Core.Bool.{Bool, true, false, _||_, or-assoc, or-false}
+use mathlib.Core.Bool.{Bool, true, false, cond, _||_, or-assoc, or-false}
 use mathlib.Core.Path.{_≡_, refl, sym, ap, _∙_, subst}
 use mathlib.Core.Logic.{_⊎_, inl, inr, ⊎-elim, ⊎-map, _≢_}
 use lib.Dec.{eqb}
 use lib.ListN.{length}
-use lib.Bits.{bitOr}
 use borrow.Author.Tests.{eqb-true, eq-eqb}
 use Rattle.record.specs.Read.{folded}
-use Rattle.vertexset.specs.Set.{has, emptySet, inserted, wordCount, capacity}
+use Rattle.vertexset.specs.Set.{has, inserted, wordCount, capacity}
 use Rattle.vertexset.specs.declared.VertexSet.{VertexSet}
-use Rattle.vertexset.proofs.Laws.{has-empty, has-union, inserted-has, inserted-length, wordwise-length}
+use Rattle.vertexset.proofs.Laws.{inserted-has, inserted-length}
 use Rattle.graph.specs.Rows.{adjacentIn, joinedRows, partedRows}
 use Rattle.connectivity.specs.Lists.{In, NoDup, member}
 use Rattle.connectivity.specs.Graph.{Adj}
 use Rattle.connectivity.specs.Path.{vertices, End, Path}
 use Rattle.connectivity.specs.Build.{InBuild, IsBranch, BGPath, taken, takeBefore, takeAfter, splitAt as splitLinks}
 use Rattle.connectivity.proofs.Lists.{or-true, true-or, member-in, in-member}
-use Rattle.connectivity.proofs.Paths.{SamePair, inner-in, nodup-inner, ends-differ, end-s, end-t}
+use Rattle.connectivity.proofs.Paths.{SamePair, end-or-inner, inner-in, nodup-inner, ends-differ, end-s, end-t}
 use Rattle.connectivity.proofs.Split.{Piece, Piece.whole, Piece.front, Piece.back, piece-of, piece-inner, split-list, split-kept, kept-split}
 use Rattle.connectivity.proofs.EdgeUse.{tally-step}
 use Rattle.certificates.specs.Tests.{inBuild, isBranch}
 use Rattle.build.specs.declared.Build.{Build}
+use Rattle.links.specs.declared.Link.{Link}
+use Rattle.links.specs.declared.End.the-variants.{Branch, Inner}
 use Rattle.links.specs.declared.Addition.the-variants.{VertexVertex, EdgeVertex, EdgeEdge}
 use Rattle.links.specs.Ends.{linkEnd, sameLink}
-use Rattle.links.specs.Tables.{splitRows, splitBy, pointer, pointerCount, pointAlong}
-use Rattle.build.specs.State.{pathAddition, entered, raised, pathTaken}
+use Rattle.links.specs.Tables.{splitRows, splitBy, pointer, pointerCount, pointAlong, reach}
+use Rattle.build.specs.State.{endOf, pathAddition, entered, raisedAt, raised, pathTaken}
 use Rattle.refinement.proofs.Tests.{iff-test, false-of, left-true, built-tells, branch-tells}
 use Rattle.refinement.proofs.Pointers.{Back, On, Half.lower, Half.upper, back-cut, on-cut, back-same, on-same, along-other, along-set, along-length}
 use Rattle.refinement.proofs.Table.{Low, with-length, without-length, with-tells, without-tells}
@@ -118,17 +119,29 @@ has-members s (a ∷ l) h low v =
     ∙ ap (λ (t : ℕ → Bool). t v || member v l) (inserted-has s a h (low a (inl refl))) ∙ or-assoc (has (s .words) v) (eqb v a) (member v l)
 
 -- what entering a path does to the vertices that are in, and to the lengths
-pub built-more : (b : Build) → Sizes b → (P : Path) → AllLow (vertices P) → (v : ℕ) → has (entered b P .sets .built .words) v ≡ (has (b .sets .built .words) v || member v (vertices P))
-built-more b z P low v =
-    has-union (b .sets .built .words) (folded inserted emptySet (vertices P) .words) (z .built ∙ sym (members-length emptySet (vertices P) refl)) v
-    ∙ ap (λ (t : Bool). has (b .sets .built .words) v || t) (has-members emptySet (vertices P) refl low v ∙ ap (λ (t : Bool). t || member v (vertices P)) (has-empty wordCount v))
+pub built-more : (b : Build) → Sizes b → (P : Path) → AllLow (vertices P) → (v : ℕ) → has (entered b P .sets .built .words) v ≡ (has (b .sets .built .words) v || member v (P .inner))
+built-more b z P low v = has-members (b .sets .built) (P .inner) (z .built) (λ w i. low w (inner-in w P i)) v
 
 pub entered-sizes : (b : Build) → Sizes b → (P : Path) → Sizes (entered b P)
 entered-sizes b z P = record {
   branch = z .branch;
-  built = wordwise-length bitOr (b .sets .built) (folded inserted emptySet (vertices P)) (z .built) (members-length emptySet (vertices P) refl);
+  built = members-length (b .sets .built) (P .inner) (z .built);
   pointers = along-length (b .pointers) (P .s) (P .inner) (P .t) ∙ z .pointers;
 }
+
+-- what raising an end does to the branch vertices: test says whether it is one already
+module _ (s : VertexSet) (long : length (s .words) ≡ wordCount) (u : ℕ) (l : Link) where
+  raised-length : (test : Bool) → length (raisedAt s (cond test (Branch u) (Inner u l)) .words) ≡ wordCount
+  raised-length true = long
+  raised-length false = inserted-length s u long
+
+  raised-has : (test : Bool) → (test ≡ true → has (s .words) u ≡ true) → u < capacity → (v : ℕ) → has (raisedAt s (cond test (Branch u) (Inner u l)) .words) v ≡ (has (s .words) v || eqb v u)
+  raised-has true f low v = go (eqb v u) refl
+    where
+      go : (c : Bool) → eqb v u ≡ c → has (s .words) v ≡ (has (s .words) v || c)
+      go true e = let k = ap (has (s .words)) (eqb-true v u e) ∙ f refl in k ∙ sym (left-true true k)
+      go false e = sym (or-false (has (s .words) v))
+  raised-has false f low v = ap (λ (t : ℕ → Bool). t v) (inserted-has s u long low)
 
 -- THE STEP
 module _ {b : Build} {links : List Path} (sh : Shows b links) (P : Path) (bg : BGPath (Adj everyEdge) links P) (low : AllLow (vertices P)) where
@@ -217,15 +230,27 @@ module _ {b : Build} {links : List Path} (sh : Shows b links) (P : Path) (bg : B
   low-last : P .t < capacity
   low-last = low (P .t) (end-t P)
 
+  abbrev at-end : ℕ → Link
+  at-end v = record { a = reach (pointer (b .pointers) 0) (has (b .sets .branch .words)) capacity v; b = reach (pointer (b .pointers) capacity) (has (b .sets .branch .words)) capacity v }
+
+  abbrev first-raised : VertexSet
+  first-raised = raisedAt (b .sets .branch) (endOf b (P .s))
+
+  first-long : length (first-raised .words) ≡ wordCount
+  first-long = raised-length (b .sets .branch) (sh .sizes .branch) (P .s) (at-end (P .s)) (has (b .sets .branch .words) (P .s))
+
   raised-sizes : Sizes (raised b P)
-  raised-sizes = record { branch = inserted-length (inserted (b .sets .branch) (P .s)) (P .t) (inserted-length (b .sets .branch) (P .s) (sh .sizes .branch)); built = sh .sizes .built; pointers = sh .sizes .pointers }
+  raised-sizes = record { branch = raised-length first-raised first-long (P .t) (at-end (P .t)) (has (b .sets .branch .words) (P .t)); built = sh .sizes .built; pointers = sh .sizes .pointers }
 
   taken-branch : (v : ℕ) → has (pathTaken b P .sets .branch .words) v ≡ isBranch (taken links P) v
   taken-branch v = iff-test (there, back) (branch-tells (taken links P) v)
     where
       set : has (pathTaken b P .sets .branch .words) v ≡ (has (b .sets .branch .words) v || eqb v (P .s) || eqb v (P .t))
-      set = ap (λ (t : ℕ → Bool). t v) (inserted-has (inserted (b .sets .branch) (P .s)) (P .t) (inserted-length (b .sets .branch) (P .s) (sh .sizes .branch)) low-last)
-          ∙ ap (λ (t : ℕ → Bool). t v || eqb v (P .t)) (inserted-has (b .sets .branch) (P .s) (sh .sizes .branch) low-first)
+      set = raised-has first-raised first-long (P .t) (at-end (P .t)) (has (b .sets .branch .words) (P .t)) (λ e. one (P .t) ∙ left-true (eqb (P .t) (P .s)) e) low-last v
+          ∙ ap (λ (t : Bool). t || eqb v (P .t)) (one v)
+        where
+          one : (w : ℕ) → has (first-raised .words) w ≡ (has (b .sets .branch .words) w || eqb w (P .s))
+          one w = raised-has (b .sets .branch) (sh .sizes .branch) (P .s) (at-end (P .s)) (has (b .sets .branch .words) (P .s)) (λ e. e) low-first w
 
       old : IsBranch v links → IsBranch v (taken links P)
       old r = let q = branch-kept (P .s) (splitLinks (P .t) links) v (branch-kept (P .t) links v r) in (q .0, inr (q .1), q .2)
@@ -253,16 +278,20 @@ module _ {b : Build} {links : List Path} (sh : Shows b links) (P : Path) (bg : B
   taken-built : (v : ℕ) → has (pathTaken b P .sets .built .words) v ≡ inBuild (taken links P) v
   taken-built v = iff-test (there, λ r. back (r .0) (r .1) (r .2)) (built-tells (taken links P) v)
     where
-      set : has (pathTaken b P .sets .built .words) v ≡ (has (b .sets .built .words) v || member v (vertices P))
+      set : has (pathTaken b P .sets .built .words) v ≡ (has (b .sets .built .words) v || member v (P .inner))
       set = built-more (raised b P) raised-sizes P low v
 
       there : has (pathTaken b P .sets .built .words) v ≡ true → InBuild v (taken links P)
       there e = ⊎-elim (λ k. let r = split-kept (P .s) v (splitLinks (P .t) links) (split-kept (P .t) v links (built-tells links v .0 (sym (sh .built v) ∙ k))) in (r .0, inr (r .1), r .2))
-          (λ k. (P, inl refl, member-in v (vertices P) k)) (or-true (has (b .sets .built .words) v) (member v (vertices P)) (sym set ∙ e))
+          (λ k. (P, inl refl, inner-in v P (member-in v (P .inner) k))) (or-true (has (b .sets .built .words) v) (member v (P .inner)) (sym set ∙ e))
+
+      -- the ends of the path are in already
+      old : InBuild v links → has (pathTaken b P .sets .built .words) v ≡ true
+      old r = set ∙ left-true (member v (P .inner)) (sh .built v ∙ built-tells links v .1 r)
 
       back : (L : Path) → In L (taken links P) → In v (vertices L) → has (pathTaken b P .sets .built .words) v ≡ true
-      back L (inl e) k = set ∙ true-or (has (b .sets .built .words) v) (member v (vertices P)) (in-member v (vertices P) (rw e at k))
-      back L (inr i) k = set ∙ left-true (member v (vertices P)) (sh .built v ∙ built-tells links v .1 (rest-built v (L, i, k)))
+      back L (inl e) k = ⊎-elim (λ z. old (⊎-elim (λ i. rw i (bg .from)) (λ i. rw i (bg .upto)) z)) (λ i. set ∙ true-or (has (b .sets .built .words) v) (member v (P .inner)) (in-member v (P .inner) i)) (end-or-inner P v (rw e at k))
+      back L (inr i) k = old (rest-built v (L, i, k))
 
   pub shows-taken : Shows (pathTaken b P) (taken links P)
   shows-taken = record {
