@@ -1,36 +1,20 @@
 -- What an item, or a path, that was handed back tells of what was read. Assumes nothing.
 use Prim.Native.Nat.{ℕ, _≤_}
 use mathlib.Core.Bool.{Bool, cond}
-use mathlib.Core.List.{[], _∷_}
-use mathlib.Core.Logic.{inl, inr}
 use mathlib.Core.Path.{_≡_, refl, ap}
 use native.Mathlib.Omega.{arith}
-use types.Run.{OneOf}
-use denote.Enum.Declared.{tagOf}
 use lib.Dec.{leb}
 use borrow.Author.Tests.{le-leb}
 use Rattle.record.specs.Read.{Read, Read.Got, Read.Refused}
 use Rattle.record.specs.declared.Answer.{Answer}
-use Rattle.record.specs.declared.Answer.the-variants.{Accepted, Grade, PlanFault, CertificateFault}
-use Rattle.record.proofs.Answer.{the-type}
+use Rattle.record.specs.declared.Answer.the-variants.{Accepted, CertificateFault}
+use Rattle.record.proofs.Faults.{NotAccepted, not-accepted}
 use Rattle.vertexset.specs.Set.{capacity}
 use Rattle.connectivity.specs.Path.{Path}
 use Rattle.paths.specs.Items.{refused, itemRead, endRead}
 use Rattle.paths.specs.Paths.{pathRead, pathTold}
 use Rattle.paths.specs.declared.PathRead.{PathRead}
 use Rattle.paths.specs.declared.Item.{Item}
-
--- what the else of `let Answer::Accepted = a else` knows
-abbrev pub NotAccepted : Answer → Type 0
-NotAccepted a = OneOf (1 ∷ 2 ∷ 3 ∷ []) (tagOf the-type a)
-
-pub not-accepted : (a : Answer) → NotAccepted a → a ≡ Accepted → ⊥
-not-accepted Accepted (inl i) e = omega arith
-not-accepted Accepted (inr (inl i)) e = omega arith
-not-accepted Accepted (inr (inr i)) e = omega arith
-not-accepted (Grade g) i e = let z : _≡_ {A = ℕ} 0 1 = cc in omega arith
-not-accepted (PlanFault r p) i e = let z : _≡_ {A = ℕ} 0 1 = cc in omega arith
-not-accepted (CertificateFault r p) i e = let z : _≡_ {A = ℕ} 0 1 = cc in omega arith
 
 -- a refusal, as it was read and as it is handed on
 abbrev pub Stopped : {A : Type 0} → Read A → Item → Type 0

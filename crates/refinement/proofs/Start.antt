@@ -18,12 +18,12 @@ use Rattle.graph.specs.Rows.{adjacentIn, bareRows, rowWords}
 use Rattle.connectivity.specs.Lists.{In, member}
 use Rattle.connectivity.specs.Graph.{Graph, Adj}
 use Rattle.connectivity.specs.Path.{vertices, End, Path}
-use Rattle.connectivity.specs.Build.{IsBranch, four, sixPairs, endPairs, Starts, StartRules}
+use Rattle.connectivity.specs.Build.{InBuild, IsBranch, four, sixPairs, endPairs, Starts, StartRules}
 use Rattle.connectivity.proofs.Lists.{and-true, or-true, true-or, clash, member-in, in-member, member-out, in-append, in-left, in-right}
 use Rattle.connectivity.proofs.Paths.{end-or-inner, end-vertex, inner-in, length-ends, in-ends, ends-in}
 use Rattle.connectivity.proofs.Start.{Subdivision, start-subdivision}
 use Rattle.connectivity.proofs.EdgeUse.{tally-start}
-use Rattle.certificates.specs.Tests.{Start, startEnds, laterEnds, startTaken, inBuild, anyLink}
+use Rattle.certificates.specs.Tests.{Start, startEnds, laterEnds, startTaken, anyLink}
 use Rattle.certificates.specs.Records.{vertex, startPath, branchFour, starting, startPaths}
 use Rattle.build.specs.declared.Build.{Build}
 use Rattle.build.specs.State.{BuildStart, startOn, startEntered, fourSet, startOf, startIn, buildStart, startedBuild, barePointers, bareBuild}
@@ -42,10 +42,6 @@ fourOf b = four (b .0) (b .1 .0) (b .1 .1 .0) (b .1 .1 .1)
 
 abbrev sixOf : Four → List (ℕ × ℕ)
 sixOf b = sixPairs (b .0) (b .1 .0) (b .1 .1 .0) (b .1 .1 .1)
-
--- the start beside bare tables
-abbrev bareStart : Four → BuildStart
-bareStart b = startOf barePointers bareRows b
 
 -- the state that the code keeps while the six paths are read, beside that of the definition
 record Beside (st : BuildStart) (t : Start) : Type 0 where
@@ -151,6 +147,10 @@ six-four b e i = go i
     go (inr (inr (inr (inr (inr (inl k)))))) = at (b .1 .1 .0) (b .1 .1 .1) (inr (inr (inl refl))) (inr (inr (inr (inl refl)))) k
     go (inr (inr (inr (inr (inr (inr k)))))) = absurd k
 
+-- the start beside bare tables
+abbrev bareStart : Four → BuildStart
+bareStart b = startOf barePointers bareRows b
+
 beside-start : (n : ℕ) (b : Four) → n ≤ capacity → Ascends n b → Beside (bareStart b) (starting b)
 beside-start n b h a = record { ends = refl; sizes = bare-sizes b; built = four-has b (four-low n b h a) }
 
@@ -236,13 +236,16 @@ unfolding folded
 started-branch st [] = refl
 started-branch st (P ∷ ps) = started-branch (startEntered st P) ps
 
-started-built : (st : BuildStart) (ps : List Path) → Sizes (st .build) → ((L : Path) → In L ps → AllLow (vertices L)) → (v : ℕ)
-    → has (folded startEntered st ps .build .sets .built .words) v ≡ (has (st .build .sets .built .words) v || anyLink (λ L. member v (L .inner)) ps)
+-- v is inside a path
+abbrev inside : List Path → ℕ → Bool
+inside ps v = anyLink (λ L. member v (L .inner)) ps
+
+started-built : (st : BuildStart) (ps : List Path) → Sizes (st .build) → ((L : Path) → In L ps → AllLow (vertices L)) → (v : ℕ) → has (folded startEntered st ps .build .sets .built .words) v ≡ (has (st .build .sets .built .words) v || inside ps v)
 unfolding folded anyLink
 started-built st [] z low v = sym (or-false (has (st .build .sets .built .words) v))
 started-built st (P ∷ ps) z low v =
     started-built (startEntered st P) ps (entered-sizes (st .build) z P) (λ L i. low L (inr i)) v
-    ∙ ap (λ (t : Bool). t || anyLink (λ L. member v (L .inner)) ps) (built-more (st .build) z P (low P (inl refl)) v) ∙ or-assoc (has (st .build .sets .built .words) v) (member v (P .inner)) (anyLink (λ L. member v (L .inner)) ps)
+    ∙ ap (λ (t : Bool). t || inside ps v) (built-more (st .build) z P (low P (inl refl)) v) ∙ or-assoc (has (st .build .sets .built .words) v) (member v (P .inner)) (inside ps v)
 
 bare-listed : Listed bareRows []
 bare-listed = record { long = refl; tells = λ u v. (λ e. absurd (clash (bare u v e) (has-empty rowWords (u * capacity + v))), λ r. absurd (r .1)) }
@@ -309,7 +312,7 @@ module _ (g : Graph) (h : g .n ≤ capacity) (b : Four) (asc : Ascends (g .n) b)
   started-shows = record {
     sizes = carried .sizes;
     branch = λ v. ap (λ (t : VertexSet). has (t .words) v) (started-branch (bareStart b) start) ∙ iff-test (branch-four v) (branch-tells start v);
-    built = λ v. started-built (bareStart b) start (bare-sizes b) (all .low) v ∙ same-test _ _ (in-there v) (in-back v);
+    built = λ v. started-built (bareStart b) start (bare-sizes b) (all .low) v ∙ iff-test (in-there v, in-back v) (built-tells start v);
     linked = record { long = carried .linked .long; tells = λ u v. (λ k. let r = carried .linked .tells u v .0 k in (r .0, back (r .0) (r .1), r .2), λ r. carried .linked .tells u v .1 (r .0, there (r .0) (r .1), r .2)) };
     runs = λ L i. carried .runs L (there L i);
     low = all .low;
@@ -317,15 +320,13 @@ module _ (g : Graph) (h : g .n ≤ capacity) (b : Four) (asc : Ascends (g .n) b)
     tally = tally-start (Adj everyEdge) (λ u v k. k) start subdivision;
   }
     where
-      in-there : (v : ℕ) → (has (fourSet b .words) v || anyLink (λ L. member v (L .inner)) start) ≡ true → inBuild start v ≡ true
-      in-there v k = built-tells start v .1 (⊎-elim (λ i. let r = branch-four v .0 i in (r .0, r .1, end-vertex v (r .0) (r .2)))
-          (λ i. let r = any-link (λ L. member v (L .inner)) start i in (r .0, r .1, inner-in v (r .0) (member-in v (r .0 .inner) (r .2)))) (or-true (has (fourSet b .words) v) (anyLink (λ L. member v (L .inner)) start) k))
+      in-there : (v : ℕ) → (has (fourSet b .words) v || inside start v) ≡ true → InBuild v start
+      in-there v k = ⊎-elim (λ i. let r = branch-four v .0 i in (r .0, r .1, end-vertex v (r .0) (r .2))) (λ i. let r = any-link (λ L. member v (L .inner)) start i in (r .0, r .1, inner-in v (r .0) (member-in v (r .0 .inner) (r .2))))
+          (or-true (has (fourSet b .words) v) (inside start v) k)
 
-      in-back : (v : ℕ) → inBuild start v ≡ true → (has (fourSet b .words) v || anyLink (λ L. member v (L .inner)) start) ≡ true
-      in-back v k =
-          let r = built-tells start v .0 k in
-          ⊎-elim (λ e. left-true (anyLink (λ L. member v (L .inner)) start) (branch-four v .1 (r .0, r .1, e)))
-          (λ i. true-or (has (fourSet b .words) v) (anyLink (λ L. member v (L .inner)) start) (link-any (λ L. member v (L .inner)) start (r .0) (r .1) (in-member v (r .0 .inner) i)))
+      -- the ends of the paths are the four, which are in already
+      in-back : (v : ℕ) → InBuild v start → (has (fourSet b .words) v || inside start v) ≡ true
+      in-back v r = ⊎-elim (λ i. left-true (inside start v) (branch-four v .1 (r .0, r .1, i))) (λ i. true-or (has (fourSet b .words) v) (inside start v) (link-any (λ L. member v (L .inner)) start (r .0) (r .1) (in-member v (r .0 .inner) i)))
           (end-or-inner (r .0) v (r .2))
 
 pub shows-start : (g : Graph) → g .n ≤ capacity → (s : List ℕ) (at : ℕ) {x : Four × List Path} {next : ℕ} → (branchFour (g .n) ▸ λ b. startPaths g b) s at ≡ Got x next → Shows (startedBuild x) (x .1)

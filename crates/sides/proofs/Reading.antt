@@ -10,6 +10,7 @@ use Rattle.record.specs.Read.{Read, Read.Got, Read.Refused, Reader, onRead, _ne
 use Rattle.record.specs.Number.{number}
 use Rattle.record.specs.Loop.{runs, finish}
 use Rattle.record.proofs.Laws.{on-got, carry}
+use Rattle.record.proofs.Faults.{NotAccepted, not-accepted}
 use Rattle.record.proofs.Loops.{All, many-all, needs-true, leads-bad, leads-got}
 use Rattle.vertexset.specs.Set.{has, emptySet, inserted, wordCount, capacity}
 use Rattle.connectivity.specs.Lists.{member}
@@ -21,7 +22,7 @@ use Rattle.paths.specs.Items.{taken, refused, endRead, limited}
 use Rattle.graph.specs.Rows.{rowsGraph}
 use Rattle.paths.specs.declared.Item.{Item}
 use Rattle.record.specs.declared.Answer.the-variants.{Accepted}
-use Rattle.paths.proofs.Told.{NotAccepted, not-accepted, Stopped, never, end-told, end-fault, limited-in}
+use Rattle.paths.proofs.Told.{Stopped, never, end-told, end-fault, limited-in}
 use Rattle.paths.proofs.Ends.{end-into, end-stop, end-then}
 use Rattle.paths.proofs.Reading.{vertex-low}
 use Rattle.paths.proofs.Sets.{listed-has}
