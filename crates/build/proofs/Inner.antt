@@ -20,7 +20,7 @@ use Rattle.paths.specs.declared.Item.{Item}
 use Rattle.paths.specs.declared.PathRead.{PathRead}
 use Rattle.paths.proofs.Walk.{tail-vertices}
 use Rattle.paths.proofs.Reading.{vertex-low, values-next, path-values, vertices-again}
-use Rattle.links.specs.Tables.{pointedBoth, pointAlong}
+use Rattle.links.specs.Tables.{pointedBoth, pointAlong, mated, lastFrom, matedEnds}
 use Rattle.build.specs.declared.Sets.{Sets}
 use Rattle.build.specs.State.{entered}
 use Rattle.build.specs.Code.{PathAt, ToldAt, buildIn, innerAt, onPathRead}
@@ -61,6 +61,14 @@ module _ (n : ℕ) (s : List ℕ) where
         ap (λ (r : Read Path). orKept r (λ P next. P .inner) []) (h .got)
         ∙ ap (λ (P : Path). P .inner) (same-path (h .found) _ (listed ∙ sym (tail-vertices (a .value) (b .value) (valuesFrom n (x .value - 2) s (b .next)))))
 
+    -- the outermost, once the last is known
+    pub mated-done : (p : List ℕ) {out : List ℕ} {last : ℕ} → 0 < length (innerAt n s at) → last ≡ lastFrom (a .value) (innerAt n s at) → out ≡ mated p (b .value) last → out ≡ matedEnds p (innerAt n s at)
+    mated-done p {out} some e f = go (valuesFrom n (x .value - 2) s (b .next)) inner-begun
+      where
+        go : (l : List ℕ) → innerAt n s at ≡ tailLink (a .value) (b .value) l .inner → out ≡ matedEnds p (innerAt n s at)
+        go [] z = absurd (omega (arith, ap length z))
+        go (w ∷ l) z = f ∙ ap (mated p (b .value)) (e ∙ ap (lastFrom (a .value)) z) ∙ ap (matedEnds p) (sym z)
+
   module _ (u v left next : ℕ) where
     next-value : {y : Item} → 2 < left → y ≡ itemRead (vertex n s next) → valuesFrom n (left - 2) s next ≡ y .value ∷ valuesFrom n (left - 1 - 2) s (y .next)
     next-value {y} h e =
@@ -89,6 +97,13 @@ module _ (n : ℕ) (s : List ℕ) where
     unfolding folded
     inner-done set h = ap (λ (l : List ℕ). folded inserted set (tailLink u v l .inner)) (sym (none-left h))
 
+    -- the last inner vertex, where u stands before the rest
+    pub last-on : {y : Item} → 2 < left → y ≡ itemRead (vertex n s next) → lastFrom v (innerFrom v (y .value) (left - 1 - 2) (y .next)) ≡ lastFrom u (innerFrom u v (left - 2) next)
+    last-on h e = ap (λ (l : List ℕ). lastFrom u (tailLink u v l .inner)) (sym (next-value h e))
+
+    pub last-done : left ≤ 2 → u ≡ lastFrom u (innerFrom u v (left - 2) next)
+    last-done h = ap (λ (l : List ℕ). lastFrom u (tailLink u v l .inner)) (sym (none-left h))
+
 -- a build by its parts
 pub same-build : {sets sets′ : Sets} {pointers pointers′ linked linked′ : List ℕ} → sets ≡ sets′ → pointers ≡ pointers′ → linked ≡ linked′ → buildIn sets pointers linked ≡ buildIn sets′ pointers′ linked′
 same-build e f g = rw (e, f, g)
@@ -108,7 +123,14 @@ module _ {n : ℕ} {s : List ℕ} {at : ℕ} {x : PathRead} (h : ToldAt n s at x
   joined-ends : joinedRows linked (x .first) (x .last) ≡ joinedRows linked (P .s) (P .t)
   joined-ends = ap (λ (u : ℕ). joinedRows linked u (x .last)) (h .first) ∙ ap (joinedRows linked (P .s)) (h .last)
 
-  -- a path of two vertices has none inside
+  inner-found : innerAt n s at ≡ P .inner
+  unfolding innerAt
+  inner-found = ap (λ (r : Read Path). orKept r (λ P next. P .inner) []) (h .there .got)
+
+  -- a longer path has some inside, one of two vertices none
+  pub inner-some : 3 ≤ x .len → 0 < length (innerAt n s at)
+  inner-some k = omega (arith, h .len, length-append (P .inner) (P .t ∷ []), ap length inner-found)
+
   pub entered-short : {out : List ℕ} → x .len < 3 → out ≡ joinedRows linked (x .first) (x .last) → buildIn sets pointers out ≡ onPathRead entered (buildIn sets pointers linked) (path n 2 s at)
   unfolding folded pointAlong
   entered-short {out} k e = go (P .inner) (omega (arith, h .len, length-append (P .inner) (P .t ∷ []))) (e ∙ joined-ends) ∙ whole
@@ -117,9 +139,8 @@ module _ {n : ℕ} {s : List ℕ} {at : ℕ} {x : PathRead} (h : ToldAt n s at x
       go [] z e = ap (buildIn sets pointers) e
       go (v ∷ l) z e = absurd (omega arith)
 
-  pub entered-long : {built : VertexSet} {along out : List ℕ} → built ≡ folded inserted (sets .built) (innerAt n s at) → along ≡ pointAlong pointers (verticesAt n s at) → out ≡ joinedRows linked (x .first) (x .last)
+  pub entered-long : {built : VertexSet} {along out : List ℕ} → built ≡ folded inserted (sets .built) (innerAt n s at) → along ≡ matedEnds (pointAlong pointers (verticesAt n s at)) (innerAt n s at) → out ≡ joinedRows linked (x .first) (x .last)
       → buildIn (record { branch = sets .branch; built = built }) along out ≡ onPathRead entered (buildIn sets pointers linked) (path n 2 s at)
-  unfolding innerAt
   entered-long e f g =
-      let i : innerAt n s at ≡ P .inner = ap (λ (r : Read Path). orKept r (λ P next. P .inner) []) (h .there .got) in
-      same-build (same-sets refl (e ∙ ap (folded inserted (sets .built)) i)) (f ∙ ap (pointAlong pointers) (vertices-again n 2 s at (omega arith) (h .there .got))) (g ∙ joined-ends) ∙ whole
+      let a : matedEnds (pointAlong pointers (verticesAt n s at)) (innerAt n s at) ≡ matedEnds (pointAlong pointers (vertices P)) (P .inner) = rw (vertices-again n 2 s at (omega arith) (h .there .got), inner-found) in
+      same-build (same-sets refl (e ∙ ap (folded inserted (sets .built)) inner-found)) (f ∙ a) (g ∙ joined-ends) ∙ whole

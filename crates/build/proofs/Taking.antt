@@ -21,14 +21,14 @@ use Rattle.paths.specs.Paths.{pathTold, pathRead}
 use Rattle.paths.specs.declared.PathRead.{PathRead}
 use Rattle.record.proofs.Faults.{NotAccepted}
 use Rattle.paths.proofs.Told.{path-told, path-fault}
-use Rattle.links.specs.declared.Link.{Link}
 use Rattle.links.specs.declared.End.{End}
 use Rattle.links.specs.declared.Addition.{Addition}
 use Rattle.links.specs.Ends.{additionOf, held}
-use Rattle.links.specs.Tables.{splitBy}
+use Rattle.links.specs.Tables.{splitBy, splitMatesBy}
 use Rattle.build.specs.declared.Build.{Build}
 use Rattle.build.specs.declared.Taken.{Taken}
 use Rattle.build.specs.State.{entered, raisedAt, endOf, pathAddition, bothIn, pathTaken, buildPath, startOn}
+use Rattle.build.specs.declared.Between.{Between}
 use Rattle.build.specs.Code.{pathFault, buildIn, ToldAt, onPathRead, Leaves, towards}
 
 -- refused, or as it was read
@@ -158,7 +158,7 @@ pub raised-same : (branch : VertexSet) {mid out : VertexSet} {x y x′ y′ : En
 raised-same branch e f g h = rw (f, e, g, h)
 
 -- a path of the start between the ends of l
-module _ (n : ℕ) (rows s : List ℕ) (at : ℕ) (l : Link) (b : Build) where
+module _ (n : ℕ) (rows s : List ℕ) (at : ℕ) (l : Between) (b : Build) where
   pub start-stops : (q p : ℕ) → path n 2 s at ≡ Refused q p → startOn (rowsGraph n rows) (towards l b) s at ≡ Refused q p
   unfolding startOn
   start-stops q p e = needs-bad _ 26 _ (needs-bad _ 25 _ (needs-bad _ 24 _ e))
@@ -194,7 +194,7 @@ module _ (n : ℕ) (rows s : List ℕ) (at : ℕ) (b : Build) where
   abbrev pub further-takes : Takes n (adjacentIn rows) (has (b .sets .built .words)) (buildPath (rowsGraph n rows)) pathTaken b s at
   further-takes = record {
     fault = λ x. pathFault (x .along) (has (b .sets .built .words) (x .first) && has (b .sets .built .words) (x .last)) (x .new) (not (held (addition-at x)));
-    raise = λ x. buildIn (record { branch = raisedAt (raisedAt (b .sets .branch) (endOf b (x .first))) (endOf b (x .last)); built = b .sets .built }) (b .pointers) (splitBy (b .linked) (addition-at x));
+    raise = λ x. buildIn (record { branch = raisedAt (raisedAt (b .sets .branch) (endOf b (x .first))) (endOf b (x .last)); built = b .sets .built }) (splitMatesBy (b .pointers) (addition-at x)) (splitBy (b .linked) (addition-at x));
     stops = further-stops;
     tests = further-tests;
     steps = λ P next. refl;

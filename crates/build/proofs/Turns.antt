@@ -21,11 +21,11 @@ use Rattle.graph.specs.Rows.{rowsGraph}
 use Rattle.paths.specs.Items.{taken, refused, limited}
 use Rattle.record.proofs.Faults.{NotAccepted}
 use Rattle.paths.proofs.Told.{Stopped, end-told, end-fault}
-use Rattle.links.specs.declared.Link.{Link}
 use Rattle.build.specs.declared.Build.{Build}
 use Rattle.build.specs.declared.Four.{Four}
 use Rattle.build.specs.declared.Taken.{Taken}
 use Rattle.build.specs.State.{entered, pathTaken, buildPath, BuildStart, bareOn, fourSet, startOf, startOn, startEntered}
+use Rattle.build.specs.declared.Between.{Between}
 use Rattle.build.specs.Code.{buildIn, onPathRead, Leaves, towards, fourOf, firsts, lasts, pathEnds, startLoop, furtherLoop}
 use Rattle.build.proofs.Taking.{limit-kept}
 
@@ -122,7 +122,7 @@ first-pair first last (suc k) h i =
     rw (z, y)
 
 -- only the pair that comes next counts
-next-pair : (g : Graph) (l : Link) (es : List (ℕ × ℕ)) (b : Build) (s : List ℕ) (at : ℕ) → startOn g (record { ends = (l .a, l .b) ∷ es; build = b }) s at ≡ startOn g (towards l b) s at
+next-pair : (g : Graph) (l : Between) (es : List (ℕ × ℕ)) (b : Build) (s : List ℕ) (at : ℕ) → startOn g (record { ends = (l .a, l .b) ∷ es; build = b }) s at ≡ startOn g (towards l b) s at
 unfolding startOn
 next-pair g l es b s at = refl
 
@@ -131,13 +131,13 @@ same-start e f = rw (e, f)
 
 -- a turn over the paths of the start
 module _ (n : ℕ) (rows s first last : List ℕ) (b : Build) (at k : ℕ) {r : Taken} {pointers linked : List ℕ}
-    (low : n ≤ capacity) (some : 0 < k) (six : k ≤ 6) {l : Link} (ends : l ≡ pathEnds first last (6 - k))
+    (low : n ≤ capacity) (some : 0 < k) (six : k ≤ 6) {l : Between} (ends : l ≡ pathEnds first last (6 - k))
     (h : Leaves n (λ b. startOn (rowsGraph n rows) (towards l b)) entered b s at r pointers linked) where
   tested-next : startOn (rowsGraph n rows) (startWith first last k b) s at ≡ startOn (rowsGraph n rows) (towards l b) s at
   tested-next =
       ap (λ (es : List (ℕ × ℕ)). startOn (rowsGraph n rows) (record { ends = es; build = b }) s at) (first-pair first last k some six)
       ∙ next-pair (rowsGraph n rows) (pathEnds first last (6 - k)) (pairsFrom first last (k - 1) (6 - (k - 1))) b s at
-      ∙ ap (λ (l : Link). startOn (rowsGraph n rows) (towards l b) s at) (sym ends)
+      ∙ ap (λ (l : Between). startOn (rowsGraph n rows) (towards l b) s at) (sym ends)
 
   abbrev st : BuildStart
   st = startWith first last k b

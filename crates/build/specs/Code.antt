@@ -15,11 +15,11 @@ use Rattle.certificates.specs.Records.{path, branchFour}
 use Rattle.paths.specs.Items.{taken, refused, endRead, limited}
 use Rattle.paths.specs.declared.PathRead.{PathRead}
 use Rattle.paths.specs.declared.Item.{Item}
-use Rattle.links.specs.declared.Link.{Link}
 use Rattle.build.specs.declared.Build.{Build}
 use Rattle.build.specs.declared.Sets.{Sets}
 use Rattle.build.specs.declared.Taken.{Taken}
 use Rattle.build.specs.declared.Four.{Four}
+use Rattle.build.specs.declared.Between.{Between}
 use Rattle.build.specs.State.{pathTaken, bareOn, buildPath, BuildStart, startOn, startEntered, startOf}
 
 -- document 01's number for a path that was read whole, or 0
@@ -60,7 +60,7 @@ pub record Leaves (n : ℕ) (item : Build → Reader Path) (step : Build → Pat
   pub build : buildIn (r .sets) pointers linked ≡ onPathRead step b (limited n (item b) s at)
 
 -- the start at a path between these ends
-abbrev pub towards : Link → Build → BuildStart
+abbrev pub towards : Between → Build → BuildStart
 towards l b = record { ends = (l .a, l .b) ∷ []; build = b }
 
 -- the four branch vertices, and where reading goes on or the fault
@@ -81,7 +81,7 @@ firsts f = f .p ∷ f .p ∷ f .p ∷ f .q ∷ f .q ∷ f .r ∷ []
 abbrev pub lasts : Four → List ℕ
 lasts f = f .q ∷ f .r ∷ f .s ∷ f .r ∷ f .s ∷ f .s ∷ []
 
-abbrev pub pathEnds : List ℕ → List ℕ → ℕ → Link
+abbrev pub pathEnds : List ℕ → List ℕ → ℕ → Between
 pathEnds first last i = record { a = getD first i 0; b = getD last i 0 }
 
 -- a start that was not read: no sets

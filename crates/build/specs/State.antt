@@ -1,5 +1,5 @@
--- The build as the code keeps it: branch vertices, vertices that are in, for each inner vertex its neighbours on its path, and
--- which branch vertices a link joins. Each definition says what one function does to it.
+-- The build as the code keeps it: branch vertices, vertices that are in, for each inner vertex its neighbours on its path,
+-- for the two outermost ones of a link each other, and which branch vertices a link joins. Each definition says what one function does to it.
 use Prim.Native.Nat.{ℕ}
 use mathlib.Core.List.{List}
 use mathlib.Core.Bool.{Bool, _&&_, not}
@@ -17,7 +17,7 @@ use Rattle.links.specs.declared.End.{End}
 use Rattle.links.specs.declared.End.the-variants.{Branch, Inner}
 use Rattle.links.specs.declared.Addition.{Addition}
 use Rattle.links.specs.Ends.{additionOf, held}
-use Rattle.links.specs.Tables.{pointerCount, pointAlong, endIn, splitBy}
+use Rattle.links.specs.Tables.{pointerCount, pointAlong, matedEnds, endIn, splitBy, splitMatesBy}
 use Rattle.build.specs.declared.Build.{Build}
 
 -- the end that a path has at v
@@ -31,7 +31,7 @@ pathAddition b P = additionOf (b .linked) (endOf b (P .s)) (endOf b (P .t))
 abbrev pub entered : Build → Path → Build
 entered b P = record {
   sets = record { branch = b .sets .branch; built = folded inserted (b .sets .built) (P .inner) };
-  pointers = pointAlong (b .pointers) (vertices P);
+  pointers = matedEnds (pointAlong (b .pointers) (vertices P)) (P .inner);
   linked = joinedRows (b .linked) (P .s) (P .t);
 }
 
@@ -44,7 +44,7 @@ raisedAt branch (Inner v l) = inserted branch v
 abbrev pub raised : Build → Path → Build
 raised b P = record {
   sets = record { branch = raisedAt (raisedAt (b .sets .branch) (endOf b (P .s))) (endOf b (P .t)); built = b .sets .built };
-  pointers = b .pointers;
+  pointers = splitMatesBy (b .pointers) (pathAddition b P);
   linked = splitBy (b .linked) (pathAddition b P);
 }
 

@@ -2,6 +2,7 @@
 ghost use mathlib.Core.Path.{_≡_};
 ghost use Prim.Native.Nat.{suc, _≤_, _<_};
 ghost use lib.Dec.{leb};
+ghost use lib.ListN.{length};
 ghost use Rattle.record.specs.Read.{_needs⟨_⟩_, led, folded};
 ghost use Rattle.record.specs.Loop.{runs};
 ghost use Rattle.vertexset.specs.Set.{inserted, capacity};
@@ -10,7 +11,7 @@ ghost use Rattle.certificates.specs.Records.{vertex, path, branchFour};
 ghost use Rattle.paths.specs.Items.{itemRead, endRead, limited};
 ghost use Rattle.paths.specs.Paths.{verticesAt};
 ghost use Rattle.graph.specs.Rows.{rowsGraph};
-ghost use Rattle.links.specs.Tables.{pointAlong};
+ghost use Rattle.links.specs.Tables.{pointAlong, matedEnds};
 ghost use Rattle.build.specs.State.{entered, raisedAt, pathTaken, buildPath, bareBuild, fourSet, startOn, startEntered, startOf, startIn, buildBody};
 ghost use Rattle.build.specs.Code.{pathFault, buildIn, PathAt, ToldAt, innerAt, onPathRead, Leaves, towards, noFour, fourRead, fourOf, firsts, lasts, noStart, startLeft, startLoop, furtherLoop, pathEnds};
 use graph::GraphTable;
@@ -41,6 +42,12 @@ pub struct Taken {
     pub sets: Sets,
 }
 
+// The two ends of a path of the start.
+struct Between {
+    a: u16,
+    b: u16,
+}
+
 struct Four {
     end: Item,
     p: u16,
@@ -68,8 +75,8 @@ fn path_fault(along: bool, ends: bool, new: bool, apart: bool) -> u8
     0
 }
 
-// The inner vertices of the path that was read at a place are in, and point to their neighbours on it. They are read again, so that
-// no list of them is kept.
+// The inner vertices of the path that was read at a place, of which there are some, are in, and point to their neighbours on it, the outermost
+// to each other. They are read again, so that no list of them is kept.
 fn take_inner<'a>(
     s: &'a [u8],
     n: u16,
@@ -78,8 +85,9 @@ fn take_inner<'a>(
     pointers: &'a mut [u16; Link::POINTERS],
 ) -> VertexSet
     requires { ⌜ PathAt n (now s) at ⌝ }
+    requires { ⌜ 0 < length (innerAt n (now s) at) ⌝ }
     ensures { λ r. ⌜ r ≡ folded inserted built (innerAt n (now (s .entry)) at) ⌝ }
-    ensures { λ r. ⌜ now (pointers .exit) ≡ pointAlong (now (pointers .entry)) (verticesAt n (now (s .entry)) at) ⌝ }
+    ensures { λ r. ⌜ now (pointers .exit) ≡ matedEnds (pointAlong (now (pointers .entry)) (verticesAt n (now (s .entry)) at)) (innerAt n (now (s .entry)) at) ⌝ }
 {
     let x = paths::read_ranged(s, 2, n, at);
     let a = paths::read_vertex(s, n, x.next);
@@ -98,6 +106,7 @@ fn take_inner<'a>(
         next = y.next;
         left -= 1;
     }
+    links::mate(pointers, b.value, u);
     VertexSet { words }
 }
 
@@ -133,7 +142,7 @@ fn take_start_path<'a>(
     rows: &'a [u64; GraphTable::ROW_WORDS],
     n: u16,
     at: usize,
-    ends: Link,
+    ends: Between,
     sets: Sets,
     pointers: &'a mut [u16; Link::POINTERS],
     linked: &'a mut [u64; GraphTable::ROW_WORDS],
@@ -206,7 +215,7 @@ pub fn take_path<'a>(
             sets,
         };
     }
-    links::split_by(linked, a);
+    links::split_by(linked, pointers, a);
     let raised = Sets {
         branch: raise(raise(branch, first), last),
         built,
@@ -242,13 +251,13 @@ impl Four {
     }
 
     // The ends of the path at a place, in the order pq, pr, ps, qr, qs, rs.
-    fn pair(self, i: usize) -> Link
+    fn pair(self, i: usize) -> Between
         requires { ⌜ i < 6 ⌝ }
         ensures { λ r. ⌜ r ≡ pathEnds (firsts self) (lasts self) i ⌝ }
     {
         let first = [self.p, self.p, self.p, self.q, self.q, self.r];
         let last = [self.q, self.r, self.s, self.r, self.s, self.s];
-        Link {
+        Between {
             a: first[i],
             b: last[i],
         }

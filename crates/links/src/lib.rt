@@ -1,16 +1,18 @@
 // Links of a build: the two ends of a path, and the tables of what they join and of the way along them.
 ghost use mathlib.Core.Path.{_≡_};
-ghost use Prim.Native.Nat.{_≤_};
-ghost use Rattle.vertexset.specs.Set.{has, capacity};
+ghost use Prim.Native.Nat.{_*_, _≤_};
+ghost use Rattle.vertexset.specs.Set.{capacity};
 ghost use Rattle.links.specs.Ends.{sameLink, linkEnd, additionOf, held};
-ghost use Rattle.links.specs.Tables.{pointer, pointed, pointedBoth, reach, endIn, splitRows, splitBy};
+ghost use Rattle.links.specs.Tables.{pointer, pointed, pointedBoth, mated, linkAround, linkAt, endIn, matedAside, splitRows, splitMates, splitBy, splitMatesBy};
 use graph::GraphTable;
 use vertexset::VertexSet;
 
-// A link, named by its two ends: no two links have the same.
+// A link, named by its two ends: no two links have the same. With it come its two outermost inner vertices, next to a and next to b.
 pub struct Link {
     pub a: u16,
     pub b: u16,
+    pub first: u16,
+    pub last: u16,
 }
 
 // An end of a path: a branch vertex, or an inner vertex together with its link.
@@ -33,13 +35,16 @@ pub enum Addition {
 }
 
 impl Link {
-    // the pointers to the vertex before each vertex on its link begin here ..
+    // the pointers to the vertex before each vertex on its link begin here,
     const BEFORE: usize = 0;
 
-    // .. and those to the vertex after it here
+    // those to the vertex after it here,
     const AFTER: usize = VertexSet::CAPACITY as usize;
 
-    pub const POINTERS: usize = 2 * VertexSet::CAPACITY as usize;
+    // and those from one outermost inner vertex of a link to the other here
+    const MATE: usize = 2 * VertexSet::CAPACITY as usize;
+
+    pub const POINTERS: usize = 3 * VertexSet::CAPACITY as usize;
 
     fn has_end(self, v: u16) -> bool
         ensures { λ r. ⌜ r ≡ linkEnd v self ⌝ }
@@ -107,31 +112,50 @@ impl Addition {
     }
 }
 
-fn pointer(pointers: &[u16; Link::POINTERS], half: usize, v: u16) -> u16
-    requires { ⌜ half ≤ capacity ⌝ }
-    ensures { λ r. ⌜ r ≡ pointer (now (pointers .entry)) half v ⌝ }
+fn pointer(pointers: &[u16; Link::POINTERS], part: usize, v: u16) -> u16
+    requires { ⌜ part ≤ 2 * capacity ⌝ }
+    ensures { λ r. ⌜ r ≡ pointer (now (pointers .entry)) part v ⌝ }
 {
     if v < VertexSet::CAPACITY {
-        return pointers[half + v as usize];
+        return pointers[part + v as usize];
     }
     0
 }
 
-// From v along the pointers to the first branch vertex.
-fn reach(pointers: &[u16; Link::POINTERS], half: usize, branch: VertexSet, v: u16) -> u16
-    requires { ⌜ half ≤ capacity ⌝ }
-    ensures { λ r. ⌜ r ≡ reach (pointer (now (pointers .entry)) half) (has (branch .words)) capacity v ⌝ }
+// The link with these outermost inner vertices.
+fn link_around(pointers: &[u16; Link::POINTERS], first: u16, last: u16) -> Link
+    ensures { λ r. ⌜ r ≡ linkAround (now (pointers .entry)) (first, last) ⌝ }
 {
-    let mut at = v;
+    Link {
+        a: pointer(pointers, Link::BEFORE, first),
+        b: pointer(pointers, Link::AFTER, last),
+        first,
+        last,
+    }
+}
+
+// The link on which v stands. Walked both ways at once, so that a long link costs no more than its shorter side: the outermost vertex of
+// the other side is the mate of the one that is met.
+fn link_at(pointers: &[u16; Link::POINTERS], branch: VertexSet, v: u16) -> Link
+    ensures { λ r. ⌜ r ≡ linkAt (now (pointers .entry)) branch v ⌝ }
+{
+    let mut u = v;
+    let mut w = v;
     let mut left = VertexSet::CAPACITY;
     while 0 < left {
-        if branch.contains(at) {
-            return at;
+        let before = pointer(pointers, Link::BEFORE, u);
+        if branch.contains(before) {
+            return link_around(pointers, u, pointer(pointers, Link::MATE, u));
         }
-        at = pointer(pointers, half, at);
+        let after = pointer(pointers, Link::AFTER, w);
+        if branch.contains(after) {
+            return link_around(pointers, pointer(pointers, Link::MATE, w), w);
+        }
+        u = before;
+        w = after;
         left -= 1;
     }
-    at
+    link_around(pointers, u, w)
 }
 
 // The end that a path has at v.
@@ -141,45 +165,15 @@ pub fn end_of(pointers: &[u16; Link::POINTERS], branch: VertexSet, v: u16) -> En
     if branch.contains(v) {
         return End::Branch(v);
     }
-    End::Inner(
-        v,
-        Link {
-            a: reach(pointers, Link::BEFORE, branch, v),
-            b: reach(pointers, Link::AFTER, branch, v),
-        },
-    )
+    End::Inner(v, link_at(pointers, branch, v))
 }
 
-// The link is split at its inner vertex x.
-fn split_link(linked: &mut [u64; GraphTable::ROW_WORDS], x: u16, l: Link)
-    ensures { λ r. ⌜ now (linked .exit) ≡ splitRows (now (linked .entry)) x l ⌝ }
-{
-    graph::part(linked, l.a, l.b);
-    graph::join(linked, l.a, x);
-    graph::join(linked, x, l.b);
-}
-
-// The links are split that an addition splits.
-pub fn split_by(linked: &mut [u64; GraphTable::ROW_WORDS], a: Addition)
-    ensures { λ r. ⌜ now (linked .exit) ≡ splitBy (now (linked .entry)) a ⌝ }
-{
-    match a {
-        Addition::Held => {}
-        Addition::VertexVertex => {}
-        Addition::EdgeVertex(x, k) => split_link(linked, x, k),
-        Addition::EdgeEdge(x, k, y, l) => {
-            split_link(linked, x, k);
-            split_link(linked, y, l);
-        }
-    }
-}
-
-fn point(pointers: &mut [u16; Link::POINTERS], half: usize, v: u16, to: u16)
-    requires { ⌜ half ≤ capacity ⌝ }
-    ensures { λ r. ⌜ now (pointers .exit) ≡ pointed (now (pointers .entry)) half v to ⌝ }
+fn point(pointers: &mut [u16; Link::POINTERS], part: usize, v: u16, to: u16)
+    requires { ⌜ part ≤ 2 * capacity ⌝ }
+    ensures { λ r. ⌜ now (pointers .exit) ≡ pointed (now (pointers .entry)) part v to ⌝ }
 {
     if v < VertexSet::CAPACITY {
-        pointers[half + v as usize] = to;
+        pointers[part + v as usize] = to;
     }
 }
 
@@ -189,4 +183,62 @@ pub fn point_between(pointers: &mut [u16; Link::POINTERS], u: u16, v: u16, w: u1
 {
     point(pointers, Link::BEFORE, v, u);
     point(pointers, Link::AFTER, v, w);
+}
+
+// The outermost inner vertices of a link point to each other.
+pub fn mate(pointers: &mut [u16; Link::POINTERS], first: u16, last: u16)
+    ensures { λ r. ⌜ now (pointers .exit) ≡ mated (now (pointers .entry)) first last ⌝ }
+{
+    point(pointers, Link::MATE, first, last);
+    point(pointers, Link::MATE, last, first);
+}
+
+// What x leaves of its link on one side has the outermost vertex of that side and x's neighbour there outermost; where x is
+// outermost, nothing is left.
+fn mate_aside(pointers: &mut [u16; Link::POINTERS], part: usize, x: u16, outer: u16)
+    requires { ⌜ part ≤ 2 * capacity ⌝ }
+    ensures { λ r. ⌜ now (pointers .exit) ≡ matedAside (now (pointers .entry)) part x outer ⌝ }
+{
+    if x == outer {
+        return;
+    }
+    let next = pointer(pointers, part, x);
+    mate(pointers, outer, next);
+}
+
+// The link is split at its inner vertex x.
+fn split_link<'a>(
+    linked: &'a mut [u64; GraphTable::ROW_WORDS],
+    pointers: &'a mut [u16; Link::POINTERS],
+    x: u16,
+    l: Link,
+)
+    ensures { λ r. ⌜ now (linked .exit) ≡ splitRows (now (linked .entry)) x l ⌝ }
+    ensures { λ r. ⌜ now (pointers .exit) ≡ splitMates (now (pointers .entry)) x l ⌝ }
+{
+    graph::part(linked, l.a, l.b);
+    graph::join(linked, l.a, x);
+    graph::join(linked, x, l.b);
+    mate_aside(pointers, Link::BEFORE, x, l.first);
+    mate_aside(pointers, Link::AFTER, x, l.last);
+}
+
+// The links are split that an addition splits.
+pub fn split_by<'a>(
+    linked: &'a mut [u64; GraphTable::ROW_WORDS],
+    pointers: &'a mut [u16; Link::POINTERS],
+    a: Addition,
+)
+    ensures { λ r. ⌜ now (linked .exit) ≡ splitBy (now (linked .entry)) a ⌝ }
+    ensures { λ r. ⌜ now (pointers .exit) ≡ splitMatesBy (now (pointers .entry)) a ⌝ }
+{
+    match a {
+        Addition::Held => {}
+        Addition::VertexVertex => {}
+        Addition::EdgeVertex(x, k) => split_link(linked, pointers, x, k),
+        Addition::EdgeEdge(x, k, y, l) => {
+            split_link(linked, pointers, x, k);
+            split_link(linked, pointers, y, l);
+        }
+    }
 }

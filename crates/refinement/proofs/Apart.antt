@@ -20,7 +20,8 @@ use Rattle.links.specs.Ends.{linkEnd, sameLink, additionOf, held}
 use Rattle.build.specs.State.{endOf, pathAddition}
 use Rattle.refinement.proofs.Tests.{iff-test, both-true, left-true, pair-tells, any-link, link-any, built-tells}
 use Rattle.refinement.proofs.Splits.{Joined}
-use Rattle.refinement.proofs.Shows.{Shows, ends, end-branch, end-inner, not-inside, same-ends, placed, Placed}
+use Rattle.refinement.proofs.Runs.{ends}
+use Rattle.refinement.proofs.Shows.{Shows, end-branch, end-inner, not-inside, same-ends, placed, Placed}
 
 -- some link holds both
 abbrev pub Holds : List Path → ℕ → ℕ → Type 0

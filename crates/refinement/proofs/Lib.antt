@@ -1,7 +1,9 @@
 pub mod Tests
 pub mod Pointers
+pub mod Mates
 pub mod Table
 pub mod Splits
+pub mod Runs
 pub mod Shows
 pub mod Apart
 pub mod Taken

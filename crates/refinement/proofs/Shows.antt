@@ -1,5 +1,5 @@
 -- A build as the code keeps it SHOWS a list of links: what that means, the ends of a path, and 27. Assumes nothing.
-use Prim.Native.Nat.{ℕ, _<_, _≤_}
+use Prim.Native.Nat.{ℕ, _≤_}
 use mathlib.Core.List.{List}
 use mathlib.Core.Bool.{true, false}
 use mathlib.Core.Path.{_≡_, refl, sym, _∙_}
@@ -16,13 +16,12 @@ use Rattle.connectivity.proofs.Paths.{SamePair, end-or-inner, end-s, end-t, end
 use Rattle.connectivity.proofs.EdgeUse.{Tally, tally-simple}
 use Rattle.certificates.specs.Tests.{inBuild, isBranch}
 use Rattle.build.specs.declared.Build.{Build}
-use Rattle.links.specs.declared.Link.{Link}
 use Rattle.links.specs.declared.End.the-variants.{Branch, Inner}
-use Rattle.links.specs.Tables.{pointerCount, pointer, reach}
+use Rattle.links.specs.Tables.{pointerCount}
 use Rattle.build.specs.State.{endOf}
 use Rattle.refinement.proofs.Tests.{false-of, built-tells, branch-tells}
-use Rattle.refinement.proofs.Pointers.{Back, On, back-reach, on-reach}
 use Rattle.refinement.proofs.Splits.{Joined, Sole}
+use Rattle.refinement.proofs.Runs.{Runs, AllLow, ends, link-found}
 
 -- the graph with every edge: what is known of the links of a build does not depend on the graph
 abbrev pub everyEdge : Graph
@@ -39,13 +38,6 @@ pub record Listed (linked : List ℕ) (links : List Path) : Type 0 where
   pub long : length linked ≡ rowWords
   pub tells : (u v : ℕ) → (adjacentIn linked u v ≡ true) ↔ Joined links u v
 
--- the pointers run along each link
-abbrev pub Runs : List ℕ → List Path → Type 0
-Runs pointers links = (L : Path) → In L links → Back (pointer pointers 0) (L .s) (L .inner) × On (pointer pointers capacity) (L .inner) (L .t)
-
-abbrev pub AllLow : List ℕ → Type 0
-AllLow l = (w : ℕ) → In w l → w < capacity
-
 -- THE BUILD SHOWS THE LINKS; `tally` is what the connectivity crate proves of the links after the start and after every step.
 pub record Shows (b : Build) (links : List Path) : Type 0 where
   pub sizes : Sizes b
@@ -56,10 +48,6 @@ pub record Shows (b : Build) (links : List Path) : Type 0 where
   pub low : (L : Path) → In L links → AllLow (vertices L)
   pub steps : ℕ
   pub tally : Tally (Adj everyEdge) links steps
-
--- the two ends of a link, as the code names it
-abbrev pub ends : Path → Link
-ends L = record { a = L .s; b = L .t }
 
 module _ {b : Build} {links : List Path} (sh : Shows b links) where
   pub shows-simple : SimpleBuild links
@@ -72,7 +60,7 @@ module _ {b : Build} {links : List Path} (sh : Shows b links) where
   same-ends L M hL hM e = sh .tally .invariant .share-one L M hL hM (L .s) (L .t) (ends-differ L (path-of L hL)) (end-s L) (end-t L) (⊎-elim (λ k. rw (k .0) (end-s M)) (λ k. rw (k .0) (end-t M)) e) (⊎-elim (λ k. rw (k .1) (end-t M)) (λ k. rw (k .1) (end-s M)) e)
 
   pub sole-link : (L : Path) → In L links → (x : ℕ) → In x (L .inner) → Sole links x L
-  sole-link L h x i = record { there = h; inside = i; only = λ M k j. sym (sh .tally .inner-once L M h k x i (inner-in x M j)); by-ends = λ M k e. same-ends M L k h e }
+  sole-link L h x i = record { there = h; inside = i; only = λ M k w j l. sym (sh .tally .inner-once L M h k w j (inner-in w M l)); by-ends = λ M k e. same-ends M L k h e }
 
   pub branch-shown : (v : ℕ) → (has (b .sets .branch .words) v ≡ true) ↔ IsBranch v links
   branch-shown v = (λ e. branch-tells links v .0 (sym (sh .branch v) ∙ e), λ r. sh .branch v ∙ branch-tells links v .1 r)
@@ -92,11 +80,9 @@ module _ {b : Build} {links : List Path} (sh : Shows b links) where
 
   pub end-inner : (v : ℕ) (L : Path) → In L links → In v (L .inner) → endOf b v ≡ Inner v (ends L)
   end-inner v L h i =
-      let test = has (b .sets .branch .words) in
       let c = clear L h v i in
-      let s : reach (pointer (b .pointers) 0) test capacity v ≡ L .s = back-reach (pointer (b .pointers) 0) test (L .s) (L .inner) capacity (sh .runs L h .0) (clear L h) (branch-shown (L .s) .1 (L, h, inl refl)) (inner-length L h) v i in
-      let t : reach (pointer (b .pointers) capacity) test capacity v ≡ L .t = on-reach (pointer (b .pointers) capacity) test (L .inner) (L .t) capacity (sh .runs L h .1) (clear L h) (branch-shown (L .t) .1 (L, h, inr refl)) (inner-length L h) v i in
-      rw (c, s, t)
+      let l = link-found L v i (b .pointers) (b .sets .branch) (sh .runs L h) (branch-shown (L .s) .1 (L, h, inl refl)) (branch-shown (L .t) .1 (L, h, inr refl)) (clear L h) (inner-length L h) in
+      rw (c, l)
 
   -- a vertex of the build is a branch vertex, or inside a link
   abbrev pub Placed : ℕ → Type 0

@@ -73,11 +73,11 @@ split-swap x y (L ∷ ls) n = go (in? x (L .inner)) (in? y (L .inner)) (split-sw
 abbrev pub Joined : List Path → ℕ → ℕ → Type 0
 Joined links u v = (L : Path) × In L links × SamePair u v (L .s) (L .t)
 
--- K is the only link with x inside, and the only one with its two ends
+-- K is the only link with x inside, shares no inner vertex, and is the only one with its two ends
 pub record Sole (links : List Path) (x : ℕ) (K : Path) : Type 0 where
   pub there : In K links
   pub inside : In x (K .inner)
-  pub only : (M : Path) → In M links → In x (M .inner) → M ≡ K
+  pub only : (M : Path) → In M links → (w : ℕ) → In w (K .inner) → In w (M .inner) → M ≡ K
   pub by-ends : (M : Path) → In M links → SamePair (M .s) (M .t) (K .s) (K .t) → M ≡ K
 
 -- what a split does to the pairs of ends
@@ -91,11 +91,11 @@ split-joined links x K one u v = (λ r. let a = piece-of x links (r .0) (r .1) i
     there p L h (whole n k) e =
         let f : SamePair u v (L .s) (L .t) = rw k at e in
         inl (inl ((L, h, f), λ j. n (rw (one .by-ends L h (same-trans u v (L .s) (L .t) (K .s) (K .t) f j)) (one .inside))))
-    there p L h (front i k) e = inl (inr (rw (one .only L h i) at (rw k at e)))
-    there p L h (back i k) e = inr (rw (one .only L h i) at (rw k at e))
+    there p L h (front i k) e = inl (inr (rw (one .only L h x (one .inside) i) at (rw k at e)))
+    there p L h (back i k) e = inr (rw (one .only L h x (one .inside) i) at (rw k at e))
 
     old : (L : Path) → In L links → SamePair u v (L .s) (L .t) → ¬ SamePair u v (K .s) (K .t) → Dec (In x (L .inner)) → Joined (splitAt x links) u v
-    old L h e n (yes i) = absurd (n (rw (one .only L h i) at e))
+    old L h e n (yes i) = absurd (n (rw (one .only L h x (one .inside) i) at e))
     old L h e n (no i) = (L, piece-there x links L h L (whole i refl), e)
 
     again : Replaced (Joined links u v) x K u v → Joined (splitAt x links) u v

@@ -18,18 +18,19 @@ use Rattle.graph.specs.Rows.{adjacentIn, bareRows, rowWords}
 use Rattle.connectivity.specs.Lists.{In, member}
 use Rattle.connectivity.specs.Graph.{Graph, Adj}
 use Rattle.connectivity.specs.Path.{vertices, End, Path}
-use Rattle.connectivity.specs.Build.{IsBranch, four, sixPairs, endPairs, Starts, StartRules}
+use Rattle.connectivity.specs.Build.{InBuild, IsBranch, four, sixPairs, endPairs, Starts, StartRules}
 use Rattle.connectivity.proofs.Lists.{and-true, or-true, true-or, clash, member-in, in-member, member-out, in-append, in-left, in-right}
 use Rattle.connectivity.proofs.Paths.{end-or-inner, end-vertex, inner-in, length-ends, in-ends, ends-in}
 use Rattle.connectivity.proofs.Start.{Subdivision, start-subdivision}
 use Rattle.connectivity.proofs.EdgeUse.{tally-start}
-use Rattle.certificates.specs.Tests.{Start, startEnds, laterEnds, startTaken, inBuild, anyLink}
+use Rattle.certificates.specs.Tests.{Start, startEnds, laterEnds, startTaken, anyLink}
 use Rattle.certificates.specs.Records.{vertex, startPath, branchFour, starting, startPaths}
 use Rattle.build.specs.declared.Build.{Build}
-use Rattle.build.specs.State.{BuildStart, startOn, startEntered, fourSet, startOf, buildStart, startedBuild, bareBuild}
-use Rattle.refinement.proofs.Tests.{same-test, iff-test, left-true, built-tells, branch-tells}
-use Rattle.refinement.proofs.Shows.{Shows, Sizes, Listed, Runs, AllLow, everyEdge}
-use Rattle.refinement.proofs.Taken.{listed-more, runs-more, members-length, has-members, built-more, entered-sizes}
+use Rattle.build.specs.State.{BuildStart, startOn, startEntered, fourSet, startOf, startIn, buildStart, startedBuild, barePointers, bareBuild}
+use Rattle.refinement.proofs.Tests.{same-test, iff-test, left-true, any-link, link-any, built-tells, branch-tells}
+use Rattle.refinement.proofs.Runs.{Runs, AllLow, runs-more}
+use Rattle.refinement.proofs.Shows.{Shows, Sizes, Listed, everyEdge}
+use Rattle.refinement.proofs.Taken.{listed-more, members-length, has-members, built-more, entered-sizes}
 use Rattle.refinement.proofs.Reading.{vertex-low, Tested, tests-tell, tests-same}
 
 -- four branch vertices, and their six pairs
@@ -47,7 +48,6 @@ record Beside (st : BuildStart) (t : Start) : Type 0 where
   ends : st .ends ≡ t .ends
   sizes : Sizes (st .build)
   built : (v : ℕ) → has (st .build .sets .built .words) v ≡ member v (t .built)
-  ends-in : (e : ℕ × ℕ) → In e (t .ends) → In (e .0) (t .built) × In (e .1) (t .built)
 
 -- a start path that was read
 module _ (g : Graph) (t : Start) (s : List ℕ) (at : ℕ) {P : Path} {next : ℕ} (e : startPath g t s at ≡ Got P next) where
@@ -76,24 +76,14 @@ item-kept g low st t h s at P next e = record {
   ends = ap laterEnds (h .ends);
   sizes = entered-sizes (st .build) (h .sizes) P;
   built = λ v. built-more (st .build) (h .sizes) P (λ w i. let z = tests g t s at e .low w i in omega arith) v ∙ same-test _ _ (there v) (back v);
-  ends-in = λ d i. let r = h .ends-in d (later d (inr i)) in (in-right (d .0) (P .inner) (t .built) (r .0), in-right (d .1) (P .inner) (t .built) (r .1));
 }
   where
-    later : (d : ℕ × ℕ) → In d ((P .s, P .t) ∷ laterEnds (t .ends)) → In d (t .ends)
-    later d i = subst (λ (l : List (ℕ × ℕ)). In d l) (sym (first-pair g t s at e)) i
+    there : (v : ℕ) → (has (st .build .sets .built .words) v || member v (P .inner)) ≡ true → member v (P .inner ++ t .built) ≡ true
+    there v k = in-member v (P .inner ++ t .built) (⊎-elim (λ z. in-right v (P .inner) (t .built) (member-in v (t .built) (sym (h .built v) ∙ z))) (λ z. in-left v (P .inner) (t .built) (member-in v (P .inner) z))
+        (or-true (has (st .build .sets .built .words) v) (member v (P .inner)) k))
 
-    own : In (P .s) (t .built) × In (P .t) (t .built)
-    own = h .ends-in (P .s, P .t) (later (P .s, P .t) (inl refl))
-
-    on : (v : ℕ) → In v (vertices P) → In v (P .inner ++ t .built)
-    on v i = ⊎-elim (λ k. in-right v (P .inner) (t .built) (⊎-elim (λ z. rw z (own .0)) (λ z. rw z (own .1)) k)) (in-left v (P .inner) (t .built)) (end-or-inner P v i)
-
-    there : (v : ℕ) → (has (st .build .sets .built .words) v || member v (vertices P)) ≡ true → member v (P .inner ++ t .built) ≡ true
-    there v k = in-member v (P .inner ++ t .built) (⊎-elim (λ z. in-right v (P .inner) (t .built) (member-in v (t .built) (sym (h .built v) ∙ z))) (λ z. on v (member-in v (vertices P) z))
-        (or-true (has (st .build .sets .built .words) v) (member v (vertices P)) k))
-
-    back : (v : ℕ) → member v (P .inner ++ t .built) ≡ true → (has (st .build .sets .built .words) v || member v (vertices P)) ≡ true
-    back v k = ⊎-elim (λ i. true-or (has (st .build .sets .built .words) v) (member v (vertices P)) (in-member v (vertices P) (inner-in v P i))) (λ i. left-true (member v (vertices P)) (h .built v ∙ in-member v (t .built) i))
+    back : (v : ℕ) → member v (P .inner ++ t .built) ≡ true → (has (st .build .sets .built .words) v || member v (P .inner)) ≡ true
+    back v k = ⊎-elim (λ i. true-or (has (st .build .sets .built .words) v) (member v (P .inner)) (in-member v (P .inner) i)) (λ i. left-true (member v (P .inner)) (h .built v ∙ in-member v (t .built) i))
         (in-append v (P .inner) (t .built) (member-in v (P .inner ++ t .built) k))
 
 -- four ascending vertices that were read
@@ -157,14 +147,18 @@ six-four b e i = go i
     go (inr (inr (inr (inr (inr (inl k)))))) = at (b .1 .1 .0) (b .1 .1 .1) (inr (inr (inl refl))) (inr (inr (inr (inl refl)))) k
     go (inr (inr (inr (inr (inr (inr k)))))) = absurd k
 
-beside-start : (n : ℕ) (b : Four) → n ≤ capacity → Ascends n b → Beside (startOf b) (starting b)
-beside-start n b h a = record { ends = refl; sizes = bare-sizes b; built = four-has b (four-low n b h a); ends-in = six-four b }
+-- the start beside bare tables
+abbrev bareStart : Four → BuildStart
+bareStart b = startOf barePointers bareRows b
+
+beside-start : (n : ℕ) (b : Four) → n ≤ capacity → Ascends n b → Beside (bareStart b) (starting b)
+beside-start n b h a = record { ends = refl; sizes = bare-sizes b; built = four-has b (four-low n b h a) }
 
 -- THE START IS READ ALIKE
 pub start-same : (g : Graph) → g .n ≤ capacity → (s : List ℕ) (at : ℕ) → buildStart g s at ≡ (branchFour (g .n) ▸ λ b. startPaths g b) s at
-unfolding buildStart
-start-same g h s at = then-same (branchFour (g .n)) (branchFour (g .n)) (λ b. many (startOn g) startEntered 6 (startOf b)) (λ b. startPaths g b) s at refl
-    (λ b mid e. sym (many-same (λ t st. Beside st t) (startPath g) startTaken (startOn g) startEntered (λ t st r s at. sym (item-same g st t r s at)) (λ t st r. item-kept g h st t r) 6 (starting b) (startOf b)
+unfolding startIn
+start-same g h s at = then-same (branchFour (g .n)) (branchFour (g .n)) (λ b. many (startOn g) startEntered 6 (bareStart b)) (λ b. startPaths g b) s at refl
+    (λ b mid e. sym (many-same (λ t st. Beside st t) (startPath g) startTaken (startOn g) startEntered (λ t st r s at. sym (item-same g st t r s at)) (λ t st r. item-kept g h st t r) 6 (starting b) (bareStart b)
     (beside-start (g .n) b h (four-read (g .n) s at e)) s mid))
 
 -- WHAT THE PATHS OF A START THAT WAS READ ARE
@@ -229,7 +223,7 @@ carries-more B (P ∷ ps) done st starts low inner c =
     (record {
       sizes = entered-sizes (st .build) (c .sizes) P;
       linked = listed-more (st .build .linked) done (c .linked) P (low P (inl refl));
-      runs = runs-more (st .build .pointers) done (c .runs) (c .sizes .pointers) P (starts .0 .nodup) (low P (inl refl)) (λ L i w k j. starts .1 w j (inner L i w k));
+      runs = runs-more (st .build .pointers) done (c .sizes .pointers, c .runs) P (starts .0 .nodup) (low P (inl refl)) (λ L i w k j. starts .1 w j (inner L i w k));
     })
   where
     within : (L : Path) → In L (P ∷ done) → (w : ℕ) → In w (L .inner) → In w (P .inner ++ B)
@@ -242,12 +236,16 @@ unfolding folded
 started-branch st [] = refl
 started-branch st (P ∷ ps) = started-branch (startEntered st P) ps
 
-started-built : (st : BuildStart) (ps : List Path) → Sizes (st .build) → ((L : Path) → In L ps → AllLow (vertices L)) → (v : ℕ) → has (folded startEntered st ps .build .sets .built .words) v ≡ (has (st .build .sets .built .words) v || inBuild ps v)
+-- v is inside a path
+abbrev inside : List Path → ℕ → Bool
+inside ps v = anyLink (λ L. member v (L .inner)) ps
+
+started-built : (st : BuildStart) (ps : List Path) → Sizes (st .build) → ((L : Path) → In L ps → AllLow (vertices L)) → (v : ℕ) → has (folded startEntered st ps .build .sets .built .words) v ≡ (has (st .build .sets .built .words) v || inside ps v)
 unfolding folded anyLink
 started-built st [] z low v = sym (or-false (has (st .build .sets .built .words) v))
 started-built st (P ∷ ps) z low v =
     started-built (startEntered st P) ps (entered-sizes (st .build) z P) (λ L i. low L (inr i)) v
-    ∙ ap (λ (t : Bool). t || inBuild ps v) (built-more (st .build) z P (low P (inl refl)) v) ∙ or-assoc (has (st .build .sets .built .words) v) (member v (vertices P)) (inBuild ps v)
+    ∙ ap (λ (t : Bool). t || inside ps v) (built-more (st .build) z P (low P (inl refl)) v) ∙ or-assoc (has (st .build .sets .built .words) v) (member v (P .inner)) (inside ps v)
 
 bare-listed : Listed bareRows []
 bare-listed = record { long = refl; tells = λ u v. (λ e. absurd (clash (bare u v e) (has-empty rowWords (u * capacity + v))), λ r. absurd (r .1)) }
@@ -302,7 +300,7 @@ module _ (g : Graph) (h : g .n ≤ capacity) (b : Four) (asc : Ascends (g .n) b)
       (λ k. four-ends v (member-in v B (sym f ∙ k)), λ r. f ∙ in-member v B (end-four (r .0) (r .1) v (r .2)))
 
   carried : Carries (startedBuild (b, start)) (onto start [])
-  carried = carries-more B start [] (startOf b) (all .starts) (all .low) (λ L i. absurd i) (record { sizes = bare-sizes b; linked = bare-listed; runs = λ L i. absurd i })
+  carried = carries-more B start [] (bareStart b) (all .starts) (all .low) (λ L i. absurd i) (record { sizes = bare-sizes b; linked = bare-listed; runs = λ L i. absurd i })
 
   there : (L : Path) → In L start → In L (onto start [])
   there L i = in-onto start [] L (inl i)
@@ -313,8 +311,8 @@ module _ (g : Graph) (h : g .n ≤ capacity) (b : Four) (asc : Ascends (g .n) b)
   started-shows : Shows (startedBuild (b, start)) start
   started-shows = record {
     sizes = carried .sizes;
-    branch = λ v. ap (λ (t : VertexSet). has (t .words) v) (started-branch (startOf b) start) ∙ iff-test (branch-four v) (branch-tells start v);
-    built = λ v. started-built (startOf b) start (bare-sizes b) (all .low) v ∙ same-test _ _ (in-already v) (true-or (has (fourSet b .words) v) (inBuild start v));
+    branch = λ v. ap (λ (t : VertexSet). has (t .words) v) (started-branch (bareStart b) start) ∙ iff-test (branch-four v) (branch-tells start v);
+    built = λ v. started-built (bareStart b) start (bare-sizes b) (all .low) v ∙ iff-test (in-there v, in-back v) (built-tells start v);
     linked = record { long = carried .linked .long; tells = λ u v. (λ k. let r = carried .linked .tells u v .0 k in (r .0, back (r .0) (r .1), r .2), λ r. carried .linked .tells u v .1 (r .0, there (r .0) (r .1), r .2)) };
     runs = λ L i. carried .runs L (there L i);
     low = all .low;
@@ -322,8 +320,14 @@ module _ (g : Graph) (h : g .n ≤ capacity) (b : Four) (asc : Ascends (g .n) b)
     tally = tally-start (Adj everyEdge) (λ u v k. k) start subdivision;
   }
     where
-      in-already : (v : ℕ) → (has (fourSet b .words) v || inBuild start v) ≡ true → inBuild start v ≡ true
-      in-already v k = ⊎-elim (λ i. let r = branch-four v .0 i in built-tells start v .1 (r .0, r .1, end-vertex v (r .0) (r .2))) (λ i. i) (or-true (has (fourSet b .words) v) (inBuild start v) k)
+      in-there : (v : ℕ) → (has (fourSet b .words) v || inside start v) ≡ true → InBuild v start
+      in-there v k = ⊎-elim (λ i. let r = branch-four v .0 i in (r .0, r .1, end-vertex v (r .0) (r .2))) (λ i. let r = any-link (λ L. member v (L .inner)) start i in (r .0, r .1, inner-in v (r .0) (member-in v (r .0 .inner) (r .2))))
+          (or-true (has (fourSet b .words) v) (inside start v) k)
+
+      -- the ends of the paths are the four, which are in already
+      in-back : (v : ℕ) → InBuild v start → (has (fourSet b .words) v || inside start v) ≡ true
+      in-back v r = ⊎-elim (λ i. left-true (inside start v) (branch-four v .1 (r .0, r .1, i))) (λ i. true-or (has (fourSet b .words) v) (inside start v) (link-any (λ L. member v (L .inner)) start (r .0) (r .1) (in-member v (r .0 .inner) i)))
+          (end-or-inner (r .0) v (r .2))
 
 pub shows-start : (g : Graph) → g .n ≤ capacity → (s : List ℕ) (at : ℕ) {x : Four × List Path} {next : ℕ} → (branchFour (g .n) ▸ λ b. startPaths g b) s at ≡ Got x next → Shows (startedBuild x) (x .1)
 shows-start g h s at {x} e =

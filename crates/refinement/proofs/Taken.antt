@@ -2,36 +2,40 @@
 use Prim.Native.Nat.{ℕ, suc, _<_}
 use mathlib.Core.List.{List, [], _∷_}
 use mathlib.Core.Bool.{Bool, true, false, _||_, or-assoc, or-false}
-use mathlib.Core.Path.{_≡_, refl, sym, ap, _∙_, subst}
+use mathlib.Core.Path.{_≡_, refl, sym, ap, _∙_}
 use mathlib.Core.Logic.{_⊎_, inl, inr, ⊎-elim, ⊎-map, _≢_}
 use lib.Dec.{eqb}
 use lib.ListN.{length}
-use lib.Bits.{bitOr}
 use borrow.Author.Tests.{eqb-true, eq-eqb}
 use Rattle.record.specs.Read.{folded}
-use Rattle.vertexset.specs.Set.{has, emptySet, inserted, wordCount, capacity}
+use Rattle.vertexset.specs.Set.{has, inserted, wordCount, capacity}
 use Rattle.vertexset.specs.declared.VertexSet.{VertexSet}
-use Rattle.vertexset.proofs.Laws.{has-empty, has-union, inserted-has, inserted-length, wordwise-length}
+use Rattle.vertexset.proofs.Laws.{inserted-has, inserted-length}
 use Rattle.graph.specs.Rows.{adjacentIn, joinedRows, partedRows}
 use Rattle.connectivity.specs.Lists.{In, NoDup, member}
 use Rattle.connectivity.specs.Graph.{Adj}
 use Rattle.connectivity.specs.Path.{vertices, End, Path}
-use Rattle.connectivity.specs.Build.{InBuild, IsBranch, BGPath, taken, takeBefore, takeAfter, splitAt as splitLinks}
+use Rattle.connectivity.specs.Build.{InBuild, IsBranch, BGPath, taken, splitAt as splitLinks}
 use Rattle.connectivity.proofs.Lists.{or-true, true-or, member-in, in-member}
-use Rattle.connectivity.proofs.Paths.{SamePair, inner-in, nodup-inner, ends-differ, end-s, end-t}
-use Rattle.connectivity.proofs.Split.{Piece, Piece.whole, Piece.front, Piece.back, piece-of, piece-inner, split-list, split-kept, kept-split}
+use Rattle.connectivity.proofs.Paths.{SamePair, end-or-inner, inner-in, ends-differ, end-s, end-t}
+use Rattle.connectivity.proofs.Split.{Piece, Piece.whole, Piece.front, Piece.back, piece-of, piece-inner, split-kept, kept-split}
 use Rattle.connectivity.proofs.EdgeUse.{tally-step}
 use Rattle.certificates.specs.Tests.{inBuild, isBranch}
 use Rattle.build.specs.declared.Build.{Build}
+use Rattle.links.specs.declared.Link.{Link}
+use Rattle.links.specs.declared.End.{End as PathEnd}
+use Rattle.links.specs.declared.End.the-variants.{Branch, Inner}
 use Rattle.links.specs.declared.Addition.the-variants.{VertexVertex, EdgeVertex, EdgeEdge}
 use Rattle.links.specs.Ends.{linkEnd, sameLink}
-use Rattle.links.specs.Tables.{splitRows, splitBy, pointer, pointerCount, pointAlong}
-use Rattle.build.specs.State.{pathAddition, entered, raised, pathTaken}
-use Rattle.refinement.proofs.Tests.{iff-test, false-of, left-true, built-tells, branch-tells}
-use Rattle.refinement.proofs.Pointers.{Back, On, Half.lower, Half.upper, back-cut, on-cut, back-same, on-same, along-other, along-set, along-length}
+use Rattle.links.specs.Tables.{splitRows, splitMates, splitEach, splitBy, splitMatesBy, pointAlong}
+use Rattle.build.specs.State.{endOf, pathAddition, entered, raisedAt, raised, pathTaken}
+use Rattle.refinement.proofs.Tests.{same-test, iff-test, false-of, left-true, built-tells, branch-tells}
+use Rattle.refinement.proofs.Pointers.{along-length}
+use Rattle.refinement.proofs.Mates.{ends-length}
 use Rattle.refinement.proofs.Table.{Low, with-length, without-length, with-tells, without-tells}
 use Rattle.refinement.proofs.Splits.{Sole, split-joined, split-none, split-swap, piece-there, branch-kept, branch-split}
-use Rattle.refinement.proofs.Shows.{Shows, Sizes, Listed, Runs, AllLow, ends, end-branch, end-inner, not-inside, sole-link, placed, Placed, everyEdge, branch-shown}
+use Rattle.refinement.proofs.Runs.{Pointing, AllLow, ends, pointing-split, runs-more}
+use Rattle.refinement.proofs.Shows.{Shows, Sizes, Listed, end-branch, end-inner, not-inside, path-of, sole-link, placed, Placed, everyEdge, branch-shown}
 use Rattle.refinement.proofs.Apart.{Holds, branch-branch, branch-inner, inner-branch, inner-inner}
 
 -- the table with a link that is split, and with one more
@@ -72,38 +76,6 @@ module _ (T : List ℕ) (links : List Path) (h : Listed T links) where
       old u v L (inl e) k = inr (rw e at k)
       old u v L (inr i) k = inl (h .tells u v .1 (L, i, k))
 
--- the pointers along links that are split, and along one more
-module _ (p : List ℕ) (links : List Path) (h : Runs p links) where
-  abbrev to-before : ℕ → ℕ
-  to-before = pointer p 0
-
-  abbrev to-after : ℕ → ℕ
-  to-after = pointer p capacity
-
-  pub runs-split : (x : ℕ) → Runs p (splitLinks x links)
-  runs-split x M m = let r = piece-of x links M m in go (r .0) (r .1) (r .2)
-    where
-      parts : (L : Path) → In L links → In x (L .inner) → (Back to-before (L .s) (takeBefore x (L .inner)) × Back to-before x (takeAfter x (L .inner))) × (On to-after (takeBefore x (L .inner)) x × On to-after (takeAfter x (L .inner)) (L .t))
-      parts L i k =
-          let c = split-list x (L .inner) k in
-          (back-cut to-before (L .s) (takeBefore x (L .inner)) x (takeAfter x (L .inner)) (subst (λ (l : List ℕ). Back to-before (L .s) l) c (h L i .0)), on-cut to-after (takeBefore x (L .inner)) x (takeAfter x (L .inner)) (L .t) (subst (λ (l : List ℕ). On to-after l (L .t)) c (h L i .1)))
-
-      go : (L : Path) → In L links → Piece x L M → Back to-before (M .s) (M .inner) × On to-after (M .inner) (M .t)
-      go L i (whole n e) = rw e (h L i)
-      go L i (front k e) = rw e (parts L i k .0 .0, parts L i k .1 .0)
-      go L i (back k e) = rw e (parts L i k .0 .1, parts L i k .1 .1)
-
-  pub runs-more : length p ≡ pointerCount → (P : Path) → NoDup (vertices P) → AllLow (vertices P) → ((L : Path) → In L links → (w : ℕ) → In w (L .inner) → ¬ In w (P .inner))
-      → Runs (pointAlong p (vertices P)) (P ∷ links)
-  runs-more long P nd low new M m = go m
-    where
-      go : In M (P ∷ links) → Back (pointer (pointAlong p (vertices P)) 0) (M .s) (M .inner) × On (pointer (pointAlong p (vertices P)) capacity) (M .inner) (M .t)
-      go (inl e) = rw e (along-set (P .t) p (P .s) (P .inner) long (nodup-inner P nd) (λ w i. low w (inner-in w P i)))
-      go (inr i) = (
-        back-same to-before (pointer (pointAlong p (vertices P)) 0) (M .s) (M .inner) (λ w k. along-other p (P .s) (P .inner) (P .t) 0 w lower (new M i w k)) (h M i .0),
-        on-same to-after (pointer (pointAlong p (vertices P)) capacity) (M .inner) (M .t) (λ w k. along-other p (P .s) (P .inner) (P .t) capacity w upper (new M i w k)) (h M i .1),
-      )
-
 -- the vertices of a list as a set
 pub members-length : (s : VertexSet) (l : List ℕ) → length (s .words) ≡ wordCount → length (folded inserted s l .words) ≡ wordCount
 unfolding folded
@@ -118,17 +90,24 @@ has-members s (a ∷ l) h low v =
     ∙ ap (λ (t : ℕ → Bool). t v || member v l) (inserted-has s a h (low a (inl refl))) ∙ or-assoc (has (s .words) v) (eqb v a) (member v l)
 
 -- what entering a path does to the vertices that are in, and to the lengths
-pub built-more : (b : Build) → Sizes b → (P : Path) → AllLow (vertices P) → (v : ℕ) → has (entered b P .sets .built .words) v ≡ (has (b .sets .built .words) v || member v (vertices P))
-built-more b z P low v =
-    has-union (b .sets .built .words) (folded inserted emptySet (vertices P) .words) (z .built ∙ sym (members-length emptySet (vertices P) refl)) v
-    ∙ ap (λ (t : Bool). has (b .sets .built .words) v || t) (has-members emptySet (vertices P) refl low v ∙ ap (λ (t : Bool). t || member v (vertices P)) (has-empty wordCount v))
+pub built-more : (b : Build) → Sizes b → (P : Path) → AllLow (vertices P) → (v : ℕ) → has (entered b P .sets .built .words) v ≡ (has (b .sets .built .words) v || member v (P .inner))
+built-more b z P low v = has-members (b .sets .built) (P .inner) (z .built) (λ w i. low w (inner-in w P i)) v
 
 pub entered-sizes : (b : Build) → Sizes b → (P : Path) → Sizes (entered b P)
 entered-sizes b z P = record {
   branch = z .branch;
-  built = wordwise-length bitOr (b .sets .built) (folded inserted emptySet (vertices P)) (z .built) (members-length emptySet (vertices P) refl);
-  pointers = along-length (b .pointers) (P .s) (P .inner) (P .t) ∙ z .pointers;
+  built = members-length (b .sets .built) (P .inner) (z .built);
+  pointers = ends-length (pointAlong (b .pointers) (vertices P)) (P .inner) ∙ along-length (b .pointers) (P .s) (P .inner) (P .t) ∙ z .pointers;
 }
+
+-- an end that is raised
+raised-length : (s : VertexSet) (e : PathEnd) → length (s .words) ≡ wordCount → length (raisedAt s e .words) ≡ wordCount
+raised-length s (Branch v) h = h
+raised-length s (Inner v l) h = inserted-length s v h
+
+raised-has : (s : VertexSet) (e : PathEnd) (x : ℕ) → length (s .words) ≡ wordCount → x < capacity → ((e ≡ Branch x) × (has (s .words) x ≡ true)) ⊎ ((l : Link) × (e ≡ Inner x l)) → (v : ℕ) → has (raisedAt s e .words) v ≡ (has (s .words) v || eqb v x)
+raised-has s e x h low (inl k) v = rw (k .0) (same-test _ _ (λ t. left-true (eqb v x) t) (λ t. ⊎-elim (λ z. z) (λ z. rw (eqb-true v x z) (k .1)) (or-true (has (s .words) v) (eqb v x) t)))
+raised-has s e x h low (inr k) v = rw (k .1) (ap (λ (t : ℕ → Bool). t v) (inserted-has s x h low))
 
 -- THE STEP
 module _ {b : Build} {links : List Path} (sh : Shows b links) (P : Path) (bg : BGPath (Adj everyEdge) links P) (low : AllLow (vertices P)) where
@@ -177,39 +156,48 @@ module _ {b : Build} {links : List Path} (sh : Shows b links) (P : Path) (bg : B
   still-sole M h j = record {
     there = piece-there (P .s) links M h M (whole (λ i. apart (M, h, inner-in (P .s) M i, inner-in (P .t) M j)) refl);
     inside = j;
-    only = λ N m i. let r = piece-of (P .s) links N m in only N (r .0) (r .1) (r .2) i;
+    only = λ N m w j i. let r = piece-of (P .s) links N m in only N (r .0) (r .1) (r .2) w j i;
     by-ends = λ N m e. let r = piece-of (P .s) links N m in by-ends N (r .0) (r .1) (r .2) e;
   }
     where
       one : Sole links (P .t) M
       one = sole-link sh M h (P .t) j
 
-      only : (N K : Path) → In K links → Piece (P .s) K N → In (P .t) (N .inner) → N ≡ M
-      only N K k (whole n e) i = e ∙ one .only K k (rw e at i)
-      only N K k (front f e) i = absurd (apart (K, k, inner-in (P .s) K f, inner-in (P .t) K (piece-inner (P .s) (P .t) K N (front f e) i)))
-      only N K k (back f e) i = absurd (apart (K, k, inner-in (P .s) K f, inner-in (P .t) K (piece-inner (P .s) (P .t) K N (back f e) i)))
-
       on : In (P .s) (vertices M) → ⊥
       on i = apart (M, h, i, inner-in (P .t) M j)
+
+      only : (N K : Path) → In K links → Piece (P .s) K N → (w : ℕ) → In w (M .inner) → In w (N .inner) → N ≡ M
+      only N K k (whole n e) w l i = e ∙ one .only K k w l (rw e at i)
+      only N K k (front f e) w l i = absurd (on (rw (sym (one .only K k w l (piece-inner (P .s) w K N (front f e) i))) (inner-in (P .s) K f)))
+      only N K k (back f e) w l i = absurd (on (rw (sym (one .only K k w l (piece-inner (P .s) w K N (back f e) i))) (inner-in (P .s) K f)))
 
       by-ends : (N K : Path) → In K links → Piece (P .s) K N → SamePair (N .s) (N .t) (M .s) (M .t) → N ≡ M
       by-ends N K k (whole n e) i = e ∙ one .by-ends K k (rw e at i)
       by-ends N K k (front f e) i = absurd (⊎-elim (λ z. on (rw (z .1) (end-t M))) (λ z. on (rw (z .1) (end-s M))) (rw e at i))
       by-ends N K k (back f e) i = absurd (⊎-elim (λ z. on (rw (z .0) (end-s M))) (λ z. on (rw (z .0) (end-t M))) (rw e at i))
 
-  raised-listed : Listed (splitBy (b .linked) (pathAddition b P)) rest
-  raised-listed = go (placed sh (P .s) (bg .from)) (placed sh (P .t) (bg .upto))
+  -- a table with the links split that the path splits: what holds of it beside the links holds beside the rest
+  raised-rest : (split : List ℕ → ℕ → Link → List ℕ) (Q : List ℕ → List Path → Type 0)
+      → ((t : List ℕ) (ls : List Path) → Q t ls → (x : ℕ) (K : Path) → Sole ls x K → NoDup (vertices K) → AllLow (vertices K) → Q (split t x (ends K)) (splitLinks x ls))
+      → (t : List ℕ) → Q t links → Q (splitEach split t (pathAddition b P)) rest
+  raised-rest split Q step t h = go (placed sh (P .s) (bg .from)) (placed sh (P .t) (bg .upto))
     where
-      at : (x : ℕ) (L : Path) → In L links → In x (L .inner) → Listed (splitRows (b .linked) x (ends L)) (splitLinks x links)
-      at x L h i = listed-split (b .linked) links (sh .linked) x L (sole-link sh L h x i) (sh .low L h)
+      at : (x : ℕ) (L : Path) → In L links → In x (L .inner) → Q (split t x (ends L)) (splitLinks x links)
+      at x L k i = step t links h x L (sole-link sh L k x i) (path-of sh L k) (sh .low L k)
 
-      go : Placed sh (P .s) → Placed sh (P .t) → Listed (splitBy (b .linked) (pathAddition b P)) rest
-      go (inl p) (inl q) = rw (branches p q, none-first p, none-last q) (sh .linked)
+      go : Placed sh (P .s) → Placed sh (P .t) → Q (splitEach split t (pathAddition b P)) rest
+      go (inl p) (inl q) = rw (branches p q, none-first p, none-last q) h
       go (inl p) (inr q) = rw (last-inner p (q .0) (q .1) (q .2), none-first p) (at (P .t) (q .0) (q .1) (q .2))
       go (inr p) (inl q) = rw (first-inner (p .0) (p .1) (p .2) q, none-last q) (at (P .s) (p .0) (p .1) (p .2))
       go (inr p) (inr q) =
           rw (both-inner (p .0) (q .0) (p .1) (q .1) (p .2) (q .2), split-swap (P .s) (P .t) links (λ L h i j. apart (L, h, inner-in (P .s) L i, inner-in (P .t) L j)))
-          (listed-split (splitRows (b .linked) (P .s) (ends (p .0))) (splitLinks (P .s) links) (at (P .s) (p .0) (p .1) (p .2)) (P .t) (q .0) (still-sole (q .0) (q .1) (q .2)) (sh .low (q .0) (q .1)))
+          (step (split t (P .s) (ends (p .0))) (splitLinks (P .s) links) (at (P .s) (p .0) (p .1) (p .2)) (P .t) (q .0) (still-sole (q .0) (q .1) (q .2)) (path-of sh (q .0) (q .1)) (sh .low (q .0) (q .1)))
+
+  raised-listed : Listed (splitBy (b .linked) (pathAddition b P)) rest
+  raised-listed = raised-rest splitRows Listed (λ t ls h x K one nd low. listed-split t ls h x K one low) (b .linked) (sh .linked)
+
+  raised-runs : Pointing (splitMatesBy (b .pointers) (pathAddition b P)) rest
+  raised-runs = raised-rest splitMates Pointing pointing-split (b .pointers) (sh .sizes .pointers, sh .runs)
 
   low-first : P .s < capacity
   low-first = low (P .s) (end-s P)
@@ -217,15 +205,29 @@ module _ {b : Build} {links : List Path} (sh : Shows b links) (P : Path) (bg : B
   low-last : P .t < capacity
   low-last = low (P .t) (end-t P)
 
+  first-length : length (raisedAt (b .sets .branch) (endOf b (P .s)) .words) ≡ wordCount
+  first-length = raised-length (b .sets .branch) (endOf b (P .s)) (sh .sizes .branch)
+
   raised-sizes : Sizes (raised b P)
-  raised-sizes = record { branch = inserted-length (inserted (b .sets .branch) (P .s)) (P .t) (inserted-length (b .sets .branch) (P .s) (sh .sizes .branch)); built = sh .sizes .built; pointers = sh .sizes .pointers }
+  raised-sizes = record {
+    branch = raised-length (raisedAt (b .sets .branch) (endOf b (P .s))) (endOf b (P .t)) first-length;
+    built = sh .sizes .built;
+    pointers = raised-runs .0;
+  }
+
+  -- what an end is in the code
+  told : (x : ℕ) → Placed sh x → ((endOf b x ≡ Branch x) × (has (b .sets .branch .words) x ≡ true)) ⊎ ((l : Link) × (endOf b x ≡ Inner x l))
+  told x (inl p) = inl (end-branch sh x p, branch-shown sh x .1 p)
+  told x (inr q) = inr (ends (q .0), end-inner sh x (q .0) (q .1) (q .2))
 
   taken-branch : (v : ℕ) → has (pathTaken b P .sets .branch .words) v ≡ isBranch (taken links P) v
   taken-branch v = iff-test (there, back) (branch-tells (taken links P) v)
     where
       set : has (pathTaken b P .sets .branch .words) v ≡ (has (b .sets .branch .words) v || eqb v (P .s) || eqb v (P .t))
-      set = ap (λ (t : ℕ → Bool). t v) (inserted-has (inserted (b .sets .branch) (P .s)) (P .t) (inserted-length (b .sets .branch) (P .s) (sh .sizes .branch)) low-last)
-          ∙ ap (λ (t : ℕ → Bool). t v || eqb v (P .t)) (inserted-has (b .sets .branch) (P .s) (sh .sizes .branch) low-first)
+      set =
+          let first = raised-has (b .sets .branch) (endOf b (P .s)) (P .s) (sh .sizes .branch) low-first (told (P .s) (placed sh (P .s) (bg .from))) in
+          raised-has (raisedAt (b .sets .branch) (endOf b (P .s))) (endOf b (P .t)) (P .t) first-length low-last (⊎-map (λ k. (k .0, first (P .t) ∙ left-true (eqb (P .t) (P .s)) (k .1))) (λ k. k) (told (P .t) (placed sh (P .t) (bg .upto)))) v
+          ∙ ap (λ (t : Bool). t || eqb v (P .t)) (first v)
 
       old : IsBranch v links → IsBranch v (taken links P)
       old r = let q = branch-kept (P .s) (splitLinks (P .t) links) v (branch-kept (P .t) links v r) in (q .0, inr (q .1), q .2)
@@ -253,16 +255,19 @@ module _ {b : Build} {links : List Path} (sh : Shows b links) (P : Path) (bg : B
   taken-built : (v : ℕ) → has (pathTaken b P .sets .built .words) v ≡ inBuild (taken links P) v
   taken-built v = iff-test (there, λ r. back (r .0) (r .1) (r .2)) (built-tells (taken links P) v)
     where
-      set : has (pathTaken b P .sets .built .words) v ≡ (has (b .sets .built .words) v || member v (vertices P))
+      set : has (pathTaken b P .sets .built .words) v ≡ (has (b .sets .built .words) v || member v (P .inner))
       set = built-more (raised b P) raised-sizes P low v
 
       there : has (pathTaken b P .sets .built .words) v ≡ true → InBuild v (taken links P)
       there e = ⊎-elim (λ k. let r = split-kept (P .s) v (splitLinks (P .t) links) (split-kept (P .t) v links (built-tells links v .0 (sym (sh .built v) ∙ k))) in (r .0, inr (r .1), r .2))
-          (λ k. (P, inl refl, member-in v (vertices P) k)) (or-true (has (b .sets .built .words) v) (member v (vertices P)) (sym set ∙ e))
+          (λ k. (P, inl refl, inner-in v P (member-in v (P .inner) k))) (or-true (has (b .sets .built .words) v) (member v (P .inner)) (sym set ∙ e))
+
+      old : InBuild v links → has (pathTaken b P .sets .built .words) v ≡ true
+      old r = set ∙ left-true (member v (P .inner)) (sh .built v ∙ built-tells links v .1 r)
 
       back : (L : Path) → In L (taken links P) → In v (vertices L) → has (pathTaken b P .sets .built .words) v ≡ true
-      back L (inl e) k = set ∙ true-or (has (b .sets .built .words) v) (member v (vertices P)) (in-member v (vertices P) (rw e at k))
-      back L (inr i) k = set ∙ left-true (member v (vertices P)) (sh .built v ∙ built-tells links v .1 (rest-built v (L, i, k)))
+      back L (inl e) k = ⊎-elim (λ z. old (⊎-elim (λ y. rw y (bg .from)) (λ y. rw y (bg .upto)) z)) (λ i. set ∙ true-or (has (b .sets .built .words) v) (member v (P .inner)) (in-member v (P .inner) i)) (end-or-inner P v (rw e at k))
+      back L (inr i) k = old (rest-built v (L, i, k))
 
   pub shows-taken : Shows (pathTaken b P) (taken links P)
   shows-taken = record {
@@ -270,7 +275,7 @@ module _ {b : Build} {links : List Path} (sh : Shows b links) (P : Path) (bg : B
     branch = taken-branch;
     built = taken-built;
     linked = listed-more (splitBy (b .linked) (pathAddition b P)) rest raised-listed P low;
-    runs = runs-more (b .pointers) rest (runs-split (b .pointers) (splitLinks (P .t) links) (runs-split (b .pointers) links (sh .runs) (P .t)) (P .s)) (sh .sizes .pointers) P (bg .is-path .nodup) low
+    runs = runs-more (splitMatesBy (b .pointers) (pathAddition b P)) rest raised-runs P (bg .is-path .nodup) low
         (λ L h w i j. bg .new w j (rest-built w (L, h, inner-in w L i)));
     low = all-low;
     steps = suc (sh .steps);

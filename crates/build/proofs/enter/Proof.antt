@@ -1,7 +1,7 @@
 -- `build::enter` meets its contract: a path of two vertices has none inside. Assumes nothing.
 use mathlib.Core.Path.{refl}
 use borrow.Author.Needs.{needs}
-use Rattle.build.proofs.Inner.{entered-short, entered-long}
+use Rattle.build.proofs.Inner.{inner-some, entered-short, entered-long}
 use Rattle.build.proofs.enter.Statement.{statement}
 use Rattle.build.proofs.enter.Tie as tie
 
@@ -20,5 +20,11 @@ returns-2 c =
     let a = st .args in
     (refl, entered-long (st .pre) (a .sets) (a .pointers .now) (a .linked .now) (t .0) (t .1) (j .join .ensures))
 
+take-inner-requires : tie.Need-take-inner-requires
+take-inner-requires c κs =
+    let st = c .before .before .before .before .before .before .before in
+    let a = st .args in
+    (st .pre .there, inner-some (st .pre) (a .sets) (a .pointers .now) (a .linked .now) (c .before .if1 .left))
+
 pub enter-spec : {M : Type 1} → statement M
-enter-spec = tie.close (tie.spec (λ c κs. search needs) returns (λ c κs. c .before .before .before .before .before .before .before .pre .there) returns-2)
+enter-spec = tie.close (tie.spec (λ c κs. search needs) returns take-inner-requires returns-2)

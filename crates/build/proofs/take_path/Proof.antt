@@ -3,7 +3,7 @@ use mathlib.Core.Path.{refl, ap, _∙_}
 use borrow.Author.Needs.{needs}
 use Rattle.certificates.specs.Records.{path}
 use Rattle.links.specs.Ends.{held}
-use Rattle.links.specs.Tables.{splitBy}
+use Rattle.links.specs.Tables.{splitBy, splitMatesBy}
 use Rattle.build.specs.declared.Build.{Build}
 use Rattle.build.specs.State.{entered, endOf}
 use Rattle.build.specs.Code.{buildIn, onPathRead}
@@ -37,7 +37,7 @@ returns-2 c =
 
 enter-requires : tie.Need-enter-requires
 enter-requires c κs =
-    let m = c .before .before .before .before .before .before .before .before .before .before .before .before .before .before .before .before .before in
+    let m = c .before .before .before .before .before .before .before .before .before .before .before .before .before .before .before .before .before .before in
     let k = m .before .before .before in
     let a = k .before .before .before .before .args in
     let b = buildIn (a .sets) (a .pointers .now) (a .linked .now) in
@@ -47,7 +47,7 @@ enter-requires c κs =
 returns-3 : tie.Need-returns-3
 returns-3 c =
     let i = c .before .before .before in
-    let g = i .before .before .before .before in
+    let g = i .before .before .before .before .before in
     let p = g .before in
     let h = p .before .before .before .before in
     let f = h .before .before .before .before in
@@ -62,9 +62,11 @@ returns-3 c =
     let add = addition-same (a .linked .now) _ _ (endOf b (x .first)) (endOf b (x .last)) (h .addition .ensures) first last in
     let fault = p .path-fault .ensures ∙ fault-same (x .along) (x .new) _ _ _ _ _ _ (p .before .before .before .contains .ensures) (p .before .before .contains2 .ensures) (p .before .is-held .ensures ∙ ap held add) in
     let branch = raised-same (a .sets .branch) (i .before .raise .ensures) (i .raise2 .ensures) first last in
-    let split = i .before .before .split-by .ensures ∙ ap (splitBy (a .linked .now)) add in
+    let split = i .before .before .split-by .ensures in
+    let linked = split .0 ∙ ap (splitBy (a .linked .now)) add in
+    let mates = split .1 ∙ ap (splitMatesBy (a .pointers .now)) add in
     leaves-taken T (k .read-link-path .ensures) (m .enum-told .given .1) fault (g .if1 .left) (c .enter .ensures .0)
-    (c .enter .ensures .1 ∙ ap (λ (b : Build). onPathRead entered b (path (a .n) 2 (a .s .now) (a .at))) (same-build (same-sets branch refl) refl split))
+    (c .enter .ensures .1 ∙ ap (λ (b : Build). onPathRead entered b (path (a .n) 2 (a .s .now) (a .at))) (same-build (same-sets branch refl) mates linked))
 
 pub take-path-spec : {M : Type 1} → statement M
 take-path-spec = tie.close (tie.spec

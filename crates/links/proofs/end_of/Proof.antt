@@ -7,7 +7,7 @@ returns : tie.Need-returns
 returns c = rw (← c .before .contains .ensures, c .if1 .taken)
 
 returns-2 : tie.Need-returns-2
-returns-2 c = rw (c .reach2 .ensures, c .before .reach .ensures, ← c .before .before .before .contains .ensures, c .before .before .if1 .left)
+returns-2 c = rw (c .link-at .ensures, ← c .before .before .contains .ensures, c .before .if1 .left)
 
 pub end-of-spec : {M : Type 1} → statement M
-end-of-spec = tie.close (tie.spec (λ c κs. search needs) returns (λ c κs. search needs) (λ c κs. search needs) returns-2)
+end-of-spec = tie.close (tie.spec (λ c κs. search needs) returns (λ c κs. search needs) returns-2)
