@@ -9,7 +9,6 @@ use Rattle.record.specs.Read.{Read, Read.Got, Read.Refused, Reader, onRead, _�
 use Rattle.record.specs.Loop.{runs, finish}
 use Rattle.record.specs.declared.Answer.the-variants.{Accepted}
 use Rattle.record.proofs.Laws.{on-got, carry}
-use Rattle.record.proofs.Faults.{NotAccepted, not-accepted}
 use Rattle.record.proofs.Loops.{led-folded}
 use Rattle.vertexset.specs.Set.{has, emptySet, capacity}
 use Rattle.connectivity.specs.Path.{Path}
@@ -18,6 +17,7 @@ use Rattle.certificates.specs.Records.{branchFour}
 use Rattle.graph.specs.Rows.{bareRows, rowsGraph}
 use Rattle.paths.specs.Items.{taken, refused, limited, endRead}
 use Rattle.paths.specs.declared.Item.{Item}
+use Rattle.record.proofs.Faults.{NotAccepted, not-accepted}
 use Rattle.paths.proofs.Told.{Stopped, end-told, end-fault}
 use Rattle.paths.proofs.Ends.{end-then}
 use Rattle.build.specs.declared.Build.{Build}

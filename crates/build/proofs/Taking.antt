@@ -9,7 +9,6 @@ use borrow.Author.Tests.{lt-ltb, le-ltb, leb-true}
 use Rattle.record.specs.Read.{Read, Read.Got, Read.Refused, Reader, onRead, _needs⟨_⟩_}
 use Rattle.record.specs.declared.Answer.the-variants.{Accepted}
 use Rattle.record.proofs.Laws.{test-got}
-use Rattle.record.proofs.Faults.{NotAccepted}
 use Rattle.record.proofs.Loops.{needs-bad}
 use Rattle.vertexset.specs.Set.{has, capacity}
 use Rattle.vertexset.specs.declared.VertexSet.{VertexSet}
@@ -20,6 +19,7 @@ use Rattle.certificates.specs.Records.{path}
 use Rattle.paths.specs.Items.{taken, refused, limited, endRead}
 use Rattle.paths.specs.Paths.{pathTold, pathRead}
 use Rattle.paths.specs.declared.PathRead.{PathRead}
+use Rattle.record.proofs.Faults.{NotAccepted}
 use Rattle.paths.proofs.Told.{path-told, path-fault}
 use Rattle.links.specs.declared.Link.{Link}
 use Rattle.links.specs.declared.End.{End}

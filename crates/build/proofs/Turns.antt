@@ -10,7 +10,6 @@ use borrow.Author.Tests.{le-leb, lt-leb}
 use Rattle.record.specs.Read.{Read.Got, Read.Refused, Reader, _needs⟨_⟩_, _▸_, led}
 use Rattle.record.specs.Loop.{runs}
 use Rattle.record.specs.declared.Answer.the-variants.{Accepted}
-use Rattle.record.proofs.Faults.{NotAccepted}
 use Rattle.record.proofs.Loops.{turn-go, turn-stop, turn-done, led-go, led-stop, needs-got}
 use Rattle.vertexset.specs.Set.{has, emptySet, inserted, capacity}
 use Rattle.vertexset.specs.declared.VertexSet.{VertexSet}
@@ -20,6 +19,7 @@ use Rattle.certificates.specs.Tests.{allBelow, laterEnds}
 use Rattle.certificates.specs.Records.{vertex, branchFour}
 use Rattle.graph.specs.Rows.{rowsGraph}
 use Rattle.paths.specs.Items.{taken, refused, limited}
+use Rattle.record.proofs.Faults.{NotAccepted}
 use Rattle.paths.proofs.Told.{Stopped, end-told, end-fault}
 use Rattle.links.specs.declared.Link.{Link}
 use Rattle.build.specs.declared.Build.{Build}
