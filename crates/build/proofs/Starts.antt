@@ -17,7 +17,8 @@ use Rattle.certificates.specs.Records.{branchFour}
 use Rattle.graph.specs.Rows.{bareRows, rowsGraph}
 use Rattle.paths.specs.Items.{taken, refused, limited, endRead}
 use Rattle.paths.specs.declared.Item.{Item}
-use Rattle.paths.proofs.Told.{NotAccepted, not-accepted, Stopped, end-told, end-fault}
+use Rattle.record.proofs.Faults.{NotAccepted, not-accepted}
+use Rattle.paths.proofs.Told.{Stopped, end-told, end-fault}
 use Rattle.paths.proofs.Ends.{end-then}
 use Rattle.build.specs.declared.Build.{Build}
 use Rattle.build.specs.declared.Four.{Four}

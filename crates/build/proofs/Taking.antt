@@ -19,7 +19,8 @@ use Rattle.certificates.specs.Records.{path}
 use Rattle.paths.specs.Items.{taken, refused, limited, endRead}
 use Rattle.paths.specs.Paths.{pathTold, pathRead}
 use Rattle.paths.specs.declared.PathRead.{PathRead}
-use Rattle.paths.proofs.Told.{NotAccepted, path-told, path-fault}
+use Rattle.record.proofs.Faults.{NotAccepted}
+use Rattle.paths.proofs.Told.{path-told, path-fault}
 use Rattle.links.specs.declared.End.{End}
 use Rattle.links.specs.declared.Addition.{Addition}
 use Rattle.links.specs.Ends.{additionOf, held}

@@ -19,7 +19,8 @@ use Rattle.certificates.specs.Tests.{allBelow, laterEnds}
 use Rattle.certificates.specs.Records.{vertex, branchFour}
 use Rattle.graph.specs.Rows.{rowsGraph}
 use Rattle.paths.specs.Items.{taken, refused, limited}
-use Rattle.paths.proofs.Told.{NotAccepted, Stopped, end-told, end-fault}
+use Rattle.record.proofs.Faults.{NotAccepted}
+use Rattle.paths.proofs.Told.{Stopped, end-told, end-fault}
 use Rattle.build.specs.declared.Build.{Build}
 use Rattle.build.specs.declared.Four.{Four}
 use Rattle.build.specs.declared.Taken.{Taken}
