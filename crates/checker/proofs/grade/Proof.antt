@@ -16,49 +16,43 @@ use Rattle.checker.proofs.grade.Tie as tie
 
 returns : tie.Need-returns
 returns c =
-    let r = c .before .before .before .before in
-    let k = r .before in
-    let b : Bytes (k .before .args .input .now) = λ i. omega (arith, k .shared-slice-known .given i) in
-    let g = grade-accepted (k .before .args .input .now) (r .read-leading-plan .result) (r .read-leading-plan .ensures) b (c .before .enum-told .given .1) in
-    let h : r .read-leading-plan .result .next ≤ length (k .before .args .input .now) = g .0 in
+    let r = c .before in
+    grade-refused (r .before .before .before .args .input .now) (r .read-leading-rows .result) (r .read-leading-rows .ensures .0) (c .match .keys2)
+
+returns-2 : tie.Need-returns-2
+returns-2 c =
+    let t = c .before in
+    let r = t .before .before in
+    let k = r .before .before in
+    let s = k .before .args .input .now in
+    let b : Bytes s = λ i. omega (arith, k .shared-slice-known .given i) in
+    let g = grade-accepted s (r .read-leading-rows .result) (r .read-leading-rows .ensures .0) (r .read-leading-rows .ensures .1) b (t .enum-told .given .1) in
+    let h : r .read-leading-rows .result .next ≤ length s = g .0 in
     absurd (omega (arith, c .if1 .taken))
 
 check-certificate-requires : tie.Need-check-certificate-requires
 check-certificate-requires c κs =
-    let r = c .before .before .before .before .before .before .before in
-    let k = r .before in
-    let b : Bytes (k .before .args .input .now) = λ i. omega (arith, k .shared-slice-known .given i) in
-    grade-accepted (k .before .args .input .now) (r .read-leading-plan .result) (r .read-leading-plan .ensures) b (c .before .before .before .before .enum-told .given .1) .1
-
-returns-2 : tie.Need-returns-2
-returns-2 c =
-    let r = c .before .before .before .before .before .before .before .before in
-    let k = r .before in
+    let t = c .before .before .before in
+    let r = t .before .before in
+    let k = r .before .before in
     let s = k .before .args .input .now in
-    let x = r .read-leading-plan .result in
     let b : Bytes s = λ i. omega (arith, k .shared-slice-known .given i) in
-    let g = grade-accepted s x (r .read-leading-plan .ensures) b (c .before .before .before .before .before .enum-told .given .1) in
-    let t : take (length s - x .next) (drop (x .next) s) ≡ drop (x .next) s = take-all (length s - x .next) (drop (x .next) s) (simp length-drop (omega arith)) in
-    ap (λ (a : Answer). record { answer = a; n = x .graph .n; m = x .graph .m })
-    (c .check-certificate .ensures ∙ ap (λ (l : List ℕ). rowsAnswer (rowsGraph (x .graph .n) (x .graph .rows)) (x .graph .m) l) t)
-    ∙ g .2
+    grade-accepted s (r .read-leading-rows .result) (r .read-leading-rows .ensures .0) (r .read-leading-rows .ensures .1) b (t .enum-told .given .1) .1
 
 returns-3 : tie.Need-returns-3
 returns-3 c =
-    let r = c .before .before .before in
-    grade-refused (r .before .before .args .input .now) (r .read-leading-plan .result) (r .read-leading-plan .ensures) (λ e. let z : _≡_ {A = ℕ} 0 1 = cc (c .enum-told2 .given .1) in omega arith)
-
-returns-4 : tie.Need-returns-4
-returns-4 c =
-    let r = c .before .before .before in
-    grade-refused (r .before .before .args .input .now) (r .read-leading-plan .result) (r .read-leading-plan .ensures) (λ e. let z : _≡_ {A = ℕ} 0 1 = cc (c .enum-told3 .given .1) in omega arith)
-
-returns-5 : tie.Need-returns-5
-returns-5 c =
-    let r = c .before .before .before in
-    grade-refused (r .before .before .args .input .now) (r .read-leading-plan .result) (r .read-leading-plan .ensures) (λ e. let z : _≡_ {A = ℕ} 0 1 = cc (c .enum-told4 .given .1) in omega arith)
+    let w = c .before in
+    let t = w .before .before .before in
+    let r = t .before .before in
+    let k = r .before .before in
+    let s = k .before .args .input .now in
+    let x = r .read-leading-rows .result in
+    let b : Bytes s = λ i. omega (arith, k .shared-slice-known .given i) in
+    let g = grade-accepted s x (r .read-leading-rows .ensures .0) (r .read-leading-rows .ensures .1) b (t .enum-told .given .1) in
+    let z : take (length s - x .next) (drop (x .next) s) ≡ drop (x .next) s = take-all (length s - x .next) (drop (x .next) s) (simp length-drop (omega arith)) in
+    ap (λ (a : Answer). record { answer = a; n = x .n; m = x .m }) (c .check-certificate .ensures ∙ ap (λ (l : List ℕ). rowsAnswer (rowsGraph (x .n) _) (x .m) l) z)
+    ∙ g .2
 
 pub grade-spec : {M : Type 1} → statement M
 grade-spec = tie.close (tie.spec
-    (λ c κs. search needs) (λ c. search needs) returns (λ c. search needs) (λ c. search needs) (λ c. search needs) check-certificate-requires
-    (λ c. search needs) (λ c. search needs) (λ c. search needs) returns-2 returns-3 returns-4 returns-5)
+    (λ c κs. search needs) (λ c. search needs) returns returns-2 (λ c. search needs) (λ c. search needs) (λ c. search needs) check-certificate-requires returns-3)
