@@ -1,11 +1,9 @@
 -- Lists as the loops take them: what is left of a list; the last of one; one number more. Assumes nothing.
-use Prim.Native.Nat.{ℕ, suc, _+_, _-_, _/_, _%_, _^_, _≤_, _<_}
+use Prim.Native.Nat.{ℕ, suc, _+_, _-_, _≤_, _<_}
 use mathlib.Core.Path.{_≡_, refl, sym, ap, _∙_}
 use mathlib.Core.List.{List, [], _∷_, _++_}
 use native.Mathlib.Omega.{arith}
-use lib.Bits.{bitOr}
 use lib.ListN.{length, drop, getD, length-append, drop-of-length-le}
-use lib.Seq.{set-out}
 use borrow.Author.Tests.{lt-ltb}
 use Rattle.record.specs.Read.{folded}
 use Rattle.vertexset.specs.Set.{inserted}
@@ -16,9 +14,6 @@ use Rattle.search.proofs.Placed.{padded-set}
 use Rattle.construction.specs.Sets.{withAll, lastOf}
 use Rattle.detours.specs.Code.{pushed}
 
-abbrev pub ofWords : List ℕ → VertexSet
-ofWords ws = record { words = ws }
-
 module _ (s : VertexSet) where
   pub all-turn : (l : List ℕ) (i : ℕ) → i < length l → withAll s (drop i l) ≡ withAll (inserted s (getD l i 0)) (drop (i + 1) l)
   unfolding folded
@@ -27,12 +22,6 @@ module _ (s : VertexSet) where
   pub all-end : (l : List ℕ) (i : ℕ) → length l ≤ i → withAll s (drop i l) ≡ s
   unfolding folded
   all-end l i h = ap (λ (k : List ℕ). withAll s k) (drop-of-length-le l h)
-
--- a number past the words changes nothing
-pub all-past : (ws l : List ℕ) (i : ℕ) → i < length l → length ws ≤ getD l i 0 / 64 → withAll (ofWords ws) (drop i l) ≡ withAll (ofWords ws) (drop (i + 1) l)
-all-past ws l i h past =
-    all-turn (ofWords ws) l i h
-    ∙ ap (λ (k : List ℕ). withAll (ofWords k) (drop (i + 1) l)) (set-out ws (getD l i 0 / 64) (bitOr (getD ws (getD l i 0 / 64) 0) (2 ^ (getD l i 0 % 64))) past)
 
 pub last-at : (l : List ℕ) → 0 < length l → getD l (length l - 1) 0 ≡ lastOf l
 unfolding lastOf

@@ -75,20 +75,16 @@ pub fn pair(u: u16, v: u16) -> VertexSet
     single(u).insert(v)
 }
 
-// The words are changed in place, so that no set is copied for a vertex.
 pub fn with_all(set: VertexSet, list: &[u16]) -> VertexSet
     ensures { λ r. ⌜ r ≡ withAll set (now (list .entry)) ⌝ }
 {
-    let mut words = set.words;
+    let mut all = set;
     let mut i = 0;
     while i < list.len() {
-        let v = list[i];
+        all = all.insert(list[i]);
         i += 1;
-        if v < VertexSet::CAPACITY {
-            words[(v / 64) as usize] |= 1u64 << (v % 64);
-        }
     }
-    VertexSet { words }
+    all
 }
 
 pub fn number_at(list: &[u16], i: usize) -> u16

@@ -1,4 +1,5 @@
 pub mod Lists
+pub mod Pairs
 pub mod Turns
 pub mod States
 pub mod Stepping

@@ -1,9 +1,9 @@
 -- What the functions give: the states of the definition, their paths at the front of an array.
 use Prim.Native.Nat.{ℕ, _+_, _-_, _≤_}
 use mathlib.Core.Path.{_≡_}
-use mathlib.Core.Bool.{Bool, cond, not}
-use mathlib.Core.List.{List, [], _++_}
-use lib.Dec.{leb}
+use mathlib.Core.Bool.{Bool, false, cond, not, _&&_, _||_}
+use mathlib.Core.List.{List, [], _∷_, _++_}
+use lib.Dec.{leb, eqb}
 use lib.ListN.{length, take, drop}
 use Rattle.vertexset.specs.Set.{has}
 use Rattle.vertexset.specs.declared.VertexSet.{VertexSet}
@@ -32,6 +32,12 @@ builtIn rows n full four list = finishedOf rows n (build rows full (begun four (
 -- a member, or no member
 abbrev pub sideOf : VertexSet → Bool → ℕ → Bool
 sideOf s inside v = cond inside (has (s .words) v) (not (has (s .words) v))
+
+-- two vertices stand side by side somewhere in a list
+unfoldable pub hasPair : ℕ → ℕ → List ℕ → Bool
+hasPair x y [] = false
+hasPair x y (a ∷ []) = false
+hasPair x y (a ∷ (b ∷ l)) = ((eqb a x && eqb b y) || (eqb a y && eqb b x)) || hasPair x y (b ∷ l)
 
 -- the array with a list put in between
 abbrev pub putBetween : List ℕ → ℕ → ℕ → List ℕ → List ℕ

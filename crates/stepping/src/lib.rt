@@ -9,7 +9,7 @@ ghost use Rattle.search.specs.Code.{pathOf, pathRoom, searchSpace};
 ghost use Rattle.construction.specs.Sets.{setOf, membersFrom, reversed, placeOf};
 ghost use Rattle.construction.specs.Steps.{state, extended, segment, offLink, upTo, linkStep, turned, pairPlace, besidePlace, reroute, outStep, step, steps, addEdges, finish};
 ghost use Rattle.detours.specs.Code.{foundOf, Kept, FlatShows};
-ghost use Rattle.stepping.specs.Code.{sideOf, putBetween, putBetweenEnd, stateIn, Shows, builtIn};
+ghost use Rattle.stepping.specs.Code.{sideOf, hasPair, putBetween, putBetweenEnd, stateIn, Shows, builtIn};
 use detours::Cut;
 use detours::Ears;
 use detours::Found;
@@ -155,11 +155,27 @@ fn link_step<'a>(
     extend(flat, b, up_to(path, inner), i)
 }
 
-// The first place at which two vertices stand side by side, or the length.
-fn pair_place(list: &[u16], x: u16, y: u16) -> usize
-    ensures { λ r. ⌜ r ≡ pairPlace x y (now (list .entry)) ⌝ }
+// Two vertices stand side by side somewhere in a list. No place ends the loop, so that the compiler takes several at once.
+fn has_pair(list: &[u16], x: u16, y: u16) -> bool
+    ensures { λ r. ⌜ r ≡ hasPair x y (now (list .entry)) ⌝ }
 {
-    let mut i = 0;
+    let mut hit = false;
+    let mut i = 1;
+    while i < list.len() {
+        let a = list[i - 1];
+        let b = list[i];
+        hit = hit | (((a == x) & (b == y)) | ((a == y) & (b == x)));
+        i += 1;
+    }
+    hit
+}
+
+// The first place from here on at which two vertices stand side by side, or the length.
+fn pair_from(list: &[u16], x: u16, y: u16, from: usize) -> usize
+    requires { ⌜ from ≤ length (now list) ⌝ }
+    ensures { λ r. ⌜ r ≡ from + pairPlace x y (drop from (now (list .entry))) ⌝ }
+{
+    let mut i = from;
     while i + 1 < list.len() {
         let a = list[i];
         let b = list[i + 1];
@@ -169,6 +185,21 @@ fn pair_place(list: &[u16], x: u16, y: u16) -> usize
         i += 1;
     }
     list.len()
+}
+
+// The first place at which two vertices stand side by side, or the length; 64 places without them are passed over at once.
+fn pair_place(list: &[u16], x: u16, y: u16) -> usize
+    ensures { λ r. ⌜ r ≡ pairPlace x y (now (list .entry)) ⌝ }
+{
+    let mut i = 0;
+    while 64 < list.len() - i {
+        let end = i + 65;
+        if has_pair(&list[i..end], x, y) {
+            return pair_from(list, x, y, i);
+        }
+        i += 64;
+    }
+    pair_from(list, x, y, i)
 }
 
 // Where two vertices stand side by side on a path, or the length; only where an edge joins them can they.

@@ -31,12 +31,20 @@ impl VertexSet {
         }
     }
 
-    // Nothing changes where v is past the words.
+    // Nothing changes where v is past the words. Every word is looked at, so that the set can stay in registers: a processor waits
+    // where a word is stored and the whole set is loaded right after it.
     pub fn insert(mut self, v: u16) -> Self
         ensures { λ r. ⌜ r ≡ inserted self v ⌝ }
     {
-        if v < VertexSet::CAPACITY {
-            self.words[(v / 64) as usize] |= 1u64 << (v % 64);
+        let k = (v / 64) as usize;
+        let bit = 1u64 << (v % 64);
+        let mut i = 0;
+        while i < VertexSet::WORDS {
+            let w = i;
+            i += 1;
+            if w == k {
+                self.words[w] |= bit;
+            }
         }
         self
     }

@@ -1,26 +1,69 @@
--- `VertexSet::insert` meets its contract: 1 shifted is a power of two, and a store past the words changes nothing. Assumes nothing.
-use mathlib.Core.Path.{_≡_}
-use Prim.Native.Nat.{_≤_, _/_, _%_}
+-- `VertexSet::insert` meets its contract: the word of v is changed when it is passed, and no other. Assumes nothing.
+use mathlib.Core.Path.{_≡_, refl, _∙_}
+use mathlib.Core.Bool.{Bool, true, false, cond}
+use mathlib.Core.Logic.{_≢_}
+use Prim.Native.Nat.{ℕ, _≤_, _+_, _-_, _/_, _%_}
 use native.Mathlib.Nat.{one-mul}
 use native.Mathlib.Omega.{arith}
-use lib.Dec.{lit<}
+use lib.Dec.{lit<, ltb}
 use lib.ListN.{length}
 use lib.Pow.{shl-exact}
 use lib.Seq.{set-out}
 use borrow.Author.Needs.{needs}
-use Rattle.vertexset.specs.Set.{wordCount}
+use borrow.Author.Tests.{lt-ltb, le-ltb, ltb-true, ltb-false}
+use Rattle.vertexset.specs.Set.{wordCount, inserted}
+use Rattle.vertexset.specs.declared.VertexSet.{VertexSet}
 use Rattle.vertexset.proofs.VertexSet.insert.Statement.{statement}
 use Rattle.vertexset.proofs.VertexSet.insert.Tie as tie
 
-returns : tie.Need-returns
-returns c = rw (shl-exact {a = 1} 1 (c .before .before .args .v % 64) 64 (lit< tt) (omega arith), one-mul)
+-- as it was up to the word of v, with v behind it
+abbrev passed : VertexSet → Bool → VertexSet → VertexSet
+passed before b after = cond b after before
 
-returns-2 : tie.Need-returns-2
-returns-2 c =
-    let s = c .before .args in
-    let n : length (s .t1 .words) ≡ wordCount = search needs in
-    let l : length (s .t1 .words) ≤ s .v / 64 = omega arith in
-    rw set-out
+abbrev Inv-loop : tie.InvT-loop
+Inv-loop v self₀ k bit i₀ self i = self ≡ passed self₀ (ltb (v / 64) i) (inserted self₀ v)
+
+abbrev μ-loop : tie.MeasureT-loop
+μ-loop v self₀ k bit i₀ self i = wordCount - i
+
+loop-holds : tie.Need-loop-holds Inv-loop μ-loop
+loop-holds c = rw (le-ltb (c .args .v / 64) 0 (omega arith))
+
+loop-again : tie.Need-loop-again Inv-loop μ-loop
+loop-again c =
+    let l = c .before .before .before .loop in
+    let a = c .before .before .before .before .args in
+    let e : l .i ≡ a .v / 64 = c .before .if1 .taken in
+    let z : l .self ≡ a .t1 = l .inv ∙ rw (le-ltb (a .v / 64) (l .i) (omega arith)) in
+    rw (lt-ltb (a .v / 64) (l .i + 1) (omega arith), z, e, shl-exact {a = 1} 1 (a .v % 64) 64 (lit< tt) (omega arith), one-mul)
+
+-- another word does not matter
+other : (k i : ℕ) → i ≢ k → ltb k (i + 1) ≡ ltb k i
+other k i n = go (ltb k i) refl
+  where
+    go : (b : Bool) → ltb k i ≡ b → ltb k (i + 1) ≡ b
+    go true e = lt-ltb k (i + 1) (omega (arith, ltb-true k i e))
+    go false e = le-ltb k (i + 1) (omega (arith, ltb-false k i e))
+
+loop-again-2 : tie.Need-loop-again-2 Inv-loop μ-loop
+loop-again-2 c =
+    let l = c .before .before .loop in
+    let v = c .before .before .before .args .v in
+    l .inv ∙ rw (other (v / 64) (l .i) (c .if1 .left))
+
+returns : tie.Need-returns Inv-loop μ-loop
+returns c =
+    let l = c .before .loop in
+    let a = c .before .before .args in
+    let n : length (a .t1 .words) ≡ wordCount = search needs in
+    let i : wordCount ≤ l .i = c .loop-test .left in
+    l .inv ∙ go (a .t1) (a .v) (l .i) n i (ltb (a .v / 64) (l .i)) refl
+  where
+    go : (s : VertexSet) (v i : ℕ) → length (s .words) ≡ wordCount → wordCount ≤ i → (b : Bool) → ltb (v / 64) i ≡ b → passed s b (inserted s v) ≡ inserted s v
+    go s v i n h true e = refl
+    go s v i n h false e = let l : length (s .words) ≤ v / 64 = omega (arith, ltb-false (v / 64) i e) in rw set-out
 
 pub insert-spec : {M : Type 1} → statement M
-insert-spec = tie.close (tie.spec (λ c. search needs) (λ c. search needs) (λ c. search needs) (λ c. search needs) (λ c. search needs) (λ c. search needs) returns returns-2)
+insert-spec = tie.close (tie.spec Inv-loop μ-loop
+    (λ c. search needs) (λ c. search needs) (λ c. search needs) loop-holds (λ c. search needs) (λ c. search needs) (λ c. search needs) (λ c. search needs) (λ c. search needs)
+    loop-again (λ c. search needs) loop-again-2 returns)
