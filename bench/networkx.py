@@ -12,7 +12,7 @@ try:
 except ImportError:
     sys.exit(print("networkx is not installed: no comparison"))
 
-ROW = re.compile(r"^(?P<family>[a-z].*?) {2,}(?P<n>\d+) +(?P<m>\d+) +(?P<grade>\d) +(?P<search>[\d.]+) \|")
+ROW = re.compile(r"^(?P<family>[a-z3].*?) {2,}(?P<n>\d+) +(?P<m>\d+) +(?P<grade>\d) +(?P<search>[\d.]+) \|")
 
 
 def random_graph(n, m, rng):
@@ -33,11 +33,25 @@ def planted_pair(n, m, rng):
     return graph
 
 
+def three_tree(n, rng):
+    graph = networkx.complete_graph(4)
+    triangles = [(0, 1, 2), (0, 1, 3), (0, 2, 3), (1, 2, 3)]
+    for v in range(4, n):
+        a, b, c = rng.choice(triangles)
+        graph.add_edges_from([(a, v), (b, v), (c, v)])
+        triangles += [(a, b, v), (a, c, v), (b, c, v)]
+    return graph
+
+
 def build(family, n, m, rng):
     if family == "wheel":
         return networkx.wheel_graph(n)
     if family == "prism":
         return networkx.circular_ladder_graph(n // 2)
+    if family == "3-tree":
+        return three_tree(n, rng)
+    if family == "complete graph":
+        return networkx.complete_graph(n)
     if family == "random cubic":
         return networkx.random_regular_graph(3, n, seed=rng.randrange(1 << 30))
     return planted_pair(n, m, rng) if family == "planted pair" else random_graph(n, m, rng)
@@ -45,7 +59,8 @@ def build(family, n, m, rng):
 
 def main():
     rng = random.Random(20261115)
-    largest = {row["family"]: row for row in map(ROW.match, sys.stdin) if row and not row["family"].endswith("in order")}
+    rows = [row for row in map(ROW.match, sys.stdin) if row and not re.search("in order|hostile", row["family"])]
+    largest = {row["family"]: row for row in rows}
     print("networkx.node_connectivity, one call on one graph of the family")
     for family, row in largest.items():
         graph = build(family, int(row["n"]), int(row["m"]), rng)

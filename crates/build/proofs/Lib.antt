@@ -1,3 +1,4 @@
+pub mod Inner
 pub mod Taking
 pub mod Turns
 pub mod Starts

@@ -1,26 +1,25 @@
 -- What a path that was read and tested leaves of a build. Assumes nothing.
-use Prim.Native.Nat.{ℕ, _-_, _<_, _≤_}
+use Prim.Native.Nat.{ℕ, _<_, _≤_}
 use mathlib.Core.List.{List, [], _∷_}
 use mathlib.Core.Bool.{Bool, true, false, cond, _&&_, not}
 use mathlib.Core.Path.{_≡_, refl, sym, ap, _∙_}
 use native.Mathlib.Omega.{arith}
 use lib.Dec.{ltb, leb, eqb}
-use lib.ListN.{length, take, replicate, length-append}
-use lib.Seq.{take-at}
-use borrow.Author.Tests.{lt-ltb, le-ltb}
+use borrow.Author.Tests.{lt-ltb, le-ltb, leb-true}
 use Rattle.record.specs.Read.{Read, Read.Got, Read.Refused, Reader, onRead, _needs⟨_⟩_}
+use Rattle.record.specs.declared.Answer.the-variants.{Accepted}
 use Rattle.record.proofs.Laws.{test-got}
 use Rattle.record.proofs.Loops.{needs-bad}
-use Rattle.vertexset.specs.Set.{has, inserted, capacity}
+use Rattle.vertexset.specs.Set.{has, capacity}
 use Rattle.vertexset.specs.declared.VertexSet.{VertexSet}
 use Rattle.graph.specs.Rows.{adjacentIn, rowsGraph}
-use Rattle.connectivity.specs.Path.{vertices, Path}
+use Rattle.connectivity.specs.Path.{Path}
 use Rattle.certificates.specs.Tests.{pathAlong, pathNew, startEnds}
 use Rattle.certificates.specs.Records.{path}
-use Rattle.paths.specs.Items.{limited, endRead}
-use Rattle.paths.specs.Paths.{listed, pathTold, pathRead}
+use Rattle.paths.specs.Items.{taken, refused, limited, endRead}
+use Rattle.paths.specs.Paths.{pathTold, pathRead}
 use Rattle.paths.specs.declared.PathRead.{PathRead}
-use Rattle.paths.specs.declared.Item.the-variants.{Value, Fault}
+use Rattle.record.proofs.Faults.{NotAccepted}
 use Rattle.paths.proofs.Told.{path-told, path-fault}
 use Rattle.links.specs.declared.Link.{Link}
 use Rattle.links.specs.declared.End.{End}
@@ -28,21 +27,9 @@ use Rattle.links.specs.declared.Addition.{Addition}
 use Rattle.links.specs.Ends.{additionOf, held}
 use Rattle.links.specs.Tables.{splitBy}
 use Rattle.build.specs.declared.Build.{Build}
-use Rattle.build.specs.declared.Sets.{Sets}
 use Rattle.build.specs.declared.Taken.{Taken}
-use Rattle.build.specs.State.{entered, endOf, pathAddition, bothIn, pathTaken, buildPath, startOn}
-use Rattle.build.specs.Code.{pathFault, buildIn, enteredFrom, onPathRead, Leaves, towards}
-
--- the front of the code's array is the path, and the array has room for it
-module _ (P : Path) where
-  told-front : take (length (vertices P)) (listed (vertices P)) ≡ vertices P
-  told-front = take-at (vertices P) (replicate (capacity - length (vertices P)) 0) (length (vertices P)) refl
-
-  told-room : length (vertices P) ≤ length (listed (vertices P))
-  told-room = omega (arith, length-append (vertices P) (replicate (capacity - length (vertices P)) 0))
-
-  pub told-entered : (adj : ℕ → ℕ → Bool) (old : ℕ → Bool) (next : ℕ) (b : Build) → enteredFrom (pathTold adj old P next) b ≡ entered b P
-  told-entered adj old next b = rw told-front
+use Rattle.build.specs.State.{entered, raisedAt, endOf, pathAddition, bothIn, pathTaken, buildPath, startOn}
+use Rattle.build.specs.Code.{pathFault, buildIn, ToldAt, onPathRead, Leaves, towards}
 
 -- refused, or as it was read
 abbrev pub faulted : {A : Type 0} → ℕ → A → ℕ → ℕ → Read A
@@ -107,45 +94,58 @@ pub record Takes (n : ℕ) (adj : ℕ → ℕ → Bool) (old : ℕ → Bool) (it
 
 module _ {n : ℕ} {adj : ℕ → ℕ → Bool} {old : ℕ → Bool} {item : Build → Reader Path} {step : Build → Path → Build} {b : Build} {s : List ℕ} {at : ℕ}
     (T : Takes n adj old item step b s at) {x : PathRead} (e : x ≡ pathRead adj old (limited n (path n 2) s at)) where
-  refused : {r : Taken} {pointers linked : List ℕ} {q p : ℕ} → limited n (item b) s at ≡ Refused q p → r .end ≡ Fault q p → buildIn (r .sets) pointers linked ≡ b
+  kept : {r : Taken} {pointers linked : List ℕ} {q p : ℕ} → limited n (item b) s at ≡ Refused q p → r .end ≡ refused q p → buildIn (r .sets) pointers linked ≡ b
       → Leaves n item step b s at r pointers linked
   unfolding endRead onPathRead
-  refused f g h = record { end = g ∙ sym (ap endRead f); build = h ∙ sym (ap (onPathRead step b) f) }
+  kept f g h = record { end = g ∙ sym (ap endRead f); build = h ∙ sym (ap (onPathRead step b) f) }
 
-  pub leaves-unread : {r : Taken} {pointers linked : List ℕ} {q p : ℕ} → x .end ≡ Fault q p → r .end ≡ x .end → buildIn (r .sets) pointers linked ≡ b
+  pub leaves-unread : {r : Taken} {pointers linked : List ℕ} → NotAccepted (x .end .answer) → r .end ≡ x .end → buildIn (r .sets) pointers linked ≡ b
       → Leaves n item step b s at r pointers linked
-  leaves-unread f g h = refused (limit-refused n (path n 2) (item b) s at (T .stops _ _) (path-fault adj old _ f e)) (g ∙ f) h
+  leaves-unread f g h =
+      let t = path-fault adj old _ f e in
+      kept (limit-refused n (path n 2) (item b) s at (T .stops _ _) (t .2)) (g ∙ t .3) h
 
-  tested : {v next : ℕ} → x .end ≡ Value v next → (P : Path) × ((x ≡ pathTold adj old P next) × (limited n (item b) s at ≡ faulted (T .fault x) P next at))
-  tested {v} {next} f =
-      let t = path-told adj old _ f e in
-      let P = t .0 in
-      let l = within-limit n (path n 2) (t .1 .0) in
-      let k : item b s at ≡ faulted (T .fault x) P next at = T .tests P next (l .1) ∙ ap (λ (y : PathRead). faulted (T .fault y) P next at) (sym (t .1 .1)) in
-      (P, (t .1 .1, limit-kept n (item b) s at (l .0) k))
+  -- an accepted path, from here on
+  module _ (f : x .end .answer ≡ Accepted) where
+    told : (P : Path) × ((limited n (path n 2) s at ≡ Got P (x .end .next)) × (x ≡ pathTold adj old P (x .end .next)))
+    told = path-told adj old _ f e
 
-  pub leaves-refused : {r : Taken} {pointers linked : List ℕ} {v next : ℕ} {q : ℕ} → x .end ≡ Value v next → q ≡ T .fault x → 0 < q → r .end ≡ Fault q at
-      → buildIn (r .sets) pointers linked ≡ b → Leaves n item step b s at r pointers linked
-  leaves-refused {q = q} f g h k m =
-      let t = tested f in
-      let z : 0 < T .fault x = omega arith in
-      refused (t .1 .1 ∙ rw (lt-ltb 0 (T .fault x) z, g)) k m
+    got : (leb n capacity ≡ true) × (path n 2 s at ≡ Got (told .0) (x .end .next))
+    got = within-limit n (path n 2) (told .1 .0)
 
-  pub leaves-taken : {r : Taken} {pointers linked : List ℕ} {v next : ℕ} {q : ℕ} → x .end ≡ Value v next → q ≡ T .fault x → q ≤ 0 → r .end ≡ x .end
-      → buildIn (r .sets) pointers linked ≡ enteredFrom x (T .raise x) → Leaves n item step b s at r pointers linked
-  unfolding endRead onPathRead
-  leaves-taken {r = r} {next = next} f g h k m =
-      let t = tested f in
-      let P = t .0 in
-      let z : T .fault x ≤ 0 = omega arith in
-      let got : limited n (item b) s at ≡ Got P next = t .1 .1 ∙ rw (le-ltb 0 (T .fault x) z) in
-      let end : x .end ≡ Value 0 next = ap (λ (y : PathRead). y .end) (t .1 .0) in
-      let built : enteredFrom x (T .raise x) ≡ step b P = ap (λ (y : PathRead). enteredFrom y (T .raise y)) (t .1 .0) ∙ told-entered P adj old next (T .raise (pathTold adj old P next)) ∙ T .steps P next in
-      record { end = k ∙ end ∙ sym (ap endRead got); build = m ∙ built ∙ sym (ap (onPathRead step b) got) }
+    tested : limited n (item b) s at ≡ faulted (T .fault x) (told .0) (x .end .next) at
+    tested = limit-kept n (item b) s at (got .0) (T .tests (told .0) (x .end .next) (got .1) ∙ ap (λ (y : PathRead). faulted (T .fault y) (told .0) (x .end .next) at) (sym (told .1 .1)))
 
-  -- the array of a path that was read has room for it
-  pub len-low : {v next : ℕ} → x .end ≡ Value v next → x .len ≤ length (x .list)
-  len-low f = let t = path-told adj old _ f e in rw (t .1 .1) (told-room (t .0))
+    pub leaves-refused : {r : Taken} {pointers linked : List ℕ} {q : ℕ} → q ≡ T .fault x → 0 < q → r .end ≡ refused q at → buildIn (r .sets) pointers linked ≡ b
+        → Leaves n item step b s at r pointers linked
+    leaves-refused {q = q} g h k m =
+        let z : 0 < T .fault x = omega arith in
+        kept (tested ∙ rw (lt-ltb 0 (T .fault x) z, g)) k m
+
+    -- what the path tells of itself, and the build that it has entered
+    pub path-there : ToldAt n s at x
+    path-there =
+        let P = told .0 in
+        record {
+          there = record { low = leb-true _ _ (got .0); found = P; next = x .end .next; got = got .1 };
+          first = ap (λ (y : PathRead). y .first) (told .1 .1);
+          last = ap (λ (y : PathRead). y .last) (told .1 .1);
+          len = ap (λ (y : PathRead). y .len) (told .1 .1);
+        }
+
+    pub leaves-taken : {r : Taken} {pointers linked : List ℕ} {q : ℕ} → q ≡ T .fault x → q ≤ 0 → r .end ≡ x .end
+        → buildIn (r .sets) pointers linked ≡ onPathRead entered (T .raise x) (path n 2 s at) → Leaves n item step b s at r pointers linked
+    unfolding endRead onPathRead
+    leaves-taken g h k m =
+        let P = told .0 in
+        let next = x .end .next in
+        let z : T .fault x ≤ 0 = omega arith in
+        let read : limited n (item b) s at ≡ Got P next = tested ∙ rw (le-ltb 0 (T .fault x) z) in
+        let end : x .end ≡ taken 0 next = ap (λ (y : PathRead). y .end) (told .1 .1) in
+        let built : onPathRead entered (T .raise x) (path n 2 s at) ≡ step b P =
+        ap (onPathRead entered (T .raise x)) (got .1) ∙ ap (λ (y : PathRead). entered (T .raise y) P) (told .1 .1) ∙ T .steps P next
+        in
+        record { end = k ∙ end ∙ sym (ap endRead read); build = m ∙ built ∙ sym (ap (onPathRead step b) read) }
 
 -- the code's own results for what a test asks
 pub fault-same : (along new p q h p′ q′ h′ : Bool) → p ≡ p′ → q ≡ q′ → h ≡ h′ → pathFault along (p && q) new (not h) ≡ pathFault along (p′ && q′) new (not h′)
@@ -153,6 +153,9 @@ fault-same along new p q h p′ q′ h′ e f g = rw (e, f, g)
 
 pub addition-same : (linked : List ℕ) (x y : End) (x′ y′ : End) {a : Addition} → a ≡ additionOf linked x y → x ≡ x′ → y ≡ y′ → a ≡ additionOf linked x′ y′
 addition-same linked x y x′ y′ e f g = e ∙ ap (λ (z : End). additionOf linked z y) f ∙ ap (additionOf linked x′) g
+
+pub raised-same : (branch : VertexSet) {mid out : VertexSet} {x y x′ y′ : End} → mid ≡ raisedAt branch x → out ≡ raisedAt mid y → x ≡ x′ → y ≡ y′ → out ≡ raisedAt (raisedAt branch x′) y′
+raised-same branch e f g h = rw (f, e, g, h)
 
 -- a path of the start between the ends of l
 module _ (n : ℕ) (rows s : List ℕ) (at : ℕ) (l : Link) (b : Build) where
@@ -191,14 +194,8 @@ module _ (n : ℕ) (rows s : List ℕ) (at : ℕ) (b : Build) where
   abbrev pub further-takes : Takes n (adjacentIn rows) (has (b .sets .built .words)) (buildPath (rowsGraph n rows)) pathTaken b s at
   further-takes = record {
     fault = λ x. pathFault (x .along) (has (b .sets .built .words) (x .first) && has (b .sets .built .words) (x .last)) (x .new) (not (held (addition-at x)));
-    raise = λ x. buildIn (record { branch = inserted (inserted (b .sets .branch) (x .first)) (x .last); built = b .sets .built }) (b .pointers) (splitBy (b .linked) (addition-at x));
+    raise = λ x. buildIn (record { branch = raisedAt (raisedAt (b .sets .branch) (endOf b (x .first))) (endOf b (x .last)); built = b .sets .built }) (b .pointers) (splitBy (b .linked) (addition-at x));
     stops = further-stops;
     tests = further-tests;
     steps = λ P next. refl;
   }
-
-pub same-build : {sets sets′ : Sets} {pointers pointers′ linked linked′ : List ℕ} → sets ≡ sets′ → pointers ≡ pointers′ → linked ≡ linked′ → buildIn sets pointers linked ≡ buildIn sets′ pointers′ linked′
-same-build e f g = rw (e, f, g)
-
-pub same-sets : {branch branch′ built built′ : VertexSet} → branch ≡ branch′ → built ≡ built′ → _≡_ {A = Sets} (record { branch = branch; built = built }) (record { branch = branch′; built = built′ })
-same-sets e f = rw (e, f)

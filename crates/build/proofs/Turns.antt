@@ -7,9 +7,10 @@ use native.Mathlib.Omega.{arith}
 use lib.Dec.{leb}
 use lib.ListN.{getD}
 use borrow.Author.Tests.{le-leb, lt-leb}
-use Rattle.record.specs.Read.{Read.Got, Read.Refused, Reader, _needs⟨_⟩_, _▸_}
+use Rattle.record.specs.Read.{Read.Got, Read.Refused, Reader, _needs⟨_⟩_, _▸_, led}
 use Rattle.record.specs.Loop.{runs}
-use Rattle.record.proofs.Loops.{turn-go, turn-stop, turn-done, needs-got}
+use Rattle.record.specs.declared.Answer.the-variants.{Accepted}
+use Rattle.record.proofs.Loops.{turn-go, turn-stop, turn-done, led-go, led-stop, needs-got}
 use Rattle.vertexset.specs.Set.{has, emptySet, inserted, capacity}
 use Rattle.vertexset.specs.declared.VertexSet.{VertexSet}
 use Rattle.connectivity.specs.Graph.{Graph}
@@ -17,15 +18,15 @@ use Rattle.connectivity.specs.Path.{Path}
 use Rattle.certificates.specs.Tests.{allBelow, laterEnds}
 use Rattle.certificates.specs.Records.{vertex, branchFour}
 use Rattle.graph.specs.Rows.{rowsGraph}
-use Rattle.paths.specs.Items.{limited}
-use Rattle.paths.specs.declared.Item.the-variants.{Value, Fault}
-use Rattle.paths.proofs.Told.{end-told, end-fault}
+use Rattle.paths.specs.Items.{taken, refused, limited}
+use Rattle.record.proofs.Faults.{NotAccepted}
+use Rattle.paths.proofs.Told.{Stopped, end-told, end-fault}
 use Rattle.links.specs.declared.Link.{Link}
 use Rattle.build.specs.declared.Build.{Build}
 use Rattle.build.specs.declared.Four.{Four}
 use Rattle.build.specs.declared.Taken.{Taken}
-use Rattle.build.specs.State.{entered, pathTaken, buildPath, BuildStart, bareBuild, fourSet, startOf, startOn}
-use Rattle.build.specs.Code.{buildIn, onPathRead, Leaves, towards, fourOf, firsts, lasts, pathEnds, noStart, startLoop, furtherLoop}
+use Rattle.build.specs.State.{entered, pathTaken, buildPath, BuildStart, bareOn, fourSet, startOf, startOn, startEntered}
+use Rattle.build.specs.Code.{buildIn, onPathRead, Leaves, towards, fourOf, firsts, lasts, pathEnds, startLoop, furtherLoop}
 use Rattle.build.proofs.Taking.{limit-kept}
 
 -- a vertex above the one before it
@@ -67,10 +68,14 @@ module _ {n : ℕ} {item : Build → Reader Path} {step : Build → Path → Bui
   within : limited n (item b) s at ≡ item b s at
   within = limit-kept n (item b) s at (le-leb n capacity low) refl
 
-  pub left-bad : {q p : ℕ} → r .end ≡ Fault q p → item b s at ≡ Refused q p
-  left-bad f = sym within ∙ end-fault (limited n (item b) s at) f (h .end)
+  -- refused: the build is as it was
+  pub left-bad : NotAccepted (r .end .answer) → (Stopped (item b s at) (r .end)) × (buildIn (r .sets) pointers linked ≡ b)
+  unfolding onPathRead
+  left-bad f =
+      let t = end-fault (limited n (item b) s at) f (h .end) in
+      ((t .0, t .1, sym within ∙ t .2, t .3), h .build ∙ ap (onPathRead step b) (t .2))
 
-  pub left-got : {v next : ℕ} → r .end ≡ Value v next → (P : Path) × ((item b s at ≡ Got P next) × (buildIn (r .sets) pointers linked ≡ step b P))
+  pub left-got : r .end .answer ≡ Accepted → (P : Path) × ((item b s at ≡ Got P (r .end .next)) × (buildIn (r .sets) pointers linked ≡ step b P))
   unfolding onPathRead
   left-got f =
       let t = end-told (limited n (item b) s at) f (h .end) in
@@ -78,22 +83,24 @@ module _ {n : ℕ} {item : Build → Reader Path} {step : Build → Path → Bui
 
 -- a turn over the further paths
 module _ (n : ℕ) (rows s : List ℕ) (b : Build) (at : ℕ) {r : Taken} {pointers linked : List ℕ}
-    (low : n ≤ capacity) (h : Leaves n (buildPath (rowsGraph n rows)) pathTaken b s at r pointers linked) where
-  pub further-stop : (k : ℕ) {q p : ℕ} → 0 < k → r .end ≡ Fault q p → r .end ≡ runs (furtherLoop n rows) k b b s at
-  further-stop k i f = f ∙ turn-stop (furtherLoop n rows) s k i b b at (left-bad low h f)
+    (low : n ≤ capacity) (h : Leaves n (buildPath (rowsGraph n rows)) pathTaken b s at r pointers linked) (k : ℕ) (some : 0 < k) where
+  pub further-stop : NotAccepted (r .end .answer) → r .end ≡ runs (furtherLoop n rows) k b b s at
+  further-stop f =
+      let t = left-bad low h f .0 in
+      t .3 ∙ turn-stop (furtherLoop n rows) s k some b b at (t .2)
 
-  pub further-go : (k : ℕ) {v next : ℕ} → 0 < k → r .end ≡ Value v next
-      → runs (furtherLoop n rows) (k - 1) (buildIn (r .sets) pointers linked) (buildIn (r .sets) pointers linked) s next ≡ runs (furtherLoop n rows) k b b s at
-  further-go k i f =
+  pub further-go : r .end .answer ≡ Accepted
+      → runs (furtherLoop n rows) (k - 1) (buildIn (r .sets) pointers linked) (buildIn (r .sets) pointers linked) s (r .end .next) ≡ runs (furtherLoop n rows) k b b s at
+  further-go f =
       let t = left-got low h f in
-      turn-go (furtherLoop n rows) s k i b b (t .1 .0) (t .1 .1) (t .1 .1)
+      turn-go (furtherLoop n rows) s k some b b (t .1 .0) (t .1 .1) (t .1 .1)
 
 -- after the last of them
 module _ (n : ℕ) (rows s : List ℕ) (b : Build) (at k : ℕ) (none : k ≤ 0) where
-  pub further-done : allBelow n (has (b .sets .branch .words)) ≡ true → Value 0 at ≡ runs (furtherLoop n rows) k b b s at
+  pub further-done : allBelow n (has (b .sets .branch .words)) ≡ true → taken 0 at ≡ runs (furtherLoop n rows) k b b s at
   further-done e = rw (← turn-done (furtherLoop n rows) s k none b b at, e)
 
-  pub further-open : allBelow n (has (b .sets .branch .words)) ≡ false → Fault 28 at ≡ runs (furtherLoop n rows) k b b s at
+  pub further-open : allBelow n (has (b .sets .branch .words)) ≡ false → refused 28 at ≡ runs (furtherLoop n rows) k b b s at
   further-open e = rw (← turn-done (furtherLoop n rows) s k none b b at, e)
 
 -- the pairs of ends that the arrays name, k of them from i on
@@ -132,24 +139,32 @@ module _ (n : ℕ) (rows s first last : List ℕ) (b : Build) (at k : ℕ) {r : 
       ∙ next-pair (rowsGraph n rows) (pathEnds first last (6 - k)) (pairsFrom first last (k - 1) (6 - (k - 1))) b s at
       ∙ ap (λ (l : Link). startOn (rowsGraph n rows) (towards l b) s at) (sym ends)
 
-  pub start-stop : {q p : ℕ} → r .end ≡ Fault q p → noStart (r .end) ≡ runs (startLoop n rows) k (startWith first last k b) (startWith first last k b) s at
-  start-stop f = ap noStart f ∙ turn-stop (startLoop n rows) s k some (startWith first last k b) (startWith first last k b) at (tested-next ∙ left-bad low h f)
+  abbrev st : BuildStart
+  st = startWith first last k b
 
-  pub start-go : {v next : ℕ} → r .end ≡ Value v next
-      → runs (startLoop n rows) (k - 1) (startWith first last (k - 1) (buildIn (r .sets) pointers linked)) (startWith first last (k - 1) (buildIn (r .sets) pointers linked)) s next
-      ≡ runs (startLoop n rows) k (startWith first last k b) (startWith first last k b) s at
+  pub start-stop : NotAccepted (r .end .answer) → (r .end ≡ runs (startLoop n rows) k st tt s at) × (buildIn (r .sets) pointers linked ≡ led (startOn (rowsGraph n rows)) startEntered k st s at .build)
+  start-stop f =
+      let t = left-bad low h f in
+      let e = tested-next ∙ t .0 .2 in
+      (t .0 .3 ∙ turn-stop (startLoop n rows) s k some st tt at e, t .1 ∙ ap (λ (z : BuildStart). z .build) (led-stop (startOn (rowsGraph n rows)) startEntered s k st at e))
+
+  abbrev on : BuildStart
+  on = startWith first last (k - 1) (buildIn (r .sets) pointers linked)
+
+  pub start-go : r .end .answer ≡ Accepted
+      → (runs (startLoop n rows) (k - 1) on tt s (r .end .next) ≡ runs (startLoop n rows) k st tt s at)
+      × (led (startOn (rowsGraph n rows)) startEntered (k - 1) on s (r .end .next) ≡ led (startOn (rowsGraph n rows)) startEntered k st s at)
   start-go f =
       let t = left-got low h f in
       let e : pairsFrom first last (k - 1) (6 - (k - 1)) ≡ laterEnds (pairsFrom first last k (6 - k)) = ap laterEnds (sym (first-pair first last k some six)) in
       let g = same-start e (t .1 .1) in
-      let st = startWith first last k b in
-      turn-go (startLoop n rows) s k some st st (tested-next ∙ t .1 .0) g g
+      let i = tested-next ∙ t .1 .0 in
+      (turn-go (startLoop n rows) s k some st tt i g refl, led-go (startOn (rowsGraph n rows)) startEntered s k some st i g)
 
 -- where the loop begins
 pub four-set : {e a b c d : VertexSet} (p q r s : ℕ) → e ≡ emptySet → a ≡ inserted e p → b ≡ inserted a q → c ≡ inserted b r → d ≡ inserted c s → d ≡ fourSet (p, (q, (r, s)))
 four-set p q r s f g h i j = rw (j, i, h, g, f)
 
-pub start-begun : (n : ℕ) (rows s : List ℕ) (from : ℕ) (f : Four) {set : VertexSet} {b : Build} → set ≡ fourSet (fourOf f) → b ≡ bareBuild set
-    → runs (startLoop n rows) 6 (startWith (firsts f) (lasts f) 6 b) (startWith (firsts f) (lasts f) 6 b) s from ≡ runs (startLoop n rows) 6 (startOf (fourOf f)) (startOf (fourOf f)) s from
+pub start-begun : (f : Four) (pointers linked : List ℕ) {set : VertexSet} → set ≡ fourSet (fourOf f) → startWith (firsts f) (lasts f) 6 (bareOn set pointers linked) ≡ startOf pointers linked (fourOf f)
 unfolding pairsFrom
-start-begun n rows s from f e g = ap (λ (b : Build). runs (startLoop n rows) 6 (startWith (firsts f) (lasts f) 6 b) (startWith (firsts f) (lasts f) 6 b) s from) (g ∙ ap bareBuild e)
+start-begun f pointers linked e = ap (λ (set : VertexSet). startWith (firsts f) (lasts f) 6 (bareOn set pointers linked)) e

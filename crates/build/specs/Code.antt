@@ -1,28 +1,26 @@
 -- What the functions of this crate give, beside the definitions of the build.
-use Prim.Native.Nat.{ℕ}
+use Prim.Native.Nat.{ℕ, _≤_}
 use mathlib.Core.List.{List, [], _∷_}
 use mathlib.Core.Bool.{Bool, cond}
 use mathlib.Core.Path.{_≡_}
-use lib.Bits.{bitOr}
-use lib.ListN.{getD, take}
-use Rattle.record.specs.Read.{Read, Read.Got, Read.Refused, Reader}
+use lib.ListN.{length, getD}
+use Rattle.record.specs.Read.{Read, Read.Got, Read.Refused, Reader, orKept, led}
 use Rattle.record.specs.Loop.{Loop}
-use Rattle.vertexset.specs.Set.{has, emptySet, wordwise}
-use Rattle.graph.specs.Rows.{joinedRows, rowsGraph}
-use Rattle.connectivity.specs.Path.{Path}
+use Rattle.vertexset.specs.Set.{has, emptySet, capacity}
+use Rattle.graph.specs.Rows.{rowsGraph}
+use Rattle.connectivity.specs.Graph.{Graph}
+use Rattle.connectivity.specs.Path.{Path, vertices}
 use Rattle.certificates.specs.Tests.{allBelow}
-use Rattle.paths.specs.Items.{endRead, limited}
+use Rattle.certificates.specs.Records.{path, branchFour}
+use Rattle.paths.specs.Items.{taken, refused, endRead, limited}
 use Rattle.paths.specs.declared.PathRead.{PathRead}
 use Rattle.paths.specs.declared.Item.{Item}
-use Rattle.paths.specs.declared.Item.the-variants.{Value, Fault}
 use Rattle.links.specs.declared.Link.{Link}
-use Rattle.links.specs.Tables.{pointAlong}
 use Rattle.build.specs.declared.Build.{Build}
 use Rattle.build.specs.declared.Sets.{Sets}
 use Rattle.build.specs.declared.Taken.{Taken}
 use Rattle.build.specs.declared.Four.{Four}
-use Rattle.build.specs.declared.Started.{Started}
-use Rattle.build.specs.State.{pathTaken, bareBuild, buildPath, BuildStart, startOn, startEntered, startedBuild}
+use Rattle.build.specs.State.{pathTaken, bareOn, buildPath, BuildStart, startOn, startEntered, startOf}
 
 -- document 01's number for a path that was read whole, or 0
 abbrev pub pathFault : Bool → Bool → Bool → Bool → ℕ
@@ -32,13 +30,23 @@ pathFault along ends new apart = cond along (cond ends (cond new (cond apart 0 2
 abbrev pub buildIn : Sets → List ℕ → List ℕ → Build
 buildIn sets pointers linked = record { sets = sets; pointers = pointers; linked = linked }
 
--- the build with a path that was read as a link
-abbrev pub enteredFrom : PathRead → Build → Build
-enteredFrom x b = record {
-  sets = record { branch = b .sets .branch; built = wordwise bitOr (b .sets .built) (x .set) };
-  pointers = pointAlong (b .pointers) (take (x .len) (x .list));
-  linked = joinedRows (b .linked) (x .first) (x .last);
-}
+-- a path stands at a place, within the limit
+pub record PathAt (n : ℕ) (s : List ℕ) (at : ℕ) : Type 0 where
+  pub low : n ≤ capacity
+  pub found : Path
+  pub next : ℕ
+  pub got : path n 2 s at ≡ Got found next
+
+-- x tells its ends and its length
+pub record ToldAt (n : ℕ) (s : List ℕ) (at : ℕ) (x : PathRead) : Type 0 where
+  pub there : PathAt n s at
+  pub first : x .first ≡ there .found .s
+  pub last : x .last ≡ there .found .t
+  pub len : x .len ≡ length (vertices (there .found))
+
+-- the inner vertices of the path at a place; none where it can't be read
+unfoldable pub innerAt : ℕ → List ℕ → ℕ → List ℕ
+innerAt n s at = orKept (path n 2 s at) (λ P next. P .inner) []
 
 -- what reading a path leaves of a build: one step on, or as it was
 unfoldable pub onPathRead : (Build → Path → Build) → Build → Read Path → Build
@@ -60,8 +68,8 @@ abbrev pub noFour : Item → Four
 noFour x = record { end = x; p = 0; q = 0; r = 0; s = 0 }
 
 unfoldable pub fourRead : Read (ℕ × (ℕ × (ℕ × ℕ))) → Four
-fourRead (Got b next) = record { end = Value 0 next; p = b .0; q = b .1 .0; r = b .1 .1 .0; s = b .1 .1 .1 }
-fourRead (Refused r p) = noFour (Fault r p)
+fourRead (Got b next) = record { end = taken 0 next; p = b .0; q = b .1 .0; r = b .1 .1 .0; s = b .1 .1 .1 }
+fourRead (Refused r p) = noFour (refused r p)
 
 abbrev pub fourOf : Four → ℕ × (ℕ × (ℕ × ℕ))
 fourOf f = (f .p, (f .q, (f .r, f .s)))
@@ -76,23 +84,19 @@ lasts f = f .q ∷ f .r ∷ f .s ∷ f .r ∷ f .s ∷ f .s ∷ []
 abbrev pub pathEnds : List ℕ → List ℕ → ℕ → Link
 pathEnds first last i = record { a = getD first i 0; b = getD last i 0 }
 
--- the build after its start, and where reading goes on or the fault
-abbrev pub noStart : Item → Started
-noStart x = record { end = x; build = bareBuild emptySet }
+-- a start that was not read: no sets
+abbrev pub noStart : Item → Taken
+noStart x = record { end = x; sets = record { branch = emptySet; built = emptySet } }
 
-unfoldable pub startRead : Read ((ℕ × (ℕ × (ℕ × ℕ))) × List Path) → Started
-startRead (Got x next) = record { end = Value 0 next; build = startedBuild x }
-startRead (Refused r p) = noStart (Fault r p)
+-- what reading a start leaves of the tables that it is lent, with the sets: the paths before a fault, or all six, are entered; where
+-- the four can't be read, the tables as they were and no sets
+unfoldable pub startLeft : List ℕ → List ℕ → Graph → List ℕ → ℕ → Build
+startLeft pointers linked g s at =
+    orKept (limited (g .n) (branchFour (g .n)) s at) (λ b mid. led (startOn g) startEntered 6 (startOf pointers linked b) s mid .build) (bareOn emptySet pointers linked)
 
 -- the loop over the six paths of a start
-abbrev pub startLoop : ℕ → List ℕ → Loop BuildStart Path BuildStart Started
-startLoop n rows = record {
-  item = startOn (rowsGraph n rows);
-  after = startEntered;
-  step = startEntered;
-  ok = λ st next. record { end = Value 0 next; build = st .build };
-  bad = λ r p. noStart (Fault r p);
-}
+abbrev pub startLoop : ℕ → List ℕ → Loop BuildStart Path (Unit {0}) Item
+startLoop n rows = record { item = startOn (rowsGraph n rows); after = startEntered; step = λ u P. u; ok = λ u next. taken 0 next; bad = refused }
 
 -- the loop over the further paths, with 28 after the last
 abbrev pub furtherLoop : ℕ → List ℕ → Loop Build Path Build Item
@@ -100,6 +104,6 @@ furtherLoop n rows = record {
   item = buildPath (rowsGraph n rows);
   after = pathTaken;
   step = pathTaken;
-  ok = λ b next. cond (allBelow n (has (b .sets .branch .words))) (Value 0 next) (Fault 28 next);
-  bad = Fault;
+  ok = λ b next. cond (allBelow n (has (b .sets .branch .words))) (taken 0 next) (refused 28 next);
+  bad = refused;
 }

@@ -3,10 +3,9 @@
 use Prim.Native.Nat.{ℕ}
 use mathlib.Core.List.{List}
 use mathlib.Core.Bool.{Bool, _&&_, not}
-use lib.Bits.{bitOr}
 use lib.ListN.{replicate}
 use Rattle.record.specs.Read.{Reader, _needs⟨_⟩_, _▸_, many, check, folded}
-use Rattle.vertexset.specs.Set.{has, emptySet, inserted, wordwise}
+use Rattle.vertexset.specs.Set.{has, emptySet, inserted}
 use Rattle.vertexset.specs.declared.VertexSet.{VertexSet}
 use Rattle.graph.specs.Rows.{joinedRows, bareRows}
 use Rattle.connectivity.specs.Graph.{Graph}
@@ -15,6 +14,7 @@ use Rattle.connectivity.specs.Build.{sixPairs}
 use Rattle.certificates.specs.Tests.{allBelow, pathAlong, pathNew, startEnds, laterEnds}
 use Rattle.certificates.specs.Records.{path, branchFour}
 use Rattle.links.specs.declared.End.{End}
+use Rattle.links.specs.declared.End.the-variants.{Branch, Inner}
 use Rattle.links.specs.declared.Addition.{Addition}
 use Rattle.links.specs.Ends.{additionOf, held}
 use Rattle.links.specs.Tables.{pointerCount, pointAlong, endIn, splitBy}
@@ -27,18 +27,23 @@ endOf b v = endIn (b .pointers) (b .sets .branch) v
 abbrev pub pathAddition : Build → Path → Addition
 pathAddition b P = additionOf (b .linked) (endOf b (P .s)) (endOf b (P .t))
 
--- a path enters the build as a link; its ends are branch vertices already
+-- a path enters the build as a link; its ends are branch vertices already, and in
 abbrev pub entered : Build → Path → Build
 entered b P = record {
-  sets = record { branch = b .sets .branch; built = wordwise bitOr (b .sets .built) (folded inserted emptySet (vertices P)) };
+  sets = record { branch = b .sets .branch; built = folded inserted (b .sets .built) (P .inner) };
   pointers = pointAlong (b .pointers) (vertices P);
   linked = joinedRows (b .linked) (P .s) (P .t);
 }
 
--- links are split at a path's ends, which become branch vertices
+-- an inner vertex at which a path ends becomes a branch vertex
+abbrev pub raisedAt : VertexSet → End → VertexSet
+raisedAt branch (Branch v) = branch
+raisedAt branch (Inner v l) = inserted branch v
+
+-- the same at both ends of a path, where links are split too
 abbrev pub raised : Build → Path → Build
 raised b P = record {
-  sets = record { branch = inserted (inserted (b .sets .branch) (P .s)) (P .t); built = b .sets .built };
+  sets = record { branch = raisedAt (raisedAt (b .sets .branch) (endOf b (P .s))) (endOf b (P .t)); built = b .sets .built };
   pointers = b .pointers;
   linked = splitBy (b .linked) (pathAddition b P);
 }
@@ -54,9 +59,16 @@ unfoldable pub buildPath : Graph → Build → Reader Path
 buildPath g b =
     path (g .n) 2 needs⟨ 24 ⟩ pathAlong g needs⟨ 25 ⟩ bothIn b needs⟨ 26 ⟩ pathNew (has (b .sets .built .words)) needs⟨ 27 ⟩ (λ P. not (held (pathAddition b P)))
 
--- the build of four branch vertices and no links
+-- branch vertices and no links yet, beside these tables
+abbrev pub bareOn : VertexSet → List ℕ → List ℕ → Build
+bareOn set pointers linked = record { sets = record { branch = set; built = set }; pointers = pointers; linked = linked }
+
+-- .. beside tables that are bare
+abbrev pub barePointers : List ℕ
+barePointers = replicate pointerCount 0
+
 abbrev pub bareBuild : VertexSet → Build
-bareBuild set = record { sets = record { branch = set; built = set }; pointers = replicate pointerCount 0; linked = bareRows }
+bareBuild set = bareOn set barePointers bareRows
 
 -- the start: the pairs of ends that are still to be joined, and the build
 pub record BuildStart : Type 0 where
@@ -72,15 +84,19 @@ startEntered st P = record { ends = laterEnds (st .ends); build = entered (st .b
 abbrev pub fourSet : ℕ × (ℕ × (ℕ × ℕ)) → VertexSet
 fourSet b = inserted (inserted (inserted (inserted emptySet (b .0)) (b .1 .0)) (b .1 .1 .0)) (b .1 .1 .1)
 
-abbrev pub startOf : ℕ × (ℕ × (ℕ × ℕ)) → BuildStart
-startOf b = record { ends = sixPairs (b .0) (b .1 .0) (b .1 .1 .0) (b .1 .1 .1); build = bareBuild (fourSet b) }
+abbrev pub startOf : List ℕ → List ℕ → ℕ × (ℕ × (ℕ × ℕ)) → BuildStart
+startOf pointers linked b = record { ends = sixPairs (b .0) (b .1 .0) (b .1 .1 .0) (b .1 .1 .1); build = bareOn (fourSet b) pointers linked }
 
--- four branch vertices and the six paths between them
-unfoldable pub buildStart : Graph → Reader (((b : ℕ × (ℕ × (ℕ × ℕ))) × List Path))
-buildStart g = branchFour (g .n) ▸ λ b. many (startOn g) startEntered 6 (startOf b)
+-- four branch vertices and the six paths between them, which enter these tables
+unfoldable pub startIn : List ℕ → List ℕ → Graph → Reader ((ℕ × (ℕ × (ℕ × ℕ))) × List Path)
+startIn pointers linked g = branchFour (g .n) ▸ λ b. many (startOn g) startEntered 6 (startOf pointers linked b)
+
+-- .. and bare tables
+abbrev pub buildStart : Graph → Reader ((ℕ × (ℕ × (ℕ × ℕ))) × List Path)
+buildStart g = startIn barePointers bareRows g
 
 abbrev pub startedBuild : (ℕ × (ℕ × (ℕ × ℕ))) × List Path → Build
-startedBuild x = folded startEntered (startOf (x .0)) (x .1) .build
+startedBuild x = folded startEntered (startOf barePointers bareRows (x .0)) (x .1) .build
 
 -- a certificate of kind 3 after its kind: the start, the given number of further paths, and 28 where a vertex is no branch vertex
 unfoldable pub buildBody : Graph → ℕ → Reader ((x : (ℕ × (ℕ × (ℕ × ℕ))) × List Path) × (List Path × Unit {0}))

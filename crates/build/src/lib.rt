@@ -2,21 +2,24 @@
 ghost use mathlib.Core.Path.{_≡_};
 ghost use Prim.Native.Nat.{suc, _≤_, _<_};
 ghost use lib.Dec.{leb};
-ghost use lib.ListN.{length};
-ghost use Rattle.record.specs.Read.{_needs⟨_⟩_};
+ghost use Rattle.record.specs.Read.{_needs⟨_⟩_, led, folded};
 ghost use Rattle.record.specs.Loop.{runs};
-ghost use Rattle.vertexset.specs.Set.{capacity};
+ghost use Rattle.vertexset.specs.Set.{inserted, capacity};
 ghost use Rattle.connectivity.specs.Build.{furtherCount};
-ghost use Rattle.certificates.specs.Records.{vertex, branchFour};
+ghost use Rattle.certificates.specs.Records.{vertex, path, branchFour};
 ghost use Rattle.paths.specs.Items.{itemRead, endRead, limited};
+ghost use Rattle.paths.specs.Paths.{verticesAt};
 ghost use Rattle.graph.specs.Rows.{rowsGraph};
-ghost use Rattle.build.specs.State.{entered, pathTaken, buildPath, bareBuild, fourSet, startOn, startOf, buildStart, buildBody};
-ghost use Rattle.build.specs.Code.{pathFault, buildIn, enteredFrom, Leaves, towards, noFour, fourRead, fourOf, firsts, lasts, noStart, startRead, startLoop, furtherLoop, pathEnds};
+ghost use Rattle.links.specs.Tables.{pointAlong};
+ghost use Rattle.build.specs.State.{entered, raisedAt, pathTaken, buildPath, bareBuild, fourSet, startOn, startEntered, startOf, startIn, buildBody};
+ghost use Rattle.build.specs.Code.{pathFault, buildIn, PathAt, ToldAt, innerAt, onPathRead, Leaves, towards, noFour, fourRead, fourOf, firsts, lasts, noStart, startLeft, startLoop, furtherLoop, pathEnds};
 use graph::GraphTable;
+use links::End;
 use links::Ends;
 use links::Link;
 use paths::Item;
 use paths::PathRead;
+use record::Answer;
 use vertexset::VertexSet;
 
 // The branch vertices of a build, and all vertices that are in.
@@ -46,12 +49,6 @@ struct Four {
     s: u16,
 }
 
-// The build after its start, and where reading goes on or the fault.
-pub struct Started {
-    pub end: Item,
-    pub build: Build,
-}
-
 // Document 01's number for a path that was read whole, or 0.
 fn path_fault(along: bool, ends: bool, new: bool, apart: bool) -> u8
     ensures { λ r. ⌜ r ≡ pathFault along ends new apart ⌝ }
@@ -71,28 +68,62 @@ fn path_fault(along: bool, ends: bool, new: bool, apart: bool) -> u8
     0
 }
 
-// The vertices of a path that was read enter the build, and the path as a link.
+// The inner vertices of the path that was read at a place are in, and point to their neighbours on it. They are read again, so that
+// no list of them is kept.
+fn take_inner<'a>(
+    s: &'a [u8],
+    n: u16,
+    at: usize,
+    built: VertexSet,
+    pointers: &'a mut [u16; Link::POINTERS],
+) -> VertexSet
+    requires { ⌜ PathAt n (now s) at ⌝ }
+    ensures { λ r. ⌜ r ≡ folded inserted built (innerAt n (now (s .entry)) at) ⌝ }
+    ensures { λ r. ⌜ now (pointers .exit) ≡ pointAlong (now (pointers .entry)) (verticesAt n (now (s .entry)) at) ⌝ }
+{
+    let x = paths::read_ranged(s, 2, n, at);
+    let a = paths::read_vertex(s, n, x.next);
+    let b = paths::read_vertex(s, n, a.next);
+    let mut words = built.words;
+    let mut u = a.value;
+    let mut v = b.value;
+    let mut next = b.next;
+    let mut left = x.value;
+    while 2 < left {
+        let y = paths::read_vertex(s, n, next);
+        words[(v / 64) as usize] |= 1u64 << (v % 64);
+        links::point_between(pointers, u, v, y.value);
+        u = v;
+        v = y.value;
+        next = y.next;
+        left -= 1;
+    }
+    VertexSet { words }
+}
+
+// A path that was read at a place enters the build as a link.
 fn enter<'a>(
+    s: &'a [u8],
+    n: u16,
+    at: usize,
     x: PathRead,
     sets: Sets,
     pointers: &'a mut [u16; Link::POINTERS],
     linked: &'a mut [u64; GraphTable::ROW_WORDS],
 ) -> Taken
-    requires { ⌜ x .len ≤ length (x .list) ⌝ }
-    ensures { λ r. ⌜ (r .end ≡ x .end) × (buildIn (r .sets) (now (pointers .exit)) (now (linked .exit))
-        ≡ enteredFrom x (buildIn sets (now (pointers .entry)) (now (linked .entry)))) ⌝ }
+    requires { ⌜ ToldAt n (now s) at x ⌝ }
+    ensures { λ r. ⌜ r .end ≡ x .end ⌝ }
+    ensures { λ r. ⌜ buildIn (r .sets) (now (pointers .exit)) (now (linked .exit))
+        ≡ onPathRead entered (buildIn sets (now (pointers .entry)) (now (linked .entry))) (path n 2 (now (s .entry)) at) ⌝ }
 {
-    let end = x.end;
-    let list = x.list;
-    let len = x.len as usize;
-    links::point_along(pointers, &list[..len]);
     graph::join(linked, x.first, x.last);
+    let end = x.end;
+    if x.len < 3 {
+        return Taken { end, sets };
+    }
+    let built = take_inner(s, n, at, sets.built, pointers);
     let branch = sets.branch;
-    let built = sets.built;
-    let grown = Sets {
-        branch,
-        built: built.union(x.set),
-    };
+    let grown = Sets { branch, built };
     Taken { end, sets: grown }
 }
 
@@ -113,7 +144,8 @@ fn take_start_path<'a>(
     let built = sets.built;
     let x = paths::read_link_path(s, rows, n, built, at);
     let end = x.end;
-    let Item::Value(_, _) = end else {
+    let end_answer = end.answer;
+    let Answer::Accepted = end_answer else {
         return Taken { end, sets };
     };
     let r = path_fault(
@@ -124,11 +156,21 @@ fn take_start_path<'a>(
     );
     if 0 < r {
         return Taken {
-            end: Item::Fault(r, at),
+            end: Item::refused(r, at),
             sets,
         };
     }
-    enter(x, sets, pointers, linked)
+    enter(s, n, at, x, sets, pointers, linked)
+}
+
+// An inner vertex at which a path ends becomes a branch vertex.
+fn raise(branch: VertexSet, end: End) -> VertexSet
+    ensures { λ r. ⌜ r ≡ raisedAt branch end ⌝ }
+{
+    match end {
+        End::Branch(_) => branch,
+        End::Inner(v, _) => branch.insert(v),
+    }
 }
 
 // A further path, read, tested and taken in; nothing changes where it is refused.
@@ -148,7 +190,8 @@ pub fn take_path<'a>(
     let built = sets.built;
     let x = paths::read_link_path(s, rows, n, built, at);
     let end = x.end;
-    let Item::Value(_, _) = end else {
+    let end_answer = end.answer;
+    let Answer::Accepted = end_answer else {
         return Taken { end, sets };
     };
     let first = links::end_of(pointers, branch, x.first);
@@ -159,16 +202,16 @@ pub fn take_path<'a>(
     let r = path_fault(x.along, both, x.new, !a.is_held());
     if 0 < r {
         return Taken {
-            end: Item::Fault(r, at),
+            end: Item::refused(r, at),
             sets,
         };
     }
     links::split_by(linked, a);
     let raised = Sets {
-        branch: branch.insert(x.first).insert(x.last),
+        branch: raise(raise(branch, first), last),
         built,
     };
-    enter(x, raised, pointers, linked)
+    enter(s, n, at, x, raised, pointers, linked)
 }
 
 // A vertex above the one before it.
@@ -176,11 +219,13 @@ fn read_above(s: &[u8], n: u16, before: u16, at: usize) -> Item
     ensures { λ r. ⌜ r ≡ itemRead ((vertex n needs⟨ 20 ⟩ leb (suc before)) (now (s .entry)) at) ⌝ }
 {
     let x = paths::read_vertex(s, n, at);
-    let Item::Value(v, _) = x else {
+    let x_answer = x.answer;
+    let Answer::Accepted = x_answer else {
         return x;
     };
+    let v = x.value;
     if v <= before {
-        return Item::Fault(20, at);
+        return Item::refused(20, at);
     }
     x
 }
@@ -226,23 +271,35 @@ fn read_four(s: &[u8], n: u16, at: usize) -> Four
     ensures { λ r. ⌜ r ≡ fourRead (branchFour n (now (s .entry)) at) ⌝ }
 {
     let a = paths::read_vertex(s, n, at);
-    let Item::Value(p, second) = a else {
+    let a_answer = a.answer;
+    let Answer::Accepted = a_answer else {
         return no_four(a);
     };
+    let p = a.value;
+    let second = a.next;
     let b = read_above(s, n, p, second);
-    let Item::Value(q, third) = b else {
+    let b_answer = b.answer;
+    let Answer::Accepted = b_answer else {
         return no_four(b);
     };
+    let q = b.value;
+    let third = b.next;
     let c = read_above(s, n, q, third);
-    let Item::Value(r, fourth) = c else {
+    let c_answer = c.answer;
+    let Answer::Accepted = c_answer else {
         return no_four(c);
     };
+    let r = c.value;
+    let fourth = c.next;
     let d = read_above(s, n, r, fourth);
-    let Item::Value(last, next) = d else {
+    let d_answer = d.answer;
+    let Answer::Accepted = d_answer else {
         return no_four(d);
     };
+    let last = d.value;
+    let next = d.next;
     Four {
-        end: Item::Value(0, next),
+        end: Item::taken(0, next),
         p,
         q,
         r,
@@ -267,11 +324,15 @@ impl Build {
     }
 }
 
-fn no_start(x: Item) -> Started
-    ensures { λ r. ⌜ r ≡ noStart x ⌝ }
+fn no_start(end: Item) -> Taken
+    ensures { λ r. ⌜ r ≡ noStart end ⌝ }
 {
-    let build = Build::bare(VertexSet::empty());
-    Started { end: x, build }
+    let set = VertexSet::empty();
+    let sets = Sets {
+        branch: set,
+        built: set,
+    };
+    Taken { end, sets }
 }
 
 // The six paths between the four.
@@ -281,56 +342,62 @@ fn read_six<'a>(
     n: u16,
     four: Four,
     from: usize,
-) -> Started
+    pointers: &'a mut [u16; Link::POINTERS],
+    linked: &'a mut [u64; GraphTable::ROW_WORDS],
+) -> Taken
     requires { ⌜ n ≤ capacity ⌝ }
-    ensures { λ r. ⌜ r ≡ runs (startLoop n (now (rows .entry))) 6 (startOf (fourOf four)) (startOf (fourOf four)) (now (s .entry)) from ⌝ }
+    ensures { λ r. ⌜ r .end ≡ runs (startLoop n (now (rows .entry))) 6 (startOf (now (pointers .entry)) (now (linked .entry)) (fourOf four)) tt (now (s .entry)) from ⌝ }
+    ensures { λ r. ⌜ buildIn (r .sets) (now (pointers .exit)) (now (linked .exit))
+        ≡ led (startOn (rowsGraph n (now (rows .entry)))) startEntered 6 (startOf (now (pointers .entry)) (now (linked .entry)) (fourOf four)) (now (s .entry)) from .build ⌝ }
 {
-    let bare = Build::bare(four.as_set());
-    let mut sets = bare.sets;
-    let mut pointers = bare.pointers;
-    let mut linked = bare.linked;
+    let set = four.as_set();
+    let mut sets = Sets {
+        branch: set,
+        built: set,
+    };
     let mut at = from;
     let mut left: usize = 6;
     while 0 < left {
         let ends = four.pair(6 - left);
-        let x = take_start_path(s, rows, n, at, ends, sets, &mut pointers, &mut linked);
+        let x = take_start_path(s, rows, n, at, ends, sets, pointers, linked);
         let end = x.end;
-        let Item::Value(_, next) = end else {
-            return no_start(end);
+        let answer = end.answer;
+        let Answer::Accepted = answer else {
+            return x;
         };
         sets = x.sets;
-        at = next;
+        at = end.next;
         left -= 1;
     }
-    let build = Build {
+    Taken {
+        end: Item::taken(0, at),
         sets,
-        pointers,
-        linked,
-    };
-    Started {
-        end: Item::Value(0, at),
-        build,
     }
 }
 
-// Four ascending branch vertices and the six paths between them.
+// Four ascending branch vertices and the six paths between them, which enter the tables as they come: those before a fault stay.
 pub fn read_start<'a>(
     s: &'a [u8],
     rows: &'a [u64; GraphTable::ROW_WORDS],
     n: u16,
     at: usize,
-) -> Started
-    ensures { λ r. ⌜ r ≡ startRead (limited n (buildStart (rowsGraph n (now (rows .entry)))) (now (s .entry)) at) ⌝ }
+    pointers: &'a mut [u16; Link::POINTERS],
+    linked: &'a mut [u64; GraphTable::ROW_WORDS],
+) -> Taken
+    ensures { λ r. ⌜ r .end ≡ endRead (limited n (startIn (now (pointers .entry)) (now (linked .entry)) (rowsGraph n (now (rows .entry)))) (now (s .entry)) at) ⌝ }
+    ensures { λ r. ⌜ buildIn (r .sets) (now (pointers .exit)) (now (linked .exit))
+        ≡ startLeft (now (pointers .entry)) (now (linked .entry)) (rowsGraph n (now (rows .entry))) (now (s .entry)) at ⌝ }
 {
     if VertexSet::CAPACITY < n {
-        return no_start(Item::Fault(9, at));
+        return no_start(Item::refused(9, at));
     }
     let four = read_four(s, n, at);
     let end = four.end;
-    let Item::Value(_, from) = end else {
+    let answer = end.answer;
+    let Answer::Accepted = answer else {
         return no_start(end);
     };
-    read_six(s, rows, n, four, from)
+    read_six(s, rows, n, four, end.next, pointers, linked)
 }
 
 // The further paths, and 28 where a vertex is then no branch vertex.
@@ -339,34 +406,36 @@ fn read_further<'a>(
     rows: &'a [u64; GraphTable::ROW_WORDS],
     n: u16,
     count: u16,
-    from: usize,
-    start: Build,
+    start: Taken,
+    pointers: &'a mut [u16; Link::POINTERS],
+    linked: &'a mut [u64; GraphTable::ROW_WORDS],
 ) -> Item
     requires { ⌜ n ≤ capacity ⌝ }
-    ensures { λ r. ⌜ r ≡ runs (furtherLoop n (now (rows .entry))) count start start (now (s .entry)) from ⌝ }
+    ensures { λ r. ⌜ r ≡ runs (furtherLoop n (now (rows .entry))) count (buildIn (start .sets) (now (pointers .entry)) (now (linked .entry)))
+        (buildIn (start .sets) (now (pointers .entry)) (now (linked .entry))) (now (s .entry)) (start .end .next) ⌝ }
 {
+    let from = start.end;
+    let mut at = from.next;
     let mut sets = start.sets;
-    let mut pointers = start.pointers;
-    let mut linked = start.linked;
-    let mut at = from;
     let mut left = count;
     while 0 < left {
-        let x = take_path(s, rows, n, at, sets, &mut pointers, &mut linked);
+        let x = take_path(s, rows, n, at, sets, pointers, linked);
         let end = x.end;
-        let Item::Value(_, next) = end else {
+        let answer = end.answer;
+        let Answer::Accepted = answer else {
             return end;
         };
         sets = x.sets;
-        at = next;
+        at = end.next;
         left -= 1;
     }
     if paths::all_below(sets.branch, n) {
-        return Item::Value(0, at);
+        return Item::taken(0, at);
     }
-    Item::Fault(28, at)
+    Item::refused(28, at)
 }
 
-// A certificate of kind 3 after its kind: the place after it, or its fault.
+// A certificate of kind 3 after its kind: the place after it, or its fault. The tables of the build are made once.
 pub fn read_build<'a>(
     s: &'a [u8],
     rows: &'a [u64; GraphTable::ROW_WORDS],
@@ -376,13 +445,15 @@ pub fn read_build<'a>(
 ) -> Item
     ensures { λ r. ⌜ r ≡ endRead (limited n (buildBody (rowsGraph n (now (rows .entry))) count) (now (s .entry)) at) ⌝ }
 {
-    let x = read_start(s, rows, n, at);
+    let mut pointers = [0u16; Link::POINTERS];
+    let mut linked = [0u64; GraphTable::ROW_WORDS];
+    let x = read_start(s, rows, n, at, &mut pointers, &mut linked);
     let end = x.end;
-    let Item::Value(_, from) = end else {
+    let answer = end.answer;
+    let Answer::Accepted = answer else {
         return end;
     };
-    let start = x.build;
-    read_further(s, rows, n, count, from, start)
+    read_further(s, rows, n, count, x, &mut pointers, &mut linked)
 }
 
 // How many paths come after the start, beside m edges and n vertices.

@@ -17,10 +17,11 @@ use Rattle.record.specs.declared.Answer.{Answer}
 use Rattle.record.specs.declared.Answer.the-variants.{Accepted, Grade, PlanFault, CertificateFault}
 use Rattle.record.proofs.Answer.{the-type}
 use Rattle.record.proofs.Write.{some-bytes, overwritten-none}
-use Rattle.reading.specs.Code.{wholePlan}
+use Rattle.reading.specs.Code.{wholePlan, headOf, rowsLeft}
+use Rattle.graph.specs.Rows.{bareRows}
 use Rattle.graph.specs.declared.GraphTable.{GraphTable}
-use Rattle.reading.specs.declared.PlanRead.{PlanRead}
-use Rattle.reading.proofs.Plans.{accepted}
+use Rattle.reading.specs.declared.PlanHead.{PlanHead}
+use Rattle.reading.proofs.Plans.{accepted, whole-rows}
 use Rattle.certificates.proofs.Accepted.{kind-low}
 use Rattle.construction.specs.Certificate.{certificateNumbers}
 use Rattle.construction.proofs.CertificateLaws.{Constructed, certified}
@@ -41,14 +42,14 @@ bytes-many (v ∷ l) = omega (arith, bytes-many l, some-bytes v, length-append (
 
 -- ---- what is decided
 
-module _ (s : List ℕ) (room : ℕ) {x : PlanRead} (e : x ≡ wholePlan s) where
+module _ (s : List ℕ) (room : ℕ) {h : PlanHead} (e : h ≡ headOf (wholePlan s)) where
   -- from what the reader gave
-  drafted : {d : Draft} → d ≡ draftBy room (x .answer) (x .graph) → d ≡ draftFrom s room
-  drafted {d} h = subst (λ (y : PlanRead). d ≡ draftBy room (y .answer) (y .graph)) e h
+  drafted : {d : Draft} → d ≡ draftBy room (h .answer) (wholePlan s .graph) → d ≡ draftFrom s room
+  drafted {d} k = subst (λ (y : PlanHead). d ≡ draftBy room (y .answer) (wholePlan s .graph)) e k
 
-  pub draft-refused : {d : Draft} → OneOf (1 ∷ 2 ∷ 3 ∷ []) (tagOf the-type (x .answer)) → d ≡ draftOf (x .answer) [] → d ≡ draftFrom s room
+  pub draft-refused : {d : Draft} → OneOf (1 ∷ 2 ∷ 3 ∷ []) (tagOf the-type (h .answer)) → d ≡ draftOf (h .answer) [] → d ≡ draftFrom s room
   unfolding draftBy
-  draft-refused k h = drafted (h ∙ go (x .answer) (x .graph) k)
+  draft-refused k j = drafted (j ∙ go (h .answer) (wholePlan s .graph) k)
     where
       go : (a : Answer) (g : GraphTable) → OneOf (1 ∷ 2 ∷ 3 ∷ []) (tagOf the-type a) → draftOf a [] ≡ draftBy room a g
       go Accepted g (inl i) = absurd (omega arith)
@@ -58,24 +59,30 @@ module _ (s : List ℕ) (room : ℕ) {x : PlanRead} (e : x ≡ wholePlan s) wher
       go (PlanFault n p) g i = refl
       go (CertificateFault n p) g i = refl
 
-  pub draft-short : {d : Draft} → x .answer ≡ Accepted → room < roomAsked → d ≡ draftOf (PlanFault 30 0) [] → d ≡ draftFrom s room
+  pub draft-short : {d : Draft} → h .answer ≡ Accepted → room < roomAsked → d ≡ draftOf (PlanFault 30 0) [] → d ≡ draftFrom s room
   unfolding draftBy
-  draft-short f l h = drafted (rw (f, lt-ltb room roomAsked l) h)
+  draft-short f l j = drafted (rw (f, lt-ltb room roomAsked l) j)
 
 -- an accepted plan
-module _ (s : List ℕ) (bytes : Bytes s) {x : PlanRead} (e : x ≡ wholePlan s) (f : x .answer ≡ Accepted) where
+module _ (s : List ℕ) (bytes : Bytes s) {h : PlanHead} (e : h ≡ headOf (wholePlan s)) (f : h .answer ≡ Accepted) where
   abbrev numbers : List ℕ
-  numbers = certificateNumbers (x .graph .rows) (x .graph .n)
+  numbers = certificateNumbers (wholePlan s .graph .rows) (wholePlan s .graph .n)
 
-  read-certified : Constructed (x .graph .rows) (x .graph .n)
+  whole : wholePlan s .answer ≡ Accepted
+  whole = ap (λ (y : PlanHead). y .answer) (sym e) ∙ f
+
+  read-certified : Constructed (wholePlan s .graph .rows) (wholePlan s .graph .n)
   read-certified =
-      let p = accepted s bytes (ap (λ (y : PlanRead). y .answer) (sym e) ∙ f) in
+      let p = accepted s bytes whole in
       let d = plan-drawn (p .0) (p .1) in
-      subst (λ (g : GraphTable). Constructed (g .rows) (g .n)) (sym (ap (λ (y : PlanRead). y .graph) e ∙ p .3)) (certified _ _ d (plan-edges (p .0) (p .1)))
+      subst (λ (g : GraphTable). Constructed (g .rows) (g .n)) (sym (p .3)) (certified _ _ d (plan-edges (p .0) (p .1)))
 
-  module _ {c : Numbers} (k : c ≡ numbersOf numbers) where
+  module _ {rows : List ℕ} {c : Numbers} (left : rows ≡ rowsLeft bareRows s) (k : c ≡ numbersOf (certificateNumbers rows (h .n))) where
+    made-numbers : c ≡ numbersOf numbers
+    made-numbers = k ∙ (λ i. numbersOf (certificateNumbers ((left ∙ whole-rows s whole) i) (e i .n)))
+
     first : getD (c .items) 0 0 ≡ getD numbers 0 0
-    first = ap (λ (y : Numbers). getD (y .items) 0 0) k ∙ padded-at numberRoom numbers 0
+    first = ap (λ (y : Numbers). getD (y .items) 0 0) made-numbers ∙ padded-at numberRoom numbers 0
 
     pub draft-grade : getD (c .items) 0 0 ≤ 3
     draft-grade = let w = read-certified in omega (arith, first, w .grade, kind-low (w .certificate))
@@ -83,7 +90,7 @@ module _ (s : List ℕ) (bytes : Bytes s) {x : PlanRead} (e : x ≡ wholePlan s)
     pub draft-done : (room : ℕ) → roomAsked ≤ room → _≡_ {A = Draft} (record { answer = Grade (getD (c .items) 0 0); items = c .items; count = c .count }) (draftFrom s room)
     unfolding draftBy
     draft-done room l =
-        drafted s room e (rw (f, le-ltb room roomAsked l, first) (ap (λ (y : Numbers). record { answer = Grade (getD numbers 0 0); items = y .items; count = y .count }) k))
+        drafted s room e (rw (f, le-ltb room roomAsked l, first) (ap (λ (y : Numbers). record { answer = Grade (getD numbers 0 0); items = y .items; count = y .count }) made-numbers))
 
 -- ---- what is written
 
@@ -133,7 +140,7 @@ module _ (s buffer : List ℕ) (bytes : Bytes s) {d : Draft} (e : d ≡ draftFro
   decided : Decided buffer d (madeFrom s buffer) (filledFrom s buffer)
   decided =
       subst (λ (y : Draft). Decided buffer y (madeFrom s buffer) (filledFrom s buffer)) (sym e)
-      (decided-by buffer (wholePlan s .answer) (wholePlan s .graph) (λ f. read-certified s bytes {x = wholePlan s} refl f))
+      (decided-by buffer (wholePlan s .answer) (wholePlan s .graph) (λ f. read-certified s bytes {h = headOf (wholePlan s)} refl f))
 
   pub made-fits : d .count ≤ length (d .items)
   made-fits = let f = decided .front in omega (arith, filled-length f, f .short, f .size)

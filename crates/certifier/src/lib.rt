@@ -282,7 +282,8 @@ fn no_draft(answer: Answer) -> Draft
 fn decide(plan: &[u8], room: usize) -> Draft
     ensures { λ r. ⌜ r ≡ draftFrom (now (plan .entry)) room ⌝ }
 {
-    let p = reading::read_plan(plan);
+    let mut rows = [0u64; GraphTable::ROW_WORDS];
+    let p = reading::read_plan_rows(plan, &mut rows);
     let answer = p.answer;
     let Answer::Accepted = answer else {
         return no_draft(answer);
@@ -290,8 +291,7 @@ fn decide(plan: &[u8], room: usize) -> Draft
     if room < Made::ROOM {
         return no_draft(Answer::PlanFault(30, 0));
     }
-    let g = p.graph;
-    let c = certificate(&g.rows, g.n);
+    let c = certificate(&rows, p.n);
     let items = c.items;
     let count = c.count;
     Draft {

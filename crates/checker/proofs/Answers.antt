@@ -12,26 +12,27 @@ use Rattle.record.specs.Number.{number, numberAt, asRead}
 use Rattle.record.specs.declared.Number.the-variants.{Value}
 use Rattle.record.specs.declared.Answer.{Answer}
 use Rattle.record.specs.declared.Answer.the-variants.{Accepted, Grade, PlanFault, CertificateFault}
+use Rattle.record.proofs.Faults.{NotAccepted, not-accepted}
 use Rattle.record.proofs.Laws.{Spans, Spans.none, Spans.more, on-got, carry, ended-there}
 use Rattle.connectivity.specs.Graph.{Graph, edgeCount}
 use Rattle.connectivity.specs.Certificate.{Certificate, kind, grade}
 use Rattle.connectivity.proofs.Soundness.{grade-kind}
 use Rattle.connectivity.specs.Build.{furtherCount}
 use Rattle.reading.specs.Plan.{Plan, Allowed, plan}
-use Rattle.reading.specs.Code.{graphOf, planRead, wholePlan, leadingPlan}
+use Rattle.reading.specs.Code.{graphOf, planRead, wholePlan, leadingPlan, headOf, rowsLeft}
 use Rattle.reading.specs.declared.PlanRead.{PlanRead}
-use Rattle.graph.specs.declared.GraphTable.{GraphTable}
-use Rattle.reading.proofs.Plans.{plan-law}
+use Rattle.reading.specs.declared.PlanHead.{PlanHead}
+use Rattle.reading.proofs.Plans.{plan-law, leading-rows, whole-rows}
 use Rattle.connectivity.proofs.Edges.{fromEdges-count}
 use Rattle.reading.proofs.Adjacency.{graph-listed, edge-list}
 use Rattle.certificates.specs.Records.{body, certificate}
 use Rattle.paths.specs.Items.{endRead, limited}
-use Rattle.graph.specs.Rows.{rowsGraph}
+use Rattle.graph.specs.Rows.{rowsGraph, bareRows}
 use Rattle.build.specs.State.{buildBody}
 use Rattle.refinement.proofs.Kind3.{kind-3}
 use Rattle.checker.specs.Check.{planGraph, onCertificate, certificateAnswer, onPlan, checkOf, onLeading, gradeOf}
 use Rattle.checker.specs.declared.Graded.{Graded}
-use Rattle.checker.specs.Code.{bodyEnd, onEnd, onKind, rowsAnswer}
+use Rattle.checker.specs.Code.{bodyEnd, onAnswer, onEnd, onKind, rowsAnswer}
 use Rattle.vertexset.specs.Set.{capacity}
 
 fits-table : (p : Plan) → Allowed p → p .n ≤ capacity
@@ -150,51 +151,63 @@ module _ (g : Graph) (m : ℕ) (s : List ℕ) where
     unfolding rowsAnswer number
     kind-read h f = rw (← e, le-leb k 3 h, f)
 
--- a plan that was read whole, and a certificate beside it
-module _ (s c : List ℕ) (r : PlanRead) (e : r ≡ wholePlan s) where
-  pub check-accepted : Bytes s → r .answer ≡ Accepted
-      → (r .graph .n ≤ capacity) × (rowsAnswer (rowsGraph (r .graph .n) (r .graph .rows)) (r .graph .m) c ≡ checkOf s c)
+-- an answer that does not accept stays
+pub other-answer : (len k next : ℕ) (a : Answer) → NotAccepted a → a ≡ onAnswer len k next a
+other-answer len k next Accepted i = absurd (not-accepted Accepted i refl)
+other-answer len k next (Grade g) i = refl
+other-answer len k next (PlanFault r p) i = refl
+other-answer len k next (CertificateFault r p) i = refl
+
+-- a plan that was read whole into bare rows, and a certificate beside it
+module _ (s c : List ℕ) (h : PlanHead) (e : h ≡ headOf (wholePlan s)) where
+  pub check-accepted : {rows : List ℕ} → rows ≡ rowsLeft bareRows s → Bytes s → h .answer ≡ Accepted → (h .n ≤ capacity) × (rowsAnswer (rowsGraph (h .n) rows) (h .m) c ≡ checkOf s c)
   unfolding checkOf planRead graphOf
-  check-accepted bytes f = go (ended plan s 0) refl (e)
+  check-accepted {rows} left bytes f = go (ended plan s 0) refl e
     where
-      go : (x : Read Plan) → ended plan s 0 ≡ x → r ≡ planRead x → (r .graph .n ≤ capacity) × (rowsAnswer (rowsGraph (r .graph .n) (r .graph .rows)) (r .graph .m) c ≡ onPlan x c)
+      go : (x : Read Plan) → ended plan s 0 ≡ x → h ≡ headOf (planRead x) → (h .n ≤ capacity) × (rowsAnswer (rowsGraph (h .n) rows) (h .m) c ≡ onPlan x c)
       go (Got p next) k d =
           let a = ended-there plan-law {v = p} bytes k .1 in
-          let g : r .graph ≡ graphOf p = ap (λ (q : PlanRead). q .graph) d in
-          (rw g (fits-table p a), ap (λ (h : GraphTable). rowsAnswer (rowsGraph (h .n) (h .rows)) (h .m) c) g ∙ plan-answer p a c)
-      go (Refused q p) k d = let z : r .answer ≡ PlanFault q p = ap (λ (q : PlanRead). q .answer) d in let y : _≡_ {A = ℕ} 0 1 = cc in absurd (omega arith)
+          let n : h .n ≡ p .n = ap (λ (y : PlanHead). y .n) d in
+          let m : h .m ≡ length (p .edges) = ap (λ (y : PlanHead). y .m) d in
+          let w : wholePlan s ≡ planRead (Got p next) = ap planRead k in
+          let g : rows ≡ graphOf p .rows = left ∙ whole-rows s (ap (λ (y : PlanRead). y .answer) w) ∙ ap (λ (y : PlanRead). y .graph .rows) w in
+          (rw n (fits-table p a), rw (n, m, g) (plan-answer p a c))
+      go (Refused q p) k d = let z : h .answer ≡ PlanFault q p = ap (λ (y : PlanHead). y .answer) d in let y : _≡_ {A = ℕ} 0 1 = cc in absurd (omega arith)
 
-  pub check-refused : (r .answer ≡ Accepted → ⊥) → r .answer ≡ checkOf s c
+  pub check-refused : NotAccepted (h .answer) → h .answer ≡ checkOf s c
   unfolding checkOf planRead
   check-refused f = go (ended plan s 0) e
     where
-      go : (x : Read Plan) → r ≡ planRead x → r .answer ≡ onPlan x c
-      go (Got p next) d = absurd (f (ap (λ (q : PlanRead). q .answer) d))
-      go (Refused q p) d = ap (λ (q : PlanRead). q .answer) d
+      go : (x : Read Plan) → h ≡ headOf (planRead x) → h .answer ≡ onPlan x c
+      go (Got p next) d = absurd (not-accepted (h .answer) f (ap (λ (y : PlanHead). y .answer) d))
+      go (Refused q p) d = ap (λ (y : PlanHead). y .answer) d
 
 -- a plan at the start, and a certificate behind it
-module _ (s : List ℕ) (r : PlanRead) (e : r ≡ leadingPlan s) where
-  pub grade-accepted : Bytes s → r .answer ≡ Accepted → (r .next ≤ length s) × (r .graph .n ≤ capacity)
-      × (_≡_ {A = Graded} (record { answer = rowsAnswer (rowsGraph (r .graph .n) (r .graph .rows)) (r .graph .m) (drop (r .next) s); n = r .graph .n; m = r .graph .m }) (gradeOf s))
+module _ (s : List ℕ) (h : PlanHead) (e : h ≡ headOf (leadingPlan s)) where
+  pub grade-accepted : {rows : List ℕ} → rows ≡ rowsLeft bareRows s → Bytes s → h .answer ≡ Accepted → (h .next ≤ length s) × (h .n ≤ capacity)
+      × (_≡_ {A = Graded} (record { answer = rowsAnswer (rowsGraph (h .n) rows) (h .m) (drop (h .next) s); n = h .n; m = h .m }) (gradeOf s))
   unfolding gradeOf planRead graphOf
-  grade-accepted bytes f = go (plan s 0) refl e
+  grade-accepted {rows} left bytes f = go (plan s 0) refl e
     where
-      go : (x : Read Plan) → plan s 0 ≡ x → r ≡ planRead x → (r .next ≤ length s) × (r .graph .n ≤ capacity)
-          × (_≡_ {A = Graded} (record { answer = rowsAnswer (rowsGraph (r .graph .n) (r .graph .rows)) (r .graph .m) (drop (r .next) s); n = r .graph .n; m = r .graph .m }) (onLeading x s))
+      go : (x : Read Plan) → plan s 0 ≡ x → h ≡ headOf (planRead x) → (h .next ≤ length s) × (h .n ≤ capacity)
+          × (_≡_ {A = Graded} (record { answer = rowsAnswer (rowsGraph (h .n) rows) (h .m) (drop (h .next) s); n = h .n; m = h .m }) (onLeading x s))
       go (Got p next) k d =
           let b = plan-law .there {v = p} bytes k in
-          let g : r .graph ≡ graphOf p = ap (λ (q : PlanRead). q .graph) d in
-          let n : r .next ≡ next = ap (λ (q : PlanRead). q .next) d in (
-            rw n (spans-within (b .0) (omega arith)),
-            rw g (fits-table p (b .1)),
-            rw (g, n) (ap (λ (a : Answer). record { answer = a; n = p .n; m = length (p .edges) }) (plan-answer p (b .1) (drop next s))),
+          let n : h .n ≡ p .n = ap (λ (y : PlanHead). y .n) d in
+          let m : h .m ≡ length (p .edges) = ap (λ (y : PlanHead). y .m) d in
+          let t : h .next ≡ next = ap (λ (y : PlanHead). y .next) d in
+          let w : leadingPlan s ≡ planRead (Got p next) = ap planRead k in
+          let g : rows ≡ graphOf p .rows = left ∙ leading-rows s (ap (λ (y : PlanRead). y .answer) w) ∙ ap (λ (y : PlanRead). y .graph .rows) w in (
+            rw t (spans-within (b .0) (omega arith)),
+            rw n (fits-table p (b .1)),
+            rw (n, m, t, g) (ap (λ (a : Answer). record { answer = a; n = p .n; m = length (p .edges) }) (plan-answer p (b .1) (drop next s))),
           )
-      go (Refused q p) k d = let z : r .answer ≡ PlanFault q p = ap (λ (q : PlanRead). q .answer) d in let y : _≡_ {A = ℕ} 0 1 = cc in absurd (omega arith)
+      go (Refused q p) k d = let z : h .answer ≡ PlanFault q p = ap (λ (y : PlanHead). y .answer) d in let y : _≡_ {A = ℕ} 0 1 = cc in absurd (omega arith)
 
-  pub grade-refused : (r .answer ≡ Accepted → ⊥) → _≡_ {A = Graded} (record { answer = r .answer; n = 0; m = 0 }) (gradeOf s)
+  pub grade-refused : NotAccepted (h .answer) → _≡_ {A = Graded} (record { answer = h .answer; n = 0; m = 0 }) (gradeOf s)
   unfolding gradeOf planRead
   grade-refused f = go (plan s 0) e
     where
-      go : (x : Read Plan) → r ≡ planRead x → _≡_ {A = Graded} (record { answer = r .answer; n = 0; m = 0 }) (onLeading x s)
-      go (Got p next) d = absurd (f (ap (λ (q : PlanRead). q .answer) d))
-      go (Refused q p) d = ap (λ (q : PlanRead). record { answer = q .answer; n = 0; m = 0 }) d
+      go : (x : Read Plan) → h ≡ headOf (planRead x) → _≡_ {A = Graded} (record { answer = h .answer; n = 0; m = 0 }) (onLeading x s)
+      go (Got p next) d = absurd (not-accepted (h .answer) f (ap (λ (y : PlanHead). y .answer) d))
+      go (Refused q p) d = ap (λ (y : PlanHead). record { answer = y .answer; n = 0; m = 0 }) d

@@ -7,13 +7,12 @@ use lib.ListN.{length}
 use Rattle.record.specs.Read.{Read, Read.Got, Read.Refused}
 use Rattle.record.specs.Number.{number}
 use Rattle.record.specs.declared.Answer.{Answer}
-use Rattle.record.specs.declared.Answer.the-variants.{Grade, CertificateFault}
+use Rattle.record.specs.declared.Answer.the-variants.{Accepted, Grade, PlanFault, CertificateFault}
 use Rattle.connectivity.specs.Graph.{Graph}
 use Rattle.connectivity.specs.Build.{furtherCount}
 use Rattle.certificates.specs.Records.{body}
 use Rattle.paths.specs.Items.{endRead}
 use Rattle.paths.specs.declared.Item.{Item}
-use Rattle.paths.specs.declared.Item.the-variants.{Value, Fault}
 use Rattle.build.specs.State.{buildBody}
 
 -- where the body of a certificate of kind k ends, beside a graph with m edges
@@ -24,9 +23,14 @@ bodyEnd g m (suc (suc zero)) s at = endRead (body g 2 s at)
 bodyEnd g m (suc (suc (suc k))) s at = endRead (buildBody g (furtherCount m (g .n)) s at)
 
 -- after the body nothing may be left
+abbrev pub onAnswer : ℕ → ℕ → ℕ → Answer → Answer
+onAnswer len k next Accepted = cond (ltb next len) (CertificateFault 7 next) (Grade k)
+onAnswer len k next (Grade g) = Grade g
+onAnswer len k next (PlanFault r p) = PlanFault r p
+onAnswer len k next (CertificateFault r p) = CertificateFault r p
+
 abbrev pub onEnd : ℕ → ℕ → Item → Answer
-onEnd len k (Value v next) = cond (ltb next len) (CertificateFault 7 next) (Grade k)
-onEnd len k (Fault r p) = CertificateFault r p
+onEnd len k x = onAnswer len k (x .next) (x .answer)
 
 -- the kind is read and tested for 8 and 29, then the body is read
 abbrev pub onKind : Graph → ℕ → List ℕ → Read ℕ → Answer

@@ -58,16 +58,15 @@ fn ended(len: usize, k: u16, end: Item) -> Answer
     requires { ⌜ k < 4 ⌝ }
     ensures { λ r. ⌜ r ≡ onEnd len k end ⌝ }
 {
-    match end {
-        Item::Value(_, next) => {
-            if next < len {
-                Answer::CertificateFault(7, next)
-            } else {
-                Answer::Grade(k as u8)
-            }
-        }
-        Item::Fault(r, p) => Answer::CertificateFault(r, p),
+    let answer = end.answer;
+    let Answer::Accepted = answer else {
+        return answer;
+    };
+    let next = end.next;
+    if next < len {
+        return Answer::CertificateFault(7, next);
     }
+    Answer::Grade(k as u8)
 }
 
 // A whole certificate beside a graph of n vertices and m edges.
@@ -93,42 +92,36 @@ fn check_certificate<'a>(
     Answer::CertificateFault(29, 0)
 }
 
+// The rows of the plan's graph are made once, and lent.
 pub fn check(plan: &[u8], certificate: &[u8]) -> Answer
     ensures { λ r. ⌜ r ≡ checkOf (now (plan .entry)) (now (certificate .entry)) ⌝ }
 {
-    let read = reading::read_plan(plan);
+    let mut rows = [0u64; GraphTable::ROW_WORDS];
+    let read = reading::read_plan_rows(plan, &mut rows);
     let answer = read.answer;
-    let found = read.graph;
-    match answer {
-        Answer::Accepted => check_certificate(certificate, &found.rows, found.n, found.m),
-        Answer::Grade(_) => answer,
-        Answer::PlanFault(_, _) => answer,
-        Answer::CertificateFault(_, _) => answer,
-    }
+    let Answer::Accepted = answer else {
+        return answer;
+    };
+    check_certificate(certificate, &rows, read.n, read.m)
 }
 
 // The checking program's answer: a plan and, directly after it, a certificate.
 pub fn grade(input: &[u8]) -> Graded
     ensures { λ r. ⌜ r ≡ gradeOf (now (input .entry)) ⌝ }
 {
-    let read = reading::read_leading_plan(input);
+    let mut rows = [0u64; GraphTable::ROW_WORDS];
+    let read = reading::read_leading_rows(input, &mut rows);
     let answer = read.answer;
-    let found = read.graph;
+    let Answer::Accepted = answer else {
+        return Graded { answer, n: 0, m: 0 };
+    };
     let next = read.next;
-    match answer {
-        Answer::Accepted => {
-            if input.len() < next {
-                return Graded { answer, n: 0, m: 0 };
-            }
-            let rest = &input[next..];
-            Graded {
-                answer: check_certificate(rest, &found.rows, found.n, found.m),
-                n: found.n,
-                m: found.m,
-            }
-        }
-        Answer::Grade(_) => Graded { answer, n: 0, m: 0 },
-        Answer::PlanFault(_, _) => Graded { answer, n: 0, m: 0 },
-        Answer::CertificateFault(_, _) => Graded { answer, n: 0, m: 0 },
+    if input.len() < next {
+        return Graded { answer, n: 0, m: 0 };
+    }
+    Graded {
+        answer: check_certificate(&input[next..], &rows, read.n, read.m),
+        n: read.n,
+        m: read.m,
     }
 }

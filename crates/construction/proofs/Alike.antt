@@ -12,10 +12,10 @@ use Rattle.record.specs.Read.{folded}
 use Rattle.vertexset.specs.Set.{firstFrom}
 use Rattle.connectivity.specs.Lists.{In, select, upFrom, below, any}
 use Rattle.connectivity.specs.Graph.{isPair}
-use Rattle.connectivity.proofs.Lists.{bool?, clash, or-true, and-true}
+use Rattle.connectivity.proofs.Lists.{bool?, clash, or-true, and-true, any-true}
 use Rattle.construction.specs.Sets.{lastOf, placeOf, reversed}
 use Rattle.construction.specs.Steps.{segment, pairPlace, turned}
-use Rattle.construction.specs.Construction.{Bounds, VertexSet, Cut, emptySet, minus, common, bare, noCut, inserted, single, pair, withAll, setOf, membersFrom, members, count, least, nextAfter, empty, isCut, addPath, joined, marked, putIn, lengthOn, lengthened}
+use Rattle.construction.specs.Construction.{Bounds, VertexSet, Cut, emptySet, minus, common, bare, noCut, inserted, single, pair, withAll, setOf, membersFrom, members, count, least, nextAfter, empty, isCut, near, addPath, joined, marked, putIn, lengthOn, lengthened}
 
 -- two bounds that differ in nothing but how many vertices there may be
 pub record Sides : Type 0 where
@@ -167,10 +167,13 @@ module _ {s : Sides} {p q : VertexSet} (h : AlikeSet s p q) where
   pub count-alike : count (s .a) p ≡ count (s .b) q
   count-alike = ap length members-alike
 
-  pub none-left : empty (s .a) p ≡ empty (s .b) q
-  none-left =
+  some-alike : any p (below (s .a .vertices)) ≡ any q (below (s .b .vertices))
+  some-alike =
       let far = select-far p (s .n) (h .low) (s .a .vertices) (s .b .vertices) 0 (omega arith) (omega arith) ∙ (λ i. select (h .same i) (below (s .b .vertices))) in
-      ap not (any-select p (below (s .a .vertices)) ∙ (λ i. ltb 0 (length (far i))) ∙ sym (any-select q (below (s .b .vertices))))
+      any-select p (below (s .a .vertices)) ∙ (λ i. ltb 0 (length (far i))) ∙ sym (any-select q (below (s .b .vertices)))
+
+  pub none-left : empty (s .a) p ≡ empty (s .b) q
+  none-left = ap not some-alike
 
   first-alike : (k l v : ℕ) → s .n ≤ v + k → s .n ≤ v + l → AlikeNumber s (firstFrom p (s .a .vertices) k v) (firstFrom q (s .b .vertices) l v)
   unfolding firstFrom
@@ -298,12 +301,25 @@ pub bare-alike : {s : Sides} → AlikeTable s bare bare
 bare-alike = record { same = refl; low = λ x y e. absurd (clash e refl) }
 
 module _ {s : Sides} where
-  pub edge-alike : {t r : ℕ → ℕ → Bool} → AlikeTable s t r → {x y u v : ℕ} → AlikeNumber s x y → AlikeNumber s u v → t x u ≡ r y v
-  edge-alike {t} {r} h {x} {y} {u} {v} (vertex e k) f = member-alike (row-alike h x) f ∙ (λ i. r (e i) v)
-  edge-alike {t} {r} h {x} {y} {u} {v} (none e k) f = past x u (omega arith) ∙ sym (past y v (omega arith)) ∙ (λ i. h .same i y v)
+  -- none has no neighbours
+  pub row-at : {t r : ℕ → ℕ → Bool} → AlikeTable s t r → {x y : ℕ} → AlikeNumber s x y → AlikeSet s (t x) (r y)
+  row-at h {x} (vertex e k) = record { same = λ i. h .same i (e i); low = row-alike h x .low }
+  row-at {t} {r} h {x} {y} (none e k) = record { same = fun-ext (λ v. past x v (omega arith) ∙ sym (past y v (omega arith)) ∙ (λ i. h .same i y v)); low = row-alike h x .low }
     where
-      past : (x y : ℕ) → s .n ≤ x → t x y ≡ false
-      past x y k = off-one (λ e. omega (arith, h .low x y e))
+      past : (x v : ℕ) → s .n ≤ x → t x v ≡ false
+      past x v k = off-one (λ e. omega (arith, h .low x v e))
+
+  pub edge-alike : {t r : ℕ → ℕ → Bool} → AlikeTable s t r → {x y u v : ℕ} → AlikeNumber s x y → AlikeNumber s u v → t x u ≡ r y v
+  edge-alike h e f = member-alike (row-at h e) f
+
+  pub near-alike : {t r : ℕ → ℕ → Bool} → AlikeTable s t r → {p q : VertexSet} → AlikeSet s p q → AlikeSet s (near (s .a) t p) (near (s .b) r q)
+  near-alike {t} {r} d {p} {q} h = record {
+    same = fun-ext (λ w. some-alike (next-to w));
+    low = λ w e. let z = any-true (λ v. p v && t v w) (below (s .a .vertices)) e in d .low (z .0) w (and-true (p (z .0)) (t (z .0) w) (z .2) .1) .1;
+  }
+    where
+      next-to : (w : ℕ) → AlikeSet s (λ v. p v && t v w) (λ v. q v && r v w)
+      next-to w = common-alike h (record { same = λ i v. d .same i v w; low = λ v e. d .low v w e .0 })
 
   -- an edge more; where an end is none nothing is joined
   joined-alike : {t r : ℕ → ℕ → Bool} → AlikeTable s t r → {u v x y : ℕ} → AlikeNumber s u x → AlikeNumber s v y → AlikeTable s (joined (s .a) t u v) (joined (s .b) r x y)

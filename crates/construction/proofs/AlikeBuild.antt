@@ -10,7 +10,7 @@ use Rattle.connectivity.specs.Lists.{In, upFrom, below}
 use Rattle.connectivity.proofs.Lists.{in-below, select-in}
 use Rattle.construction.specs.Sets.{lastOf, placeOf}
 use Rattle.construction.specs.Construction.{VertexSet, Cut, Found, Begun, State, stopped, minus, membersFrom, extended, offLink, upTo, linkTaken, runEnd, linkStep, besidePlace, reroute, outTaken, outStep, innerPlace, step, steps, firstState, build, addEdges, addRows, finish}
-use Rattle.construction.proofs.Alike.{Sides, AlikeNumber, vertex, AlikeList, end, more, AlikeSet, AlikeTable, AlikeCut, known-choice, member-alike, row-alike, minus-alike, inserted-alike, pair-alike, all-alike, set-alike, members-from, none-left, no-cut, cut-alike, length-alike, at-alike, last-alike, take-alike, drop-alike, segment-alike, turned-alike, place-alike, beside-alike, edge-alike, add-alike, put-alike, bare-alike, marked-alike}
+use Rattle.construction.proofs.Alike.{Sides, AlikeNumber, vertex, AlikeList, end, more, AlikeSet, AlikeTable, AlikeCut, known-choice, member-alike, row-alike, minus-alike, inserted-alike, pair-alike, all-alike, set-alike, members-from, none-left, no-cut, cut-alike, length-alike, at-alike, last-alike, take-alike, drop-alike, segment-alike, turned-alike, place-alike, beside-alike, edge-alike, near-alike, add-alike, put-alike, bare-alike, marked-alike}
 use Rattle.construction.proofs.AlikeSearch.{AlikeFound, explore-alike, answered-alike}
 use Rattle.construction.proofs.AlikeEars.{detour-alike}
 use Rattle.construction.proofs.AlikeStart.{AlikeBegun}
@@ -88,7 +88,7 @@ module _ {s : Sides} where
     module _ {full full′ : VertexSet} (hf : AlikeSet s full full′) where
       out-step-alike : {x y : State} → AlikeState s x y → AlikeState s (outStep (s .a) adj full x) (outStep (s .b) adj full′ y)
       unfolding outStep
-      out-step-alike h = known-choice (AlikeState s) (none-left (minus-alike hf (h .built))) (λ z. stopped-alike h no-cut) (λ z. out-taken-alike h (detour-alike d hf (h .built)))
+      out-step-alike h = known-choice (AlikeState s) (none-left (minus-alike hf (h .built))) (λ z. stopped-alike h no-cut) (λ z. out-taken-alike h (detour-alike d (near-alike d (h .built)) (h .built)))
 
       inner-alike : {x y : State} → AlikeState s x y → innerPlace (s .a) x ≡ innerPlace (s .b) y
       inner-alike {x} {y} h =

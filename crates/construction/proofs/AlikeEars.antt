@@ -11,9 +11,9 @@ use borrow.Author.Tests.{ltb-true, ltb-false, lt-ltb, eq-eqb, not-false}
 use Rattle.record.specs.Read.{folded}
 use Rattle.connectivity.specs.Lists.{In}
 use Rattle.connectivity.proofs.Lists.{bool?, clash, true-or, in-left, in-right, fewer, at-most, beside}
-use Rattle.construction.specs.Construction.{Bounds, VertexSet, Reach, Found, failed, Eared, eared, noCut, emptySet, minus, common, inserted, single, pair, withAll, members, count, least, empty, explore, isFound, route, isCut, answered, wayOut, backFrom, detour, cycle, earsOn, ears}
+use Rattle.construction.specs.Construction.{Bounds, VertexSet, Reach, Found, failed, Eared, eared, noCut, emptySet, minus, inserted, single, pair, withAll, members, count, least, empty, explore, isFound, route, isCut, answered, near, wayOut, backFrom, detour, cycle, earsOn, ears}
 use Rattle.construction.proofs.Places.{in-place}
-use Rattle.construction.proofs.Alike.{Sides, off-one, AlikeNumber, vertex, none, AlikeList, end, more, AlikeSet, AlikeTable, AlikeCut, known-choice, zero-alike, vertex-test, row-alike, empty-alike, minus-alike, common-alike, inserted-is, single-alike, all-alike, members-alike, count-alike, none-left, least-alike, no-cut, cut-alike, add-alike}
+use Rattle.construction.proofs.Alike.{Sides, off-one, AlikeNumber, AlikeList, end, more, AlikeSet, AlikeTable, AlikeCut, known-choice, zero-alike, vertex-test, row-alike, row-at, near-alike, empty-alike, minus-alike, common-alike, inserted-is, single-alike, all-alike, count-alike, none-left, least-alike, no-cut, cut-alike, add-alike}
 use Rattle.construction.proofs.AlikeSearch.{AlikeReach, AlikeFound, next-meets, next-is, members-in, in-members, members-nodup, some-left, nothing-left, and-on, minus-is, common-is, explore-alike, rest, last-rest, last-seed, answered-alike, uncut, found-path, both}
 
 -- ---- the members of small sets
@@ -67,26 +67,8 @@ pub record AlikeEared (s : Sides) (e f : Eared) : Type 0 where
   pub cutBy : AlikeCut s (e .cutBy) (f .cutBy)
 
 module _ {s : Sides} {adj : ℕ → ℕ → Bool} (d : AlikeTable s adj adj) where
-  way-alike : {p q : VertexSet} → AlikeSet s p q → (l : List ℕ) → ((w : ℕ) → In w l → w < s .n) → AlikeEnds s (wayOut (s .a) adj p l) (wayOut (s .b) adj q l)
-  unfolding wayOut
-  way-alike h [] low = record { inside = none refl refl; outside = none refl refl }
-  way-alike h (c ∷ l) low =
-      let goal = least-alike (common-alike (row-alike d c) h) in
-      known-choice (AlikeEnds s) (vertex-test goal) (λ e. record { inside = goal; outside = vertex refl (low c (inl refl)) }) (λ e. way-alike h l (λ w k. low w (inr k)))
-
-  -- the way out goes from the set to a listed vertex
-  way-is : {p q : VertexSet} → AlikeSet s p q → (l : List ℕ) → ltb (wayOut (s .a) adj p l .0) (s .a .vertices) ≡ true → (p (wayOut (s .a) adj p l .0) ≡ true) × In (wayOut (s .a) adj p l .1) l
-  unfolding wayOut
-  way-is h [] e = absurd (omega (arith, ltb-true (s .a .vertices) (s .a .vertices) e))
-  way-is {p} h (c ∷ l) e = go (least (s .a) (common (adj c) p)) (wayOut (s .a) adj p l) (ltb (least (s .a) (common (adj c) p)) (s .a .vertices)) at-least (way-is h l) e
-    where
-      at-least : ltb (least (s .a) (common (adj c) p)) (s .a .vertices) ≡ true → p (least (s .a) (common (adj c) p)) ≡ true
-      at-least f = common-is (adj c) p (least (s .a) (common (adj c) p)) (next-is (common-alike (row-alike d c) h) 0 (ltb-true (least (s .a) (common (adj c) p)) (s .a .vertices) f) .0) .1
-
-      go : (x : ℕ) (r : ℕ × ℕ) (t : Bool) → (t ≡ true → p x ≡ true) → (ltb (r .0) (s .a .vertices) ≡ true → (p (r .0) ≡ true) × In (r .1) l)
-          → ltb (cond t (x, c) r .0) (s .a .vertices) ≡ true → (p (cond t (x, c) r .0) ≡ true) × In (cond t (x, c) r .1) (c ∷ l)
-      go x r true f old k = (f refl, inl refl)
-      go x r false f old k = let z = old k in (z .0, inr (z .1))
+  way-alike : {n n′ p q : VertexSet} → AlikeSet s n n′ → AlikeSet s p q → AlikeEnds s (wayOut (s .a) adj n p) (wayOut (s .b) adj n′ q)
+  way-alike hn h = let out = least-alike (minus-alike hn h) in record { inside = least-alike (common-alike (row-at d out) h); outside = out }
 
   return-alike : {p q : VertexSet} {e f : ℕ × ℕ} → AlikeSet s p q → AlikeEnds s e f → AlikeFound s (backFrom (s .a) adj p e) (backFrom (s .b) adj q f)
   return-alike h e =
@@ -95,36 +77,39 @@ module _ {s : Sides} {adj : ℕ → ℕ → Bool} (d : AlikeTable s adj adj) whe
       (λ z. answered-alike (explore-alike d (single-alike (e .outside)) (minus-alike h x) x) x (more (e .inside) end))
       (λ z. record { path = end; cutBy = record { removed = empty-alike; side = h } })
 
-  module _ {full full′ p q : VertexSet} (hf : AlikeSet s full full′) (h : AlikeSet s p q) where
-    outside-low : (w : ℕ) → In w (members (s .a) (minus full p)) → w < s .n
-    outside-low w k = minus-alike hf h .low w (members-in (minus-alike hf h) w k)
-
-    pub detour-alike : AlikeFound s (detour (s .a) adj full p) (detour (s .b) adj full′ q)
+  module _ {n n′ p q : VertexSet} (hn : AlikeSet s n n′) (h : AlikeSet s p q) where
+    pub detour-alike : AlikeFound s (detour (s .a) adj n p) (detour (s .b) adj n′ q)
     unfolding detour
-    detour-alike =
-        let new = members-alike (minus-alike hf h) in
-        return-alike h (subst (λ (l : List ℕ). AlikeEnds s (wayOut (s .a) adj p (members (s .a) (minus full p))) (wayOut (s .b) adj q l)) new (way-alike h (members (s .a) (minus full p)) outside-low))
+    detour-alike = return-alike h (way-alike hn h)
+
+    -- the way out goes from the set to a new vertex
+    way-is : ltb (wayOut (s .a) adj n p .0) (s .a .vertices) ≡ true → (p (wayOut (s .a) adj n p .0) ≡ true) × (minus n p (wayOut (s .a) adj n p .1) ≡ true)
+    way-is e =
+        let c = wayOut (s .a) adj n p .1 in
+        let x = wayOut (s .a) adj n p .0 in
+        let r = common-is (adj c) p x (next-is (common-alike (row-alike d c) h) 0 (ltb-true x (s .a .vertices) e) .0) in
+        (r .1, next-is (minus-alike hn h) 0 (omega (arith, d .low c x (r .0))) .0)
 
     -- where a set is not empty and nothing is cut, the way has a vertex that the set has not
-    back-grows : (e f : ℕ × ℕ) → AlikeEnds s e f → ((ltb (e .0) (s .a .vertices) ≡ true) → (p (e .0) ≡ true) × (minus full p (e .1) ≡ true)) → (w : ℕ) → p w ≡ true → isCut (s .a) (backFrom (s .a) adj p e .cutBy) ≡ false
-        → In (e .1) (backFrom (s .a) adj p e .path) × (minus full p (e .1) ≡ true)
+    back-grows : (e f : ℕ × ℕ) → AlikeEnds s e f → ((ltb (e .0) (s .a .vertices) ≡ true) → (p (e .0) ≡ true) × (minus n p (e .1) ≡ true)) → (w : ℕ) → p w ≡ true → isCut (s .a) (backFrom (s .a) adj p e .cutBy) ≡ false
+        → In (e .1) (backFrom (s .a) adj p e .path) × (minus n p (e .1) ≡ true)
     back-grows e f he is w on u =
         let x = single-alike (he .inside) in
         let m = explore-alike d (single-alike (he .outside)) (minus-alike h x) x in
         let r = first-taken (s .a) (ltb (e .0) (s .a .vertices)) _ (failed emptySet p) (λ k. clash on (nothing-left h (not-false _ k) w)) u in
         let new = is (r .0) .1 in
-        let c-low : e .1 < s .a .vertices = omega (arith, minus-alike hf h .low (e .1) new) in
-        let apart : single (s .a) (e .0) (e .1) ≡ false = off-one (λ k. clash (is (r .0) .0) (ap p (sym (single-is (s .a) (e .0) (e .1) k)) ∙ minus-is full p (e .1) new .1)) in
+        let c-low : e .1 < s .a .vertices = omega (arith, minus-alike hn h .low (e .1) new) in
+        let apart : single (s .a) (e .0) (e .1) ≡ false = off-one (λ k. clash (is (r .0) .0) (ap p (sym (single-is (s .a) (e .0) (e .1) k)) ∙ minus-is n p (e .1) new .1)) in
         let met = uncut m x (e .0 ∷ []) (e .1) (on-single (s .a) (e .1) c-low) apart (r .1) in
         let at = single-is (s .a) (e .1) _ (last-seed m met) in
         (subst (λ (l : List ℕ). In (e .1) l) (sym (r .2 ∙ found-path m x (e .0 ∷ []) met)) (inr (in-left (e .1) (rest m) (e .0 ∷ []) (subst (λ (v : ℕ). In v (rest m)) at (last-rest m met)))), new)
 
-    pub detour-grows : (w : ℕ) → p w ≡ true → isCut (s .a) (detour (s .a) adj full p .cutBy) ≡ false → (c : ℕ) × In c (detour (s .a) adj full p .path) × (minus full p c ≡ true)
+    pub detour-grows : (w : ℕ) → p w ≡ true → isCut (s .a) (detour (s .a) adj n p .cutBy) ≡ false → (c : ℕ) × In c (detour (s .a) adj n p .path) × (c < s .n) × (p c ≡ false)
     unfolding detour
-    detour-grows w on u = let r = back-grows (wayOut (s .a) adj p (members (s .a) (minus full p))) (wayOut (s .b) adj q (members (s .a) (minus full p))) (way-alike h (members (s .a) (minus full p)) outside-low) is w on u in (wayOut (s .a) adj p (members (s .a) (minus full p)) .1, r .0, r .1)
-      where
-        is : ltb (wayOut (s .a) adj p (members (s .a) (minus full p)) .0) (s .a .vertices) ≡ true → (p (wayOut (s .a) adj p (members (s .a) (minus full p)) .0) ≡ true) × (minus full p (wayOut (s .a) adj p (members (s .a) (minus full p)) .1) ≡ true)
-        is k = let r = way-is h (members (s .a) (minus full p)) k in (r .0, members-in (minus-alike hf h) _ (r .1))
+    detour-grows w on u =
+        let c = wayOut (s .a) adj n p .1 in
+        let r = back-grows (wayOut (s .a) adj n p) (wayOut (s .b) adj n′ q) (way-alike hn h) way-is w on u in
+        (c, r .0, minus-alike hn h .low c (r .1), minus-is n p c (r .1) .1)
 
   -- ---- a cycle through vertex 0
 
@@ -212,32 +197,33 @@ module _ {s : Sides} {adj : ℕ → ℕ → Bool} (d : AlikeTable s adj adj) whe
     all-in : {p q : VertexSet} → AlikeSet s p q → left p ≤ 0 → empty (s .a) (minus full p) ≡ true
     all-in {p} h i = ⊎-elim (λ e. e) (λ e. let r = some-left (minus-alike hf h) e in let z = in-place (r .0) (members (s .a) (minus full p)) (in-members (minus-alike hf h) (r .0) (r .1)) in absurd (omega arith)) (bool? (empty (s .a) (minus full p)))
 
-    ears-on : (f g k : ℕ) {flat flat′ : List ℕ} {p q : VertexSet} → AlikeList s flat flat′ → AlikeSet s p q → (w : ℕ) → p w ≡ true → left p ≤ f → left p ≤ g
-        → AlikeEared s (earsOn (s .a) adj full f flat k p) (earsOn (s .b) adj full′ g flat′ k q)
-    unfolding earsOn
-    ears-on zero g k {flat} {flat′} {p} {q} l h w on i j =
-        both (AlikeEared s) refl (sym (ended (s .b) g flat′ k q full′ (sym (none-left (minus-alike hf h)) ∙ all-in h i))) (record { flat = l; count = refl; cutBy = no-cut })
-    ears-on (suc f) zero k {flat} {flat′} {p} {q} l h w on i j =
-        both (AlikeEared s) (sym (ended (s .a) (suc f) flat k p full (all-in h j))) refl (record { flat = l; count = refl; cutBy = no-cut })
-    ears-on (suc f) (suc g) k {flat} {flat′} {p} {q} l h w on i j =
-        let way = detour-alike hf h in
-        known-choice (AlikeEared s) (none-left (minus-alike hf h))
-        (λ e. record { flat = l; count = refl; cutBy = no-cut })
-        (λ e. known-choice (AlikeEared s) (cut-alike (way .cutBy))
-        (λ c. record { flat = l; count = refl; cutBy = way .cutBy })
-        (λ c. let new = detour-grows hf h w on c in
-        let less = fewer-left h (all-alike h (way .path)) (all-keep (s .a) p (detour (s .a) adj full p .path)) (new .0) (new .2) (on-all (s .a) p (detour (s .a) adj full p .path) (new .0) (omega (arith, minus-alike hf h .low (new .0) (new .2))) (new .1)) in
-        ears-on f g (k + 1) (add-alike l (way .path)) (all-alike h (way .path)) w (all-keep (s .a) p (detour (s .a) adj full p .path) w on) (omega arith) (omega arith)))
-
     zero-in : isCut (s .a) (cycle (s .a) adj .cutBy) ≡ false → In 0 (cycle (s .a) adj .path)
     zero-in e = subst (λ (l : List ℕ). In 0 l) (sym (cycle-found e .1)) (in-right 0 (route (s .a) cycleSearch) (0 ∷ []) (inl refl))
 
-    -- EARS
-    pub ears-alike : AlikeEared s (ears (s .a) adj full) (ears (s .b) adj full′)
-    unfolding ears
-    ears-alike =
-        let round = cycle-alike in
-        let on = all-alike empty-alike (round .path) in
-        known-choice (AlikeEared s) (cut-alike (round .cutBy))
-        (λ e. record { flat = end; count = refl; cutBy = round .cutBy })
-        (λ e. ears-on (s .a .vertices) (s .b .vertices) 1 (add-alike end (round .path)) on 0 (on-all (s .a) emptySet (cycle (s .a) adj .path) 0 (omega arith) (zero-in e)) (omega (arith, few-left on)) (omega (arith, few-left on)))
+    module _ (all : (w : ℕ) → w < s .n → full w ≡ true) where
+      ears-on : (f g k : ℕ) {flat flat′ : List ℕ} {p q : VertexSet} → AlikeList s flat flat′ → AlikeSet s p q → (w : ℕ) → p w ≡ true → left p ≤ f → left p ≤ g
+          → AlikeEared s (earsOn (s .a) adj full f flat k p) (earsOn (s .b) adj full′ g flat′ k q)
+      unfolding earsOn
+      ears-on zero g k {flat} {flat′} {p} {q} l h w on i j =
+          both (AlikeEared s) refl (sym (ended (s .b) g flat′ k q full′ (sym (none-left (minus-alike hf h)) ∙ all-in h i))) (record { flat = l; count = refl; cutBy = no-cut })
+      ears-on (suc f) zero k {flat} {flat′} {p} {q} l h w on i j =
+          both (AlikeEared s) (sym (ended (s .a) (suc f) flat k p full (all-in h j))) refl (record { flat = l; count = refl; cutBy = no-cut })
+      ears-on (suc f) (suc g) k {flat} {flat′} {p} {q} l h w on i j =
+          let way = detour-alike (near-alike d h) h in
+          known-choice (AlikeEared s) (none-left (minus-alike hf h))
+          (λ e. record { flat = l; count = refl; cutBy = no-cut })
+          (λ e. known-choice (AlikeEared s) (cut-alike (way .cutBy))
+          (λ c. record { flat = l; count = refl; cutBy = way .cutBy })
+          (λ c. let new = detour-grows (near-alike d h) h w on c in
+          let less = fewer-left h (all-alike h (way .path)) (all-keep (s .a) p (detour (s .a) adj (near (s .a) adj p) p .path)) (new .0) (and-on (all (new .0) (new .2)) (new .3)) (on-all (s .a) p (detour (s .a) adj (near (s .a) adj p) p .path) (new .0) (omega (arith, new .2)) (new .1)) in
+          ears-on f g (k + 1) (add-alike l (way .path)) (all-alike h (way .path)) w (all-keep (s .a) p (detour (s .a) adj (near (s .a) adj p) p .path) w on) (omega arith) (omega arith)))
+
+      -- EARS
+      pub ears-alike : AlikeEared s (ears (s .a) adj full) (ears (s .b) adj full′)
+      unfolding ears
+      ears-alike =
+          let round = cycle-alike in
+          let on = all-alike empty-alike (round .path) in
+          known-choice (AlikeEared s) (cut-alike (round .cutBy))
+          (λ e. record { flat = end; count = refl; cutBy = round .cutBy })
+          (λ e. ears-on (s .a .vertices) (s .b .vertices) 1 (add-alike end (round .path)) on 0 (on-all (s .a) emptySet (cycle (s .a) adj .path) 0 (omega arith) (zero-in e)) (omega (arith, few-left on)) (omega (arith, few-left on)))

@@ -37,10 +37,10 @@ module _ {s : Sides} {adj : ℕ → ℕ → Bool} {S G : VertexSet} {r q : Reach
       let paths = ap (λ (l : List ℕ × ℕ). l .0) (lengthened-alike (e .flat)) in
       λ i. length (removed i) ∷ (removed i ++ (cond (eqb (length (removed i)) 0) [] (cond (eqb (length (removed i)) 1) (tree-same i) (e .count i ∷ paths i)) ++ (length (side i) ∷ side i)))
 
-  module _ (d : AlikeTable s adj adj) {full full′ : VertexSet} (hf : AlikeSet s full full′) where
+  module _ (d : AlikeTable s adj adj) {full full′ : VertexSet} (hf : AlikeSet s full full′) (all : (w : ℕ) → w < s .n → full w ≡ true) where
     cut-same : {c k : Cut} → AlikeCut s c k → cutCertificate (s .a) r adj full c ≡ cutCertificate (s .b) q adj full′ k
     cut-same c =
-        let e = ears-alike d hf in
+        let e = ears-alike d hf all in
         let without = numbers-same (record { flat = end; count = refl; cutBy = no-cut }) c in
         let with-ears = numbers-same e (known-choice (AlikeCut s) (cut-alike (e .cutBy)) (λ z. e .cutBy) (λ z. c)) in
         λ i. cond (ltb (count-alike (c .removed) i) 2) (without i) (with-ears i)
@@ -63,11 +63,14 @@ module _ {s : Sides} {adj : ℕ → ℕ → Bool} {S G : VertexSet} {r q : Reach
 full-alike : {s : Sides} → AlikeSet s (fullSet (s .a) (s .n)) (fullSet (s .b) (s .n))
 full-alike {s} = set-alike (vertices-alike (below (s .n)) (in-below (s .n)))
 
+full-all : (s : Sides) (w : ℕ) → w < s .n → fullSet (s .a) (s .n) w ≡ true
+full-all s w i = on-all (s .a) emptySet (below (s .n)) w (omega arith) (below-in (s .n) w i)
+
 sides-same : (s : Sides) {adj : ℕ → ℕ → Bool} → AlikeTable s adj adj
     → (isCut (s .a) (begin (s .a) adj .cutBy) ≡ false → AlikeState s (build (s .a) adj (fullSet (s .a) (s .n)) (begin (s .a) adj)) (build (s .b) adj (fullSet (s .b) (s .n)) (begin (s .b) adj)))
     → certificateNumbers (s .a) (s .n) adj ≡ certificateNumbers (s .b) (s .n) adj
 unfolding certificateNumbers
-sides-same s d builds = certificate-same (explore-alike d (single-alike zero-alike) empty-alike empty-alike) d full-alike builds
+sides-same s d builds = certificate-same (explore-alike d (single-alike zero-alike) empty-alike empty-alike) d full-alike (full-all s) builds
 
 pub vertices-do-not-matter : (a b : Bounds) (n : ℕ) (adj : ℕ → ℕ → Bool) → a .numbers ≡ b .numbers → a .steps ≡ b .steps → 0 < n → n ≤ a .vertices → n ≤ b .vertices
     → ((u v : ℕ) → adj u v ≡ true → (u < n) × (v < n)) → certificateNumbers a n adj ≡ certificateNumbers b n adj
@@ -86,7 +89,7 @@ module _ (n : ℕ) (adj : ℕ → ℕ → Bool) (some : 0 < n) (low : (u v : ℕ
       let h = first-alike (begin-alike d) in
       let few = few-left d full-alike (h .built) in
       let fewer = few-left d full-alike (h .branch) in
-      sides-same s d (λ u. steps-end d full-alike (λ w i. on-all (s .a) emptySet (below n) w i (below-in n w i)) k l h (begin-ongoing room d u) (omega (arith, few, fewer)) (omega (arith, few, fewer)))
+      sides-same s d (λ u. steps-end d full-alike (full-all s) k l h (begin-ongoing room d u) (omega (arith, few, fewer)) (omega (arith, few, fewer)))
 
   pub steps-do-not-matter : (a b : Bounds) → a .numbers ≡ b .numbers → n + 2 ≤ a .numbers → 2 * n < a .steps → 2 * n < b .steps → n ≤ a .vertices → n ≤ b .vertices → certificateNumbers a n adj ≡ certificateNumbers b n adj
   steps-do-not-matter a b numbers room more most low-a low-b =

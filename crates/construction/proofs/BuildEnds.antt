@@ -14,12 +14,12 @@ use Rattle.connectivity.proofs.Lists.{bool?, clash, in-append, in-left, in-righ
 use Rattle.construction.specs.Sets.{lastOf, placeOf, reversed}
 use Rattle.construction.specs.Search.{back}
 use Rattle.construction.specs.Steps.{segment, turned}
-use Rattle.construction.specs.Construction.{Bounds, VertexSet, Reach, Cut, Found, Begun, State, broken, stopped, cut, noCut, emptySet, bare, minus, empty, single, count, least, nextAfter, cycle, marked, linkIn, addLink, sorted, threePaths, fourOf, startOn, across, thirdPath, around, begin, firstState, inserted, pair, setOf, addPath, putIn, extended, reroute, offLink, upTo, linkEnds, linkStep, besidePlace, outTaken, detour, outStep, innerPlace, step, steps, route, isCut, explore}
+use Rattle.construction.specs.Construction.{Bounds, VertexSet, Reach, Cut, Found, Begun, State, broken, stopped, cut, noCut, emptySet, bare, minus, empty, single, count, least, nextAfter, cycle, marked, linkIn, addLink, sorted, threePaths, fourOf, startOn, across, thirdPath, around, begin, firstState, inserted, pair, setOf, addPath, putIn, extended, reroute, offLink, upTo, linkEnds, linkStep, besidePlace, outTaken, near, detour, outStep, innerPlace, step, steps, route, isCut, explore}
 use Rattle.construction.proofs.SetLaws.{rev-same, added-room, last-snoc}
 use Rattle.construction.proofs.Places.{place-in, take-place, segment-place}
 use Rattle.construction.proofs.Finding.{first-at, place-is, place-none, place-within, up-to-first}
 use Rattle.construction.proofs.StepLaws.{take-in}
-use Rattle.construction.proofs.Alike.{Sides, off-one, AlikeNumber, AlikeList, zero-alike, single-alike, least-alike, after-alike, bare-alike, marked-alike, end, AlikeSet, AlikeTable, minus-alike, inserted-alike, pair-alike, all-alike, set-alike, at-alike, last-alike, segment-alike, known-choice}
+use Rattle.construction.proofs.Alike.{Sides, off-one, near-alike, AlikeNumber, AlikeList, zero-alike, single-alike, least-alike, after-alike, bare-alike, marked-alike, end, AlikeSet, AlikeTable, minus-alike, inserted-alike, pair-alike, all-alike, set-alike, at-alike, last-alike, segment-alike, known-choice}
 use Rattle.construction.proofs.AlikeSearch.{both, nothing-left, and-on, minus-is, explore-alike, rest, last-rest, last-seed, answered-alike, uncut, found-path}
 use Rattle.construction.proofs.AlikeEars.{on-single, cycle-alike, on-inserted, inserted-keep, pair-is, all-keep, on-all, detour-alike, detour-grows, left, fewer-left, no-more-left}
 use Rattle.construction.proofs.AlikeStart.{in-set, third-alike, across-alike, four-alike, paths-alike}
@@ -254,17 +254,19 @@ module _ {s : Sides} {adj : ℕ → ℕ → Bool} (d : AlikeTable s adj adj) {fu
       out-kept = by-test (Kept (open-ones x)) (empty (s .a) (minus full (x .built))) (stopped x noCut) (outTaken (s .a) adj x way) (λ e. inl refl) (λ e. by-test (Kept (open-ones x)) (isCut (s .a) (way .cutBy)) (stopped x (way .cutBy)) _ (λ u. inl refl) longer)
         where
           way : Found
-          way = detour (s .a) adj full (x .built)
+          way = detour (s .a) adj (near (s .a) adj (x .built)) (x .built)
 
           place : ℕ
           place = besidePlace (s .a) adj (lastOf (way .path)) (getD (way .path) 0 0) (x .flat)
 
           longer : isCut (s .a) (way .cutBy) ≡ false → Kept (open-ones x) (cond (ltb place (length (x .flat))) (reroute (s .a) x (way .path) place) (extended (s .a) x (way .path) (length (x .flat))))
           longer u =
-              let new = detour-grows d hf (h .built) (o .some) (o .some-built) u in
+              let hn = near-alike d (h .built) in
+              let r = detour-grows d hn (h .built) (o .some) (o .some-built) u in
+              let new : minus full (x .built) (r .0) ≡ true = and-on (all (r .0) (r .2)) (r .3) in
               by-test (Kept (open-ones x)) (ltb place (length (x .flat))) (reroute (s .a) x (way .path) place) (extended (s .a) x (way .path) (length (x .flat)))
-              (λ e. reroute-kept (detour-alike d hf (h .built) .path) place (ltb-true place (length (x .flat)) e) (new .0) (new .1) (new .2))
-              (λ e. new-vertex (detour-alike d hf (h .built) .path) (length (x .flat)) (omega arith) (λ w j. quiet w (take-in w (length (x .flat)) (x .flat) j)) (new .0) (new .1) (new .2))
+              (λ e. reroute-kept (detour-alike d hn (h .built) .path) place (ltb-true place (length (x .flat)) e) (r .0) (r .1) new)
+              (λ e. new-vertex (detour-alike d hn (h .built) .path) (length (x .flat)) (omega arith) (λ w j. quiet w (take-in w (length (x .flat)) (x .flat) j)) (r .0) (r .1) new)
 
     -- ONE STEP
     abbrev at-inner : ℕ

@@ -8,7 +8,7 @@ use native.Mathlib.Omega.{arith}
 use native.Mathlib.Decide.{ℕ-discrete}
 use lib.Dec.{ltb}
 use lib.ListN.{length}
-use borrow.Author.Tests.{ltb-true, ltb-false}
+use borrow.Author.Tests.{lt-ltb, ltb-true, ltb-false}
 use Rattle.vertexset.specs.Set.{has, emptySet, count, none, capacity}
 use Rattle.vertexset.specs.declared.VertexSet.{VertexSet}
 use Rattle.graph.specs.Rows.{rowOf, adjacentIn, rowsGraph}
@@ -20,10 +20,11 @@ use Rattle.connectivity.proofs.Paths.{end-or-inner}
 use Rattle.connectivity.proofs.Edges.{edge-high, edge-differ}
 use Rattle.construction.specs.Sets.{minus, common, single, members, least, empty}
 use Rattle.construction.specs.Search.{Reach, explore, isFound, route, reached}
-use Rattle.construction.specs.Ears.{Cut, cut, noCut, isCut, Found, found, failed, answered, wayOut, backFrom, detour, cycle}
+use Rattle.construction.specs.Ears.{Cut, cut, noCut, isCut, Found, found, failed, answered, near, wayOut, backFrom, detour, cycle}
 use Rattle.construction.specs.Certificate.{fullSet}
 use Rattle.construction.proofs.Basics.{Drawn, Sized, On, IsCut, Asked, Met, Shut}
-use Rattle.construction.proofs.SetLaws.{sized-empty, sized-minus, sized-single, sized-row, sized-all, on-low, minus-on, on-minus, common-on, on-common, empty-on, single-on, on-single, full-on, on-full, members-in, in-members, members-nodup, members-count, least-on, least-first, least-none, empty-some, not-empty, row-on, on-row}
+use Rattle.construction.proofs.SetLaws.{sized-empty, sized-minus, sized-single, sized-row, sized-all, on-low, minus-on, on-minus, common-on, on-common, empty-on, single-on, on-single, full-on, members-in, in-members, members-nodup, members-count, least-on, least-first, least-none, empty-some, not-empty, row-on, on-row}
+use Rattle.construction.proofs.Near.{sized-near, near-on, on-near}
 use Rattle.construction.proofs.Searching.{explored}
 
 -- at most one vertex cuts
@@ -45,10 +46,10 @@ pub record OutAndBack (rows : List ℕ) (n : ℕ) (set : VertexSet) (f : Found) 
   pub same : f .path ≡ rev (vertices (link x q y))
 
 abbrev pub Detoured : List ℕ → ℕ → VertexSet → Type 0
-Detoured rows n set = OutAndBack rows n set (detour rows (fullSet n) set)
+Detoured rows n set = OutAndBack rows n set (detour rows (near rows set) set)
 
 abbrev pub DetourCut : List ℕ → ℕ → VertexSet → Type 0
-DetourCut rows n set = OneCut rows n (detour rows (fullSet n) set .cutBy)
+DetourCut rows n set = OneCut rows n (detour rows (near rows set) set .cutBy)
 
 abbrev pub DetourLaw : List ℕ → ℕ → VertexSet → Type 0
 DetourLaw rows n set = Detoured rows n set ⊎ DetourCut rows n set
@@ -144,37 +145,53 @@ empty-members = fewer (members emptySet) [] (members-nodup emptySet) (λ w h. em
 off-false : (s : VertexSet) (x : ℕ) → ¬ On s x → has (s .words) x ≡ false
 off-false s x h = ⊎-elim (λ e. absurd (h e)) (λ e. e) (bool? (has (s .words) x))
 
--- the first listed vertex with a neighbour in the set, and that neighbour; or none has one
-abbrev Way : List ℕ → VertexSet → List ℕ → ℕ × ℕ → Type 0
-Way rows set l e =
-    ((ltb (e .0) capacity ≡ true) × On set (e .0) × In (e .1) l × (adjacentIn rows (e .1) (e .0) ≡ true))
-    ⊎ ((ltb (e .0) capacity ≡ false) × ((c x : ℕ) → In c l → On set x → ¬ (adjacentIn rows c x ≡ true)))
+-- an edge from inside the set to outside; or no edge leaves it
+abbrev Way : List ℕ → VertexSet → ℕ × ℕ → Type 0
+Way rows set e =
+    ((ltb (e .0) capacity ≡ true) × On set (e .0) × (¬ On set (e .1)) × (adjacentIn rows (e .0) (e .1) ≡ true))
+    ⊎ ((ltb (e .0) capacity ≡ false) × ((x c : ℕ) → On set x → adjacentIn rows x c ≡ true → On set c))
 
-way-out : (rows : List ℕ) (n : ℕ) → Drawn rows n → (set : VertexSet) → Sized set → (l : List ℕ) → Way rows set l (wayOut rows set l)
-unfolding wayOut
-way-out rows n d set s [] = inr (refl, λ c x h. absurd h)
-way-out rows n d set s (c ∷ l) = go (ltb (least both) capacity) refl (way-out rows n d set s l)
+way-out : (rows : List ℕ) (n : ℕ) → Drawn rows n → (set : VertexSet) → Sized set → Way rows set (wayOut rows (near rows set) set)
+way-out rows n d set s = go (ltb c capacity) refl
   where
+    out : VertexSet
+    out = minus (near rows set) set
+
+    sized-out : Sized out
+    sized-out = sized-minus (near rows set) set (sized-near rows (d .words) set) s
+
+    c : ℕ
+    c = least out
+
     both : VertexSet
     both = common (rowOf rows c) set
 
     row : Sized (rowOf rows c)
     row = sized-row rows c (d .words)
 
-    both-sized : Sized both
-    both-sized = sized-minus (rowOf rows c) (minus (rowOf rows c) set) row (sized-minus (rowOf rows c) set row s)
+    sized-both : Sized both
+    sized-both = sized-minus (rowOf rows c) (minus (rowOf rows c) set) row (sized-minus (rowOf rows c) set row s)
 
-    here : ltb (least both) capacity ≡ false → ((z x : ℕ) → In z l → On set x → ¬ (adjacentIn rows z x ≡ true)) → (z x : ℕ) → In z (c ∷ l) → On set x → ¬ (adjacentIn rows z x ≡ true)
-    here e f z x (inl i) h k = least-none both both-sized e x (on-common (rowOf rows c) set row s x (on-row rows c x (rw i at k)) h)
-    here e f z x (inr i) h k = f z x i h k
+    -- c is outside, next to v
+    found-way : ¬ On set c → (v : ℕ) → On set v → adjacentIn rows v c ≡ true → Way rows set (least both, c)
+    found-way hc v h k =
+        let e = least-first both sized-both v (on-common (rowOf rows c) set row s v (on-row rows c v (d .simple .symmetric v c k)) h) .1 in
+        let r = common-on (rowOf rows c) set row s (least both) (least-on both sized-both e) in
+        inl (e, r .1, hc, d .simple .symmetric c (least both) (row-on rows c (least both) (r .0)))
 
-    more : ltb (least both) capacity ≡ false → Way rows set l (wayOut rows set l) → Way rows set (c ∷ l) (wayOut rows set l)
-    more e (inl r) = inl (r .0, r .1, inr (r .2), r .3)
-    more e (inr r) = inr (r .0, here e (r .1))
+    -- past the rows there are no neighbours
+    no-way : ltb c capacity ≡ false → ltb (least both) capacity ≡ false
+    no-way e = ⊎-elim (λ k. absurd (clash (lt-ltb c capacity (low-capacity n c (d .low) (d .simple .low c (least both) (row-on rows c (least both) (common-on (rowOf rows c) set row s (least both) (least-on both sized-both k) .0))))) e)) (λ k. k) (bool? (ltb (least both) capacity))
 
-    go : (b : Bool) → ltb (least both) capacity ≡ b → Way rows set l (wayOut rows set l) → Way rows set (c ∷ l) (cond b (least both, c) (wayOut rows set l))
-    go true e w = let r = common-on (rowOf rows c) set row s (least both) (least-on both both-sized e) in inl (e, r .1, inl refl, row-on rows c (least both) (r .0))
-    go false e w = more e w
+    shut : ltb c capacity ≡ false → (x w : ℕ) → On set x → adjacentIn rows x w ≡ true → On set w
+    shut e x w h k = ⊎-elim (λ i. i) (λ i. absurd (least-none out sized-out e w (on-minus (near rows set) set (sized-near rows (d .words) set) s w (on-near rows set x w s h k) (λ j. clash j i)))) (bool? (has (set .words) w))
+
+    go : (b : Bool) → ltb c capacity ≡ b → Way rows set (least both, c)
+    go true e =
+        let r = minus-on (near rows set) set (sized-near rows (d .words) set) s c (least-on out sized-out e) in
+        let v = near-on rows set c (r .0) in
+        found-way (r .1) (v .0) (v .1) (v .2)
+    go false e = inr (no-way e, shut e)
 
 module _ (rows : List ℕ) (n : ℕ) (d : Drawn rows n) (set : VertexSet) (s : Sized set) (low : (w : ℕ) → On set w → w < n) where
   abbrev Answer : Found → Type 0
@@ -246,8 +263,8 @@ module _ (rows : List ℕ) (n : ℕ) (d : Drawn rows n) (set : VertexSet) (s : S
         separates t = shut-cut rows n (single c) goals (single x) asked t (λ w h. rw (single-on x w h) (low x hx)) (one-two (length (members (single x))) (single-members x)) c (on-single c (low-capacity n c (d .low) lc)) b (on-goal b hb ne) (low b hb)
 
   -- no edge leaves the set
-  closed-set : (a z : ℕ) → On set a → On (minus (fullSet n) set) z → ((c x : ℕ) → In c (members (minus (fullSet n) set)) → On set x → ¬ (adjacentIn rows c x ≡ true)) → OneCut rows n (cut emptySet set)
-  closed-set a z ha hz f = record {
+  closed-set : (a z : ℕ) → On set a → On (minus (fullSet n) set) z → ((x c : ℕ) → On set x → adjacentIn rows x c ≡ true → On set c) → OneCut rows n (cut emptySet set)
+  closed-set a z ha hz into = record {
     is = record {
       is-cut = ap not (not-empty set a s ha);
       removed-sized = sized-empty;
@@ -271,27 +288,20 @@ module _ (rows : List ℕ) (n : ℕ) (d : Drawn rows n) (set : VertexSet) (s : S
     one = omega (arith, empty-members);
   }
     where
-      out-sized : Sized (minus (fullSet n) set)
-      out-sized = sized-minus (fullSet n) set (full-sized n) s
-
-      into : (u v : ℕ) → On set u → Adj (rowsGraph n rows) u v → On set v
-      into u v h k = ⊎-elim (λ i. i) (λ i. absurd (f v u (in-members (minus (fullSet n) set) v out-sized (on-minus (fullSet n) set (full-sized n) s v (on-full n v (d .low) (edge-high (rowsGraph n rows) (d .simple) u v k)) (λ j. clash j i))) h (d .simple .symmetric u v k)))
-          (bool? (has (set .words) v))
-
       outside : On (fullSet n) z × (¬ On set z)
       outside = minus-on (fullSet n) set (full-sized n) s z hz
 
-  some-way : (a b : ℕ) → On set a → On set b → a ≢ b → (x c : ℕ) → On set x → In c (members (minus (fullSet n) set)) → adjacentIn rows c x ≡ true → Answer (answered (explore rows (single c) (minus set (single x)) (single x)) (single x) (x ∷ []))
-  some-way a b ha hb ne x c hx ic k = other (ℕ-discrete a x)
+  some-way : (a b : ℕ) → On set a → On set b → a ≢ b → (x c : ℕ) → On set x → ¬ On set c → adjacentIn rows x c ≡ true → Answer (answered (explore rows (single c) (minus set (single x)) (single x)) (single x) (x ∷ []))
+  some-way a b ha hb ne x c hx hc k = other (ℕ-discrete a x)
     where
-      hc : On (fullSet n) c × (¬ On set c)
-      hc = minus-on (fullSet n) set (full-sized n) s c (members-in (minus (fullSet n) set) c ic)
+      lc : c < n
+      lc = edge-high (rowsGraph n rows) (d .simple) x c k
 
       other : Dec (a ≡ x) → Answer (answered (explore rows (single c) (minus set (single x)) (single x)) (single x) (x ∷ []))
-      other (no i) = back x c hx (full-on n c (hc .0)) (hc .1) (d .simple .symmetric c x k) a ha i
-      other (yes i) = back x c hx (full-on n c (hc .0)) (hc .1) (d .simple .symmetric c x k) b hb (λ j. ne (i ∙ sym j))
+      other (no i) = back x c hx lc hc k a ha i
+      other (yes i) = back x c hx lc hc k b hb (λ j. ne (i ∙ sym j))
 
-  detoured : (a b : ℕ) → On set a → On set b → a ≢ b → (z : ℕ) → On (minus (fullSet n) set) z → (e : ℕ × ℕ) → Way rows set (members (minus (fullSet n) set)) e → Answer (backFrom rows set e)
+  detoured : (a b : ℕ) → On set a → On set b → a ≢ b → (z : ℕ) → On (minus (fullSet n) set) z → (e : ℕ × ℕ) → Way rows set e → Answer (backFrom rows set e)
   detoured a b ha hb ne z hz e w = ⊎-elim
       (λ h. subst (λ (f : Found). Answer f) (sym (ap turn (h .0))) (some-way a b ha hb ne (e .0) (e .1) (h .1) (h .2) (h .3)))
       (λ h. subst (λ (f : Found). Answer f) (sym (ap turn (h .0))) (inr (closed-set a z ha hz (h .1)))) w
@@ -304,7 +314,7 @@ pub detour-law : (rows : List ℕ) (n : ℕ) → Drawn rows n → (set : VertexS
 unfolding detour
 detour-law rows n d set s low a b ha hb ne some =
     let z = empty-some (minus (fullSet n) set) (sized-minus (fullSet n) set (full-sized n) s) some in
-    detoured rows n d set s low a b ha hb ne (z .0) (z .1) (wayOut rows set (members (minus (fullSet n) set))) (way-out rows n d set s (members (minus (fullSet n) set)))
+    detoured rows n d set s low a b ha hb ne (z .0) (z .1) (wayOut rows (near rows set) set) (way-out rows n d set s)
 
 module _ (rows : List ℕ) (n : ℕ) (d : Drawn rows n) where
   abbrev row : VertexSet

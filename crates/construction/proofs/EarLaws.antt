@@ -18,7 +18,7 @@ use Rattle.connectivity.proofs.Edges.{path-low}
 use Rattle.connectivity.proofs.FirstLinks.{reversed}
 use Rattle.connectivity.proofs.Completeness.{EarDecomposition, ear-fair, ear-grows, ears-size}
 use Rattle.construction.specs.Sets.{stop, minus, withAll, empty}
-use Rattle.construction.specs.Ears.{noCut, isCut, detour, cycle, pathSpace, addPath, Eared, eared, earsOn, ears}
+use Rattle.construction.specs.Ears.{noCut, isCut, near, detour, cycle, pathSpace, addPath, Eared, eared, earsOn, ears}
 use Rattle.construction.specs.Certificate.{fullSet}
 use Rattle.graph.specs.Rows.{rowsGraph}
 use Rattle.construction.proofs.Basics.{Drawn, Sized, On, flatten}
@@ -130,7 +130,7 @@ module _ (rows : List ℕ) (n : ℕ) (d : Drawn rows n) where
       long : (k l : ℕ) → 0 < k → l ≡ k → length (vertices (reversed (link (r .x) (r .q) (r .y)))) ≡ l + 2 → 3 ≤ length (vertices (reversed (link (r .x) (r .q) (r .y))))
       long k l h e i = omega arith
 
-  listed : (set : VertexSet) (r : Detoured rows n set) → detour rows (fullSet n) set .path ≡ vertices (reversed (link (r .x) (r .q) (r .y)))
+  listed : (set : VertexSet) (r : Detoured rows n set) → detour rows (near rows set) set .path ≡ vertices (reversed (link (r .x) (r .q) (r .y)))
   listed set r = r .same ∙ rev-vertices (link (r .x) (r .q) (r .y))
 
   detour-of : (B flat : List ℕ) (set : VertexSet) → Stage B flat set → empty (minus (fullSet n) set) ≡ false → DetourLaw rows n set
@@ -145,15 +145,15 @@ module _ (rows : List ℕ) (n : ℕ) (d : Drawn rows n) where
   -- one turn: every vertex is in; or a detour cuts, or is the next ear
   module _ (B flat : List ℕ) (k : ℕ) (set : VertexSet) (st : Stage B flat set) (next : Eared) (go-on : Detoured rows n set → Answer B flat k next) where
     abbrev ended : Eared
-    ended = eared flat k (detour rows (fullSet n) set .cutBy)
+    ended = eared flat k (detour rows (near rows set) set .cutBy)
 
-    cut-or-ear : DetourLaw rows n set → Answer B flat k (cond (isCut (detour rows (fullSet n) set .cutBy)) ended next)
+    cut-or-ear : DetourLaw rows n set → Answer B flat k (cond (isCut (detour rows (near rows set) set .cutBy)) ended next)
     cut-or-ear w = ⊎-elim
         (λ r. subst (λ (b : Bool). Answer B flat k (cond b ended next)) (sym (r .not-cut)) (go-on r))
         (λ c. subst (λ (b : Bool). Answer B flat k (cond b ended next)) (sym (c .is .is-cut)) (inr c)) w
 
     abbrev turned : Eared
-    turned = cond (isCut (detour rows (fullSet n) set .cutBy)) ended next
+    turned = cond (isCut (detour rows (near rows set) set .cutBy)) ended next
 
     turn : Answer B flat k (cond (empty (minus (fullSet n) set)) (eared flat k noCut) turned)
     turn = ⊎-elim
@@ -166,7 +166,7 @@ module _ (rows : List ℕ) (n : ℕ) (d : Drawn rows n) where
             (λ i. absurd (empty-none (minus (fullSet n) set) (sized-minus (fullSet n) set (full-sized n) (st .sized)) e z (on-minus (fullSet n) set (full-sized n) (st .sized) z (on-full n z (d .low) h) (λ j. clash j i)))) (bool? (has (set .words) z))
 
   abbrev listing : VertexSet → List ℕ
-  listing set = detour rows (fullSet n) set .path
+  listing set = detour rows (near rows set) set .path
 
   run : (f : ℕ) (B flat : List ℕ) (k : ℕ) (set : VertexSet) → Stage B flat set → n ≤ length B + f → Answer B flat k (earsOn rows (fullSet n) f flat k set)
   unfolding earsOn

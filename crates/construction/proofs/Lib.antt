@@ -1,6 +1,7 @@
 pub mod Basics
 pub mod SetLaws
 pub mod Places
+pub mod Near
 pub mod Visits
 pub mod SpanningTree
 pub mod Searching

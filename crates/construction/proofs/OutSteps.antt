@@ -22,7 +22,7 @@ use Rattle.connectivity.proofs.Recorded.{Extends, recorded-path, branch-beside}
 use Rattle.connectivity.proofs.Progress.{told}
 use Rattle.connectivity.proofs.FirstLinks.{reversed}
 use Rattle.construction.specs.Sets.{stop, minus, empty, lastOf}
-use Rattle.construction.specs.Ears.{noCut, Found, detour}
+use Rattle.construction.specs.Ears.{noCut, Found, near, detour}
 use Rattle.construction.specs.Steps.{State, stopped, extended, pairPlace, besidePlace, turned, reroute, outTaken, outStep}
 use Rattle.construction.specs.Certificate.{fullSet}
 use Rattle.construction.proofs.Basics.{Drawn, On, flatten}
@@ -205,13 +205,13 @@ module _ (rows : List ℕ) (n : ℕ) (dr : Drawn rows n) (few : edgeCount (rowsG
   abbrev takenBy : Found → Bool → State
   takenBy f b = cond b (stopped st (f .cutBy)) (placedAt (f .path) (besidePlace rows (lastOf (f .path)) (getD (f .path) 0 0) (st .flat)))
 
-  detoured : OutAndBack rows n (st .built) (detour rows (fullSet n) (st .built)) → Step (outTaken rows st (detour rows (fullSet n) (st .built)))
-  detoured d = subst (λ (b : Bool). Step (takenBy (detour rows (fullSet n) (st .built)) b)) (sym (d .not-cut)) (placed-path (d .x) (d .q) (d .y) (d .x-on) (d .y-on) (d .is-path) (d .some) (d .new) (detour rows (fullSet n) (st .built) .path) (d .same))
+  detoured : OutAndBack rows n (st .built) (detour rows (near rows (st .built)) (st .built)) → Step (outTaken rows st (detour rows (near rows (st .built)) (st .built)))
+  detoured d = subst (λ (b : Bool). Step (takenBy (detour rows (near rows (st .built)) (st .built)) b)) (sym (d .not-cut)) (placed-path (d .x) (d .q) (d .y) (d .x-on) (d .y-on) (d .is-path) (d .some) (d .new) (detour rows (near rows (st .built)) (st .built) .path) (d .same))
 
-  detour-cuts : OneCut rows n (detour rows (fullSet n) (st .built) .cutBy) → Step (outTaken rows st (detour rows (fullSet n) (st .built)))
-  detour-cuts c = subst (λ (b : Bool). Step (takenBy (detour rows (fullSet n) (st .built)) b)) (sym (c .is .is-cut)) (cuts refl (c .is))
+  detour-cuts : OneCut rows n (detour rows (near rows (st .built)) (st .built) .cutBy) → Step (outTaken rows st (detour rows (near rows (st .built)) (st .built)))
+  detour-cuts c = subst (λ (b : Bool). Step (takenBy (detour rows (near rows (st .built)) (st .built)) b)) (sym (c .is .is-cut)) (cuts refl (c .is))
 
-  out-taken : empty (minus (fullSet n) (st .built)) ≡ false → Step (outTaken rows st (detour rows (fullSet n) (st .built)))
+  out-taken : empty (minus (fullSet n) (st .built)) ≡ false → Step (outTaken rows st (detour rows (near rows (st .built)) (st .built)))
   out-taken e =
       let a = branch-beside (Adj (rowsGraph n rows)) (newestFirst ps) (go .recorded) [] (omega arith) in
       let b = branch-beside (Adj (rowsGraph n rows)) (newestFirst ps) (go .recorded) (a .0 ∷ []) (omega arith) in
@@ -235,5 +235,5 @@ module _ (rows : List ℕ) (n : ℕ) (dr : Drawn rows n) (few : edgeCount (rowsG
   -- STEP (b)
   pub out-step : Step (outStep rows (fullSet n) st)
   unfolding outStep
-  out-step = ⊎-elim (λ e. subst Step (ap (λ (b : Bool). cond b (stopped st noCut) (outTaken rows st (detour rows (fullSet n) (st .built)))) (sym e)) (all-built e)) (λ e. subst Step (ap (λ (b : Bool). cond b (stopped st noCut) (outTaken rows st (detour rows (fullSet n) (st .built)))) (sym e)) (out-taken e))
+  out-step = ⊎-elim (λ e. subst Step (ap (λ (b : Bool). cond b (stopped st noCut) (outTaken rows st (detour rows (near rows (st .built)) (st .built)))) (sym e)) (all-built e)) (λ e. subst Step (ap (λ (b : Bool). cond b (stopped st noCut) (outTaken rows st (detour rows (near rows (st .built)) (st .built)))) (sym e)) (out-taken e))
       (bool? (empty (minus (fullSet n) (st .built))))

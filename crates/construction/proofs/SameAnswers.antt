@@ -1,7 +1,7 @@
 -- The search, the ears and the start give the same answers on rows and on the adjacency test that they stand for.
 use Prim.Native.Nat.{ℕ, zero, suc, _+_}
-use mathlib.Core.Path.{_≡_, refl, _∙_}
-use mathlib.Core.Bool.{Bool, cond, not}
+use mathlib.Core.Path.{_≡_, refl}
+use mathlib.Core.Bool.{Bool, not}
 use mathlib.Core.List.{List, [], _∷_, _++_}
 use lib.Dec.{ltb}
 use lib.ListN.{length, getD, replicate}
@@ -13,7 +13,7 @@ use Rattle.construction.specs.Start.{Begun, broken, addLink, sorted, fou
 use Rattle.construction.specs.Steps.{State}
 use Rattle.construction.specs.Construction as plain
 use Rattle.construction.specs.Construction.{codeBounds}
-use Rattle.construction.proofs.Standing.{Stands, Draws, choice, row-stands, empty-stands, plus-stands, minus-stands, common-stands, inserted-stands, single-stands, pair-stands, all-stands, set-stands, members-same, count-same, least-same, after-same, empty-same, marked-drawn}
+use Rattle.construction.proofs.Standing.{Stands, Draws, choice, row-stands, empty-stands, plus-stands, minus-stands, common-stands, inserted-stands, single-stands, pair-stands, all-stands, set-stands, near-stands, members-same, count-same, least-same, after-same, empty-same, marked-drawn}
 use Rattle.vertexset.specs.Set.{capacity}
 
 -- ---- answers that are the same but for the words
@@ -96,12 +96,11 @@ module _ {rows : List ℕ} {adj : ℕ → ℕ → Bool} (d : Draws rows adj) whe
 
   -- ---- ears
 
-  way-same : {set : VertexSet} {s : ℕ → Bool} → Stands set s → (l : List ℕ) → wayOut rows set l ≡ plain.wayOut codeBounds adj s l
-  unfolding wayOut plain.wayOut
-  way-same h [] = refl
-  way-same h (c ∷ l) =
-      let inside = least-same (common-stands (row-stands d {u = c} refl) h) in
-      λ i. cond (ltb (inside i) capacity) (inside i, c) (way-same h l i)
+  way-same : {n set : VertexSet} {m s : ℕ → Bool} → Stands n m → Stands set s → wayOut rows n set ≡ plain.wayOut codeBounds adj m s
+  way-same hn hs =
+      let outside = least-same (minus-stands hn hs) in
+      let inside = least-same (common-stands (row-stands d outside) hs) in
+      λ i. (inside i, outside i)
 
   back-same : {set : VertexSet} {s : ℕ → Bool} {e f : ℕ × ℕ} → Stands set s → e ≡ f → SameFound (backFrom rows set e) (plain.backFrom codeBounds adj s f)
   back-same h e =
@@ -110,9 +109,9 @@ module _ {rows : List ℕ} {adj : ℕ → ℕ → Bool} (d : Draws rows adj) whe
       (answered-same (explore-same (single-stands (λ i. e i .1)) (minus-stands h x) x) x (λ i. e i .0 ∷ []))
       (record { path = refl; cutBy = record { removed = empty-stands; side = h } })
 
-  pub detour-same : {full set : VertexSet} {f s : ℕ → Bool} → Stands full f → Stands set s → SameFound (detour rows full set) (plain.detour codeBounds adj f s)
+  pub detour-same : {n set : VertexSet} {m s : ℕ → Bool} → Stands n m → Stands set s → SameFound (detour rows n set) (plain.detour codeBounds adj m s)
   unfolding detour plain.detour
-  detour-same {s = s} hf hs = back-same hs (way-same hs _ ∙ (λ i. plain.wayOut codeBounds adj s (members-same (minus-stands hf hs) i)))
+  detour-same hn hs = back-same hs (way-same hn hs)
 
   cycle-same : SameFound (cycle rows) (plain.cycle codeBounds adj)
   unfolding cycle plain.cycle
@@ -129,7 +128,7 @@ module _ {rows : List ℕ} {adj : ℕ → ℕ → Bool} (d : Draws rows adj) whe
   unfolding earsOn plain.earsOn
   ears-on zero k hf e hs = record { flat = e; count = refl; cutBy = no-cut }
   ears-on (suc f) k hf e hs =
-      let way = detour-same hf hs in
+      let way = detour-same (near-stands d hs) hs in
       choice SameEared (empty-same (minus-stands hf hs))
       (record { flat = e; count = refl; cutBy = no-cut })
       (choice SameEared (cut-same (way .cutBy))

@@ -108,7 +108,7 @@ has-minus a b h k x = laws.has-minus (a .words) (b .words) (h .size ∙ sym (k .
 pub plus-on : (a b : VertexSet) → Sized a → Sized b → (x : ℕ) → On (plus a b) x → On a x ⊎ On b x
 plus-on a b h k x e = or-true _ _ (sym (has-plus a b h k x) ∙ e)
 
-or-on : (p q : Bool) → (p ≡ true) ⊎ (q ≡ true) → p || q ≡ true
+pub or-on : (p q : Bool) → (p ≡ true) ⊎ (q ≡ true) → p || q ≡ true
 or-on true q e = refl
 or-on false q (inl e) = absurd (clash e refl)
 or-on false q (inr e) = e

@@ -20,11 +20,13 @@ use Rattle.connectivity.specs.Lists.{any, below}
 use Rattle.connectivity.specs.Graph.{isPair}
 use Rattle.connectivity.proofs.Lists.{bool?, or-true, any-true, true-any, below-in, and-true}
 use Rattle.construction.specs.Sets.{plus, minus, common, single, pair, withAll, setOf, membersFrom, members, least, empty}
+use Rattle.construction.specs.Ears.{near}
 use Rattle.construction.specs.Start.{marked, nextAfter}
 use Rattle.construction.specs.Construction as plain
 use Rattle.construction.specs.Construction.{codeBounds}
 use Rattle.construction.proofs.Basics.{Sized, On}
 use Rattle.construction.proofs.SetLaws.{sized-empty, sized-inserted, sized-plus, sized-minus, sized-row, has-plus, has-minus, on-low, members-count, empty-none, empty-some, zeros-at}
+use Rattle.construction.proofs.Near.{same-test, sized-near, near-on, on-near}
 use Rattle.construction.proofs.Table.{marked-size, marked-words}
 
 -- the members of the set are the numbers of which p holds
@@ -107,6 +109,25 @@ all-stands {s} {p} h {l} e = subst (λ (m : List ℕ). Stands (withAll s l) (pla
 
 pub set-stands : {l m : List ℕ} → l ≡ m → Stands (setOf l) (plain.setOf codeBounds m)
 set-stands e = all-stands empty-stands e
+
+-- ---- neighbours
+
+pub near-stands : {rows : List ℕ} {adj : ℕ → ℕ → Bool} → Draws rows adj → {s : VertexSet} {p : ℕ → Bool} → Stands s p → Stands (near rows s) (plain.near codeBounds adj p)
+near-stands {rows} d {s} h = record {
+  sized = sized-near rows (d .words) s;
+  same = fun-ext (λ w. same-test _ _ (into w) (back w)) ∙ (λ i. plain.near codeBounds (d .same i) (h .same i));
+}
+  where
+    into : (w : ℕ) → On (near rows s) w → plain.near codeBounds (adjacentIn rows) (has (s .words)) w ≡ true
+    into w e =
+        let r = near-on rows s w e in
+        true-any (λ v. has (s .words) v && adjacentIn rows v w) (below capacity) (r .0) (below-in capacity (r .0) (on-low s (r .0) (h .sized) (r .1))) (λ i. r .1 i && r .2 i)
+
+    back : (w : ℕ) → plain.near codeBounds (adjacentIn rows) (has (s .words)) w ≡ true → On (near rows s) w
+    back w e =
+        let r = any-true (λ v. has (s .words) v && adjacentIn rows v w) (below capacity) e in
+        let k = and-true (has (s .words) (r .0)) (adjacentIn rows (r .0) w) (r .2) in
+        on-near rows s (r .0) w (h .sized) (k .0) (k .1)
 
 -- ---- what is asked of sets
 

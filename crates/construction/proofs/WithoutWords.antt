@@ -24,7 +24,7 @@ use Rattle.construction.specs.Certificate.{pairsFrom}
 use Rattle.construction.specs.Construction as plain
 use Rattle.construction.specs.Construction.{codeBounds, certificateNumbers}
 use Rattle.construction.proofs.PlanLaws.{plan-drawn}
-use Rattle.construction.proofs.Standing.{Stands, Draws, choice, row-stands, empty-stands, minus-stands, inserted-stands, single-stands, pair-stands, all-stands, set-stands, members-from, members-same, count-same, empty-same, marked-drawn}
+use Rattle.construction.proofs.Standing.{Stands, Draws, choice, row-stands, empty-stands, minus-stands, inserted-stands, single-stands, pair-stands, all-stands, set-stands, near-stands, members-from, members-same, count-same, empty-same, marked-drawn}
 use Rattle.construction.proofs.SameAnswers.{SameReach, SameCut, SameFound, SameEared, SameBegun, SameState, no-cut, cut-same, add-same, answered-same, explore-same, detour-same, ears-same, begin-same}
 
 -- ---- further paths
@@ -87,7 +87,7 @@ module _ {rows : List ℕ} {adj : ℕ → ℕ → Bool} (d : Draws rows adj) whe
   module _ {full : VertexSet} {p : ℕ → Bool} (hf : Stands full p) where
     out-step-same : {s : State} {t : plain.State} → SameState s t → SameState (outStep rows full s) (plain.outStep codeBounds adj p t)
     unfolding outStep plain.outStep
-    out-step-same h = choice SameState (empty-same (minus-stands hf (h .built))) (stopped-same h no-cut) (out-taken-same h (detour-same d hf (h .built)))
+    out-step-same h = choice SameState (empty-same (minus-stands hf (h .built))) (stopped-same h no-cut) (out-taken-same h (detour-same d (near-stands d (h .built)) (h .built)))
 
     step-same : {s : State} {t : plain.State} → SameState s t → SameState (step rows full s) (plain.step codeBounds adj p t)
     unfolding step plain.step

@@ -204,11 +204,13 @@ module _ (b : Bounds) where
   abbrev pub answered : Reach → VertexSet → List ℕ → Found
   answered r removed more = cond (isFound r) (found (route r ++ more)) (failed removed (reached r removed))
 
-  -- the first of the listed vertices with a neighbour in the set, and the least such neighbour: (inside, outside)
-  unfoldable pub wayOut : (ℕ → ℕ → Bool) → VertexSet → List ℕ → ℕ × ℕ
-  wayOut adj set [] = (capacity, capacity)
-  wayOut adj set (c ∷ l) =
-      cond (ltb (least (common (adj c) set)) capacity) (least (common (adj c) set), c) (wayOut adj set l)
+  -- the neighbours of the members of a set
+  abbrev pub near : (ℕ → ℕ → Bool) → VertexSet → VertexSet
+  near adj set = λ w. any (λ v. set v && adj v w) (below capacity)
+
+  -- the least vertex outside a set that is near it, and its least neighbour inside: (inside, outside); capacity where there is none
+  abbrev pub wayOut : (ℕ → ℕ → Bool) → VertexSet → VertexSet → ℕ × ℕ
+  wayOut adj near set = (least (common (adj (least (minus near set))) set), least (minus near set))
 
   -- OUT AND BACK: an edge from x in the set to c outside, and from c back to another vertex of the set; listed from there: .., c, x
   abbrev pub backFrom : (ℕ → ℕ → Bool) → VertexSet → ℕ × ℕ → Found
@@ -218,7 +220,7 @@ module _ (b : Bounds) where
       (failed emptySet set)
 
   unfoldable pub detour : (ℕ → ℕ → Bool) → VertexSet → VertexSet → Found
-  detour adj full set = backFrom adj set (wayOut adj set (members (minus full set)))
+  detour adj near set = backFrom adj set (wayOut adj near set)
 
   -- A CYCLE THROUGH VERTEX 0, listed from one neighbour to the least one, and then 0
   unfoldable pub cycle : (ℕ → ℕ → Bool) → Found
@@ -240,9 +242,9 @@ module _ (b : Bounds) where
   earsOn adj full (suc f) flat k set =
       cond (empty (minus full set))
       (eared flat k noCut)
-      (cond (isCut (detour adj full set .cutBy))
-      (eared flat k (detour adj full set .cutBy))
-      (earsOn adj full f (addPath flat (detour adj full set .path)) (k + 1) (withAll set (detour adj full set .path))))
+      (cond (isCut (detour adj (near adj set) set .cutBy))
+      (eared flat k (detour adj (near adj set) set .cutBy))
+      (earsOn adj full f (addPath flat (detour adj (near adj set) set .path)) (k + 1) (withAll set (detour adj (near adj set) set .path))))
 
   -- EARS
   unfoldable pub ears : (ℕ → ℕ → Bool) → VertexSet → Eared
@@ -359,7 +361,7 @@ module _ (b : Bounds) where
       (extended st (f .path) (length (st .flat))))
 
   unfoldable pub outStep : (ℕ → ℕ → Bool) → VertexSet → State → State
-  outStep adj full st = cond (empty (minus full (st .built))) (stopped st noCut) (outTaken adj st (detour adj full (st .built)))
+  outStep adj full st = cond (empty (minus full (st .built))) (stopped st noCut) (outTaken adj st (detour adj (near adj (st .built)) (st .built)))
 
   -- ONE STEP
   abbrev pub innerPlace : State → ℕ

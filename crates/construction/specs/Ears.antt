@@ -3,11 +3,12 @@ use Prim.Native.Nat.{ℕ, zero, suc, _+_, _*_}
 use mathlib.Core.Bool.{Bool, cond, not}
 use mathlib.Core.List.{List, [], _∷_, _++_}
 use lib.Dec.{ltb}
+use Rattle.record.specs.Read.{folded}
 use Rattle.vertexset.specs.Set.{emptySet, count, capacity}
 use Rattle.vertexset.specs.declared.VertexSet.{VertexSet}
 use Rattle.graph.specs.Limits.{maxEdges}
 use Rattle.graph.specs.Rows.{rowOf}
-use Rattle.construction.specs.Sets.{stop, minus, common, single, withAll, members, least, empty, added}
+use Rattle.construction.specs.Sets.{stop, plus, minus, common, single, withAll, members, least, empty, added}
 use Rattle.construction.specs.Search.{Reach, explore, isFound, route, reached}
 
 -- Removed vertices, and a side that no edge leaves but to them. Without a side nothing is cut.
@@ -39,11 +40,17 @@ failed removed side = record { path = []; cutBy = cut removed side }
 abbrev pub answered : Reach → VertexSet → List ℕ → Found
 answered r removed more = cond (isFound r) (found (route r ++ more)) (failed removed (reached r removed))
 
--- the first of the listed vertices with a neighbour in the set, and the least such neighbour: (inside, outside)
-unfoldable pub wayOut : List ℕ → VertexSet → List ℕ → ℕ × ℕ
-wayOut rows set [] = (capacity, capacity)
-wayOut rows set (c ∷ l) =
-    cond (ltb (least (common (rowOf rows c) set)) capacity) (least (common (rowOf rows c) set), c) (wayOut rows set l)
+-- the neighbours of the vertices of a list, beside others
+abbrev pub nearAll : List ℕ → VertexSet → List ℕ → VertexSet
+nearAll rows near l = folded (λ s v. plus s (rowOf rows v)) near l
+
+-- the neighbours of the members of a set
+unfoldable pub near : List ℕ → VertexSet → VertexSet
+near rows set = nearAll rows emptySet (members set)
+
+-- the least vertex outside a set that is near it, and its least neighbour inside: (inside, outside); capacity where there is none
+abbrev pub wayOut : List ℕ → VertexSet → VertexSet → ℕ × ℕ
+wayOut rows near set = (least (common (rowOf rows (least (minus near set))) set), least (minus near set))
 
 -- OUT AND BACK: an edge from x in the set to c outside, and from c back to another vertex of the set; listed from there: .., c, x
 abbrev pub backFrom : List ℕ → VertexSet → ℕ × ℕ → Found
@@ -53,7 +60,7 @@ backFrom rows set e =
     (failed emptySet set)
 
 unfoldable pub detour : List ℕ → VertexSet → VertexSet → Found
-detour rows full set = backFrom rows set (wayOut rows set (members (minus full set)))
+detour rows near set = backFrom rows set (wayOut rows near set)
 
 -- A CYCLE THROUGH VERTEX 0, listed from one neighbour to the least one, and then 0
 unfoldable pub cycle : List ℕ → Found
@@ -84,9 +91,9 @@ earsOn rows full zero flat k set = eared flat k noCut
 earsOn rows full (suc f) flat k set =
     cond (empty (minus full set))
     (eared flat k noCut)
-    (cond (isCut (detour rows full set .cutBy))
-    (eared flat k (detour rows full set .cutBy))
-    (earsOn rows full f (addPath flat (detour rows full set .path)) (k + 1) (withAll set (detour rows full set .path))))
+    (cond (isCut (detour rows (near rows set) set .cutBy))
+    (eared flat k (detour rows (near rows set) set .cutBy))
+    (earsOn rows full f (addPath flat (detour rows (near rows set) set .path)) (k + 1) (withAll set (detour rows (near rows set) set .path))))
 
 -- EARS
 unfoldable pub ears : List ℕ → VertexSet → Eared

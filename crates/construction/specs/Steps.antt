@@ -11,7 +11,7 @@ use Rattle.graph.specs.Rows.{adjacentIn, rowOf, bareRows}
 use Rattle.connectivity.specs.Lists.{below}
 use Rattle.construction.specs.Sets.{minus, pair, withAll, setOf, membersFrom, empty, reversed, lastOf, placeOf}
 use Rattle.construction.specs.Search.{explore}
-use Rattle.construction.specs.Ears.{Cut, noCut, isCut, Found, answered, detour, pathSpace, addPath}
+use Rattle.construction.specs.Ears.{Cut, noCut, isCut, Found, answered, near, detour, pathSpace, addPath}
 use Rattle.construction.specs.Start.{Begun, marked}
 
 -- A build in the making: its whole paths, the oldest first, a stop before each; its branch vertices and all its vertices; the
@@ -92,7 +92,7 @@ outTaken rows st f =
     (extended st (f .path) (length (st .flat))))
 
 unfoldable pub outStep : List ℕ → VertexSet → State → State
-outStep rows full st = cond (empty (minus full (st .built))) (stopped st noCut) (outTaken rows st (detour rows full (st .built)))
+outStep rows full st = cond (empty (minus full (st .built))) (stopped st noCut) (outTaken rows st (detour rows (near rows (st .built)) (st .built)))
 
 -- ONE STEP
 abbrev pub innerPlace : State → ℕ

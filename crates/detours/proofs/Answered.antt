@@ -14,7 +14,7 @@ use Rattle.search.specs.Code.{pathOf, reachOf, searchSpace, leftIn, answerIn, n
 use Rattle.search.specs.declared.VertexList.{VertexList}
 use Rattle.search.specs.declared.Reach.{Reach}
 use Rattle.search.proofs.Lent.{answer-is, routed}
-use Rattle.construction.specs.Sets.{minus, single, least, members}
+use Rattle.construction.specs.Sets.{minus, single, least}
 use Rattle.construction.specs.Search as searching
 use Rattle.construction.specs.Search.{explore, route, isFound, reached}
 use Rattle.construction.specs.Ears as construction
@@ -149,18 +149,15 @@ module _ {A : Type 0} (told : searching.Reach → VertexSet → List ℕ → A) 
     back-none : capacity ≤ x → none ≡ backBy told none rows set e
     back-none h = rw (← inside, le-ltb x capacity h)
 
-  module _ (full set out : VertexSet) (x y : ℕ) (o : out ≡ minus full set)
-      (inside : x ≡ wayOut rows set (members out) .0) (outside : y ≡ wayOut rows set (members out) .1) where
-    detour-is : backBy told none rows set (wayOut rows set (members out)) ≡ detourBy told none rows full set
-    unfolding detourBy
-    detour-is = ap (λ (s : VertexSet). backBy told none rows set (wayOut rows set (members s))) o
-
+  module _ (n set : VertexSet) (x y : ℕ) (inside : x ≡ wayOut rows n set .0) (outside : y ≡ wayOut rows n set .1) where
     pub detour-found : (a b g : VertexSet) → x < capacity → a ≡ single y → b ≡ single x → g ≡ minus set b
-        → told (explore rows a g (single x)) (single x) (x ∷ []) ≡ detourBy told none rows full set
-    detour-found a b g h p q r = rw (p, r, q) (back-on set (wayOut rows set (members out)) x y inside outside h ∙ detour-is)
+        → told (explore rows a g (single x)) (single x) (x ∷ []) ≡ detourBy told none rows n set
+    unfolding detourBy
+    detour-found a b g h p q r = rw (p, r, q) (back-on set (wayOut rows n set) x y inside outside h)
 
-    pub detour-none : capacity ≤ x → none ≡ detourBy told none rows full set
-    detour-none h = back-none set (wayOut rows set (members out)) x y inside outside h ∙ detour-is
+    pub detour-none : capacity ≤ x → none ≡ detourBy told none rows n set
+    unfolding detourBy
+    detour-none h = back-none set (wayOut rows n set) x y inside outside h
 
   -- ---- and around vertex 0
 
@@ -183,9 +180,9 @@ module _ (space : List ℕ) (size : length space ≡ searchSpace) (rows : List �
   told-sized : answeredIn space ≡ answered
   told-sized i m removed more = answered-sized space m removed more size i
 
-  detour-sized : (full set : VertexSet) → detourIn space rows full set ≡ detour rows full set
+  detour-sized : (n set : VertexSet) → detourIn space rows n set ≡ detour rows n set
   unfolding detour detourBy
-  detour-sized full set = ap (λ (told : searching.Reach → VertexSet → List ℕ → construction.Found). backBy told (failed emptySet set) rows set (wayOut rows set (members (minus full set)))) told-sized
+  detour-sized n set = ap (λ (told : searching.Reach → VertexSet → List ℕ → construction.Found). backBy told (failed emptySet set) rows set (wayOut rows n set)) told-sized
 
   cycle-sized : cycleIn space rows ≡ cycle rows
   unfolding cycle cycleBy
@@ -194,8 +191,8 @@ module _ (space : List ℕ) (size : length space ≡ searchSpace) (rows : List �
       cond (ltb (count (rowOf rows 0 .words)) 2) (failed (rowOf rows 0) (single 0)) (told (explore rows (single (least (rowOf rows 0))) (minus (rowOf rows 0) (single (least (rowOf rows 0)))) (single 0)) (single 0) (0 ∷ [])))
       told-sized
 
-  pub detour-told : (full set : VertexSet) {f : Found} → f ≡ foundOf (detourIn space rows full set) → f ≡ foundOf (detour rows full set)
-  detour-told full set e = e ∙ ap foundOf (detour-sized full set)
+  pub detour-told : (n set : VertexSet) {f : Found} → f ≡ foundOf (detourIn space rows n set) → f ≡ foundOf (detour rows n set)
+  detour-told n set e = e ∙ ap foundOf (detour-sized n set)
 
   pub cycle-told : {f : Found} → f ≡ foundOf (cycleIn space rows) → f ≡ foundOf (cycle rows)
   cycle-told e = e ∙ ap foundOf cycle-sized

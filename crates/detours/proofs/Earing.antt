@@ -1,6 +1,6 @@
 -- Ears: a search ends with its cut or goes on with its path, and what is left of the definition's ears gives the whole. Assumes nothing.
 use Prim.Native.Nat.{ℕ, suc, _+_, _-_, _≤_, _<_}
-use mathlib.Core.Path.{_≡_, refl, sym, ap, _∙_}
+use mathlib.Core.Path.{_≡_, refl, sym, ap, subst, _∙_}
 use mathlib.Core.Bool.{Bool, true, false, cond}
 use mathlib.Core.List.{List, [], _∷_}
 use native.Mathlib.Omega.{arith}
@@ -12,10 +12,13 @@ use Rattle.graph.specs.Rows.{rowOf}
 use Rattle.search.specs.Arrays.{placed, placedEnd}
 use Rattle.search.specs.Code.{pathRoom}
 use Rattle.search.proofs.Placed.{padded-none}
-use Rattle.construction.specs.Sets.{stop, minus, single, withAll, members, least, empty}
+use Rattle.construction.specs.Sets.{stop, minus, single, withAll, least, empty}
 use Rattle.construction.specs.Search.{explore}
 use Rattle.construction.specs.Ears as construction
-use Rattle.construction.specs.Ears.{noCut, isCut, failed, answered, wayOut, backFrom, detour, cycle, pathSpace, addPath, Eared, eared, earsOn, ears}
+use Rattle.construction.specs.Ears.{noCut, isCut, failed, answered, nearAll, near, wayOut, backFrom, detour, cycle, pathSpace, addPath, Eared, eared, earsOn, ears}
+use Rattle.construction.proofs.Basics.{Sized}
+use Rattle.construction.proofs.SetLaws.{sized-empty, sized-all}
+use Rattle.construction.proofs.Near.{near-grows, near-set}
 use Rattle.detours.specs.Code.{cutOf, cutIn, foundOf, earsOf, Kept, FlatShows}
 use Rattle.detours.specs.declared.Cut.{Cut}
 use Rattle.detours.specs.declared.Found.{Found}
@@ -35,9 +38,9 @@ back-short rows set e = go (ltb (e .0) capacity)
     go true = answered-one (explore rows (single (e .1)) (minus set (single (e .0))) (single (e .0))) (single (e .0)) (e .0)
     go false = none-short emptySet set
 
-pub detour-short : (rows : List ℕ) (full set : VertexSet) → length (detour rows full set .path) ≤ pathRoom
+pub detour-short : (rows : List ℕ) (n set : VertexSet) → length (detour rows n set .path) ≤ pathRoom
 unfolding detour
-detour-short rows full set = back-short rows set (wayOut rows set (members (minus full set)))
+detour-short rows n set = back-short rows set (wayOut rows n set)
 
 around-short : (rows : List ℕ) (row : VertexSet) (b : Bool)
     → length (cond {A = construction.Found} b (failed row (single 0)) (answered (explore rows (single (least row)) (minus row (single (least row))) (single 0)) (single 0) (0 ∷ [])) .path) ≤ pathRoom
@@ -99,18 +102,26 @@ module _ (rows : List ℕ) (full : VertexSet) (f : Found) (e : f ≡ foundOf (cy
 
 -- ---- the loop
 
-pub record Earing (rows : List ℕ) (full : VertexSet) (whole : Eared) (flat : List ℕ) (len : ℕ) (set : VertexSet) (count left : ℕ) : Type 0 where
+pub record Earing (rows : List ℕ) (full : VertexSet) (whole : Eared) (flat : List ℕ) (len : ℕ) (set n : VertexSet) (count left : ℕ) : Type 0 where
   pub kept : Kept flat len
+  pub sized : Sized set
+  pub same-near : n ≡ near rows set
   pub room : count + left ≡ capacity + 1
   pub rest : earsOn rows full left (take len flat) count set ≡ whole
 
-pub first-ear : (rows : List ℕ) (full : VertexSet) (path : List ℕ) {flat : List ℕ} {len : ℕ} {none set : VertexSet}
+pub first-ear : (rows : List ℕ) (full : VertexSet) (path : List ℕ) {flat : List ℕ} {len : ℕ} {none none2 set n : VertexSet}
     → flat ≡ placed (replicate pathSpace 0) 0 (stop ∷ path) → len ≡ placedEnd (replicate pathSpace 0) 0 (stop ∷ path)
-    → none ≡ emptySet → set ≡ withAll none path → Earing rows full (earsFrom rows full path) flat len set 1 capacity
-first-ear rows full path {flat} {len} o n z s =
-    let f : FlatShows flat len (addPath [] path) = more-shows (replicate pathSpace 0) 0 path (sym (padded-none pathSpace), omega arith) o n in
+    → none ≡ emptySet → set ≡ withAll none path → none2 ≡ emptySet → n ≡ nearAll rows none2 path → Earing rows full (earsFrom rows full path) flat len set n 1 capacity
+first-ear rows full path {flat} {len} {n = n} o k z s y m =
+    let f : FlatShows flat len (addPath [] path) = more-shows (replicate pathSpace 0) 0 path (sym (padded-none pathSpace), omega arith) o k in
     let v : _ ≡ withAll emptySet path = s ∙ ap (λ (x : VertexSet). withAll x path) z in
-    record { kept = flat-shows-kept flat len _ f; room = refl; rest = λ i. earsOn rows full capacity (flat-shows-take flat len _ f i) 1 (v i) }
+    record {
+      kept = flat-shows-kept flat len _ f;
+      sized = subst Sized (sym v) (sized-all emptySet path sized-empty);
+      same-near = m ∙ ap (λ (x : VertexSet). nearAll rows x path) y ∙ sym (near-set rows path) ∙ ap (near rows) (sym v);
+      room = refl;
+      rest = λ i. earsOn rows full capacity (flat-shows-take flat len _ f i) 1 (v i);
+    }
 
 -- by the two tests of a turn
 abbrev turn : List ℕ → VertexSet → ℕ → List ℕ → ℕ → VertexSet → Bool → construction.Found → Eared
@@ -121,11 +132,11 @@ unfolding earsOn
 ears-none rows full flat k set = refl
 
 ears-turn : (rows : List ℕ) (full : VertexSet) (f : ℕ) (flat : List ℕ) (k : ℕ) (set : VertexSet)
-    → earsOn rows full (suc f) flat k set ≡ turn rows full f flat k set (empty (minus full set)) (detour rows full set)
+    → earsOn rows full (suc f) flat k set ≡ turn rows full f flat k set (empty (minus full set)) (detour rows (near rows set) set)
 unfolding earsOn
 ears-turn rows full f flat k set = refl
 
-module _ {rows : List ℕ} {full : VertexSet} {whole : Eared} {flat : List ℕ} {len : ℕ} {set : VertexSet} {count left : ℕ} (g : Earing rows full whole flat len set count left) where
+module _ {rows : List ℕ} {full : VertexSet} {whole : Eared} {flat : List ℕ} {len : ℕ} {set n : VertexSet} {count left : ℕ} (g : Earing rows full whole flat len set n count left) where
   pub earing-length : length flat ≡ pathSpace
   earing-length = kept-length flat len (g .kept)
 
@@ -138,29 +149,34 @@ module _ {rows : List ℕ} {full : VertexSet} {whole : Eared} {flat : List ℕ} 
       shown noCut e (sym (ears-none rows full (take len flat) count set) ∙ ap (λ (f : ℕ). earsOn rows full f (take len flat) count set) z ∙ g .rest)
 
   module _ (h : 0 < left) {out : VertexSet} {b : Bool} (o : out ≡ minus full set) (t : b ≡ empty out) where
-    next : turn rows full (left - 1) (take len flat) count set b (detour rows full set) ≡ whole
+    next : turn rows full (left - 1) (take len flat) count set b (detour rows (near rows set) set) ≡ whole
     next =
         let z : suc (left - 1) ≡ left = omega arith in
-        ap (λ (x : Bool). turn rows full (left - 1) (take len flat) count set x (detour rows full set)) (t ∙ ap empty o)
+        ap (λ (x : Bool). turn rows full (left - 1) (take len flat) count set x (detour rows (near rows set) set)) (t ∙ ap empty o)
         ∙ sym (ears-turn rows full (left - 1) (take len flat) count set) ∙ ap (λ (f : ℕ). earsOn rows full f (take len flat) count set) z ∙ g .rest
 
     pub earing-full : b ≡ true → {c : Cut} → c ≡ cutOf noCut → earsAt flat len count c ≡ earsOf whole
     earing-full u e = shown noCut e (rw u at next)
 
-    module _ (u : b ≡ false) {d : Found} (e : d ≡ foundOf (detour rows full set)) {y : Bool} (q : y ≡ isCut (cutIn (d .cut))) where
+    module _ (u : b ≡ false) {d : Found} (e : d ≡ foundOf (detour rows n set)) {y : Bool} (q : y ≡ isCut (cutIn (d .cut))) where
       abbrev more : List ℕ → Eared
       more p = earsOn rows full (left - 1) (addPath (take len flat) p) (count + 1) (withAll set p)
 
-      pub earing-cut : y ≡ true → earsAt flat len count (d .cut) ≡ earsOf whole
-      earing-cut v = shown (cutIn (d .cut)) refl (stage-cut (eared (take len flat) count) more d (detour rows full set) e q v ∙ rw u at next)
+      way : d ≡ foundOf (detour rows (near rows set) set)
+      way = e ∙ ap (λ (x : VertexSet). foundOf (detour rows x set)) (g .same-near)
 
-      pub earing-on : y ≡ false → {l : List ℕ} → l ≡ pathPart d → {flat2 : List ℕ} {len2 : ℕ} {set2 : VertexSet} → flat2 ≡ placed flat len (stop ∷ l)
-          → len2 ≡ placedEnd flat len (stop ∷ l) → set2 ≡ withAll set l → Earing rows full whole flat2 len2 set2 (count + 1) (left - 1)
-      earing-on v {l} p {flat2} {len2} m n a =
-          let s : FlatShows flat2 len2 (addPath (take len flat) l) = more-shows flat len l (g .kept) m n in
+      pub earing-cut : y ≡ true → earsAt flat len count (d .cut) ≡ earsOf whole
+      earing-cut v = shown (cutIn (d .cut)) refl (stage-cut (eared (take len flat) count) more d (detour rows (near rows set) set) way q v ∙ rw u at next)
+
+      pub earing-on : y ≡ false → {l : List ℕ} → l ≡ pathPart d → {flat2 : List ℕ} {len2 : ℕ} {set2 n2 : VertexSet} → flat2 ≡ placed flat len (stop ∷ l)
+          → len2 ≡ placedEnd flat len (stop ∷ l) → set2 ≡ withAll set l → n2 ≡ nearAll rows n l → Earing rows full whole flat2 len2 set2 n2 (count + 1) (left - 1)
+      earing-on v {l} p {flat2} {len2} m k a z =
+          let s : FlatShows flat2 len2 (addPath (take len flat) l) = more-shows flat len l (g .kept) m k in
           record {
             kept = flat-shows-kept flat2 len2 _ s;
+            sized = subst Sized (sym a) (sized-all set l (g .sized));
+            same-near = z ∙ ap (λ (x : VertexSet). nearAll rows x l) (g .same-near) ∙ sym (near-grows rows set l (g .sized)) ∙ ap (near rows) (sym a);
             room = omega (arith, g .room);
             rest = (λ i. earsOn rows full (left - 1) (flat-shows-take flat2 len2 _ s i) (count + 1) (a i))
-                ∙ stage-on (eared (take len flat) count) more d (detour rows full set) e q v p ∙ rw u at next;
+                ∙ stage-on (eared (take len flat) count) more d (detour rows (near rows set) set) way q v p ∙ rw u at next;
           }

@@ -1,5 +1,5 @@
 pub mod Lists
-pub mod Ways
+pub mod NextMember
 pub mod Routes
 pub mod Kept
 pub mod Marks

@@ -1,27 +1,27 @@
 -- Lists as the loops take them: what is left of a list; the last of one; one number more. Assumes nothing.
 use Prim.Native.Nat.{ℕ, suc, _+_, _-_, _≤_, _<_}
-use mathlib.Core.Path.{_≡_, refl, sym, ap, _∙_}
+use mathlib.Core.Path.{_≡_, refl, sym, ap}
 use mathlib.Core.List.{List, [], _∷_, _++_}
 use native.Mathlib.Omega.{arith}
 use lib.ListN.{length, drop, getD, length-append, drop-of-length-le}
 use borrow.Author.Tests.{lt-ltb}
 use Rattle.record.specs.Read.{folded}
-use Rattle.vertexset.specs.Set.{inserted}
 use Rattle.vertexset.specs.declared.VertexSet.{VertexSet}
 use Rattle.vertexset.proofs.Steps.{drop-next}
 use Rattle.search.specs.Code.{pathOf, pathRoom}
 use Rattle.search.proofs.Placed.{padded-set}
-use Rattle.construction.specs.Sets.{withAll, lastOf}
+use Rattle.construction.specs.Sets.{lastOf}
 use Rattle.detours.specs.Code.{pushed}
 
-module _ (s : VertexSet) where
-  pub all-turn : (l : List ℕ) (i : ℕ) → i < length l → withAll s (drop i l) ≡ withAll (inserted s (getD l i 0)) (drop (i + 1) l)
+-- what a list does to a set, one vertex after the other
+module _ (f : VertexSet → ℕ → VertexSet) (s : VertexSet) where
+  pub fold-turn : (l : List ℕ) (i : ℕ) → i < length l → folded f s (drop i l) ≡ folded f (f s (getD l i 0)) (drop (i + 1) l)
   unfolding folded
-  all-turn l i h = ap (λ (k : List ℕ). withAll s k) (drop-next l i h)
+  fold-turn l i h = ap (λ (k : List ℕ). folded f s k) (drop-next l i h)
 
-  pub all-end : (l : List ℕ) (i : ℕ) → length l ≤ i → withAll s (drop i l) ≡ s
+  pub fold-end : (l : List ℕ) (i : ℕ) → length l ≤ i → folded f s (drop i l) ≡ s
   unfolding folded
-  all-end l i h = ap (λ (k : List ℕ). withAll s k) (drop-of-length-le l h)
+  fold-end l i h = ap (λ (k : List ℕ). folded f s k) (drop-of-length-le l h)
 
 pub last-at : (l : List ℕ) → 0 < length l → getD l (length l - 1) 0 ≡ lastOf l
 unfolding lastOf

@@ -11,7 +11,7 @@ use Rattle.graph.specs.Rows.{rowOf}
 use Rattle.search.specs.Arrays.{padded}
 use Rattle.search.specs.Code.{pathOf, pathRoom, searchSpace, leftIn}
 use Rattle.search.specs.declared.VertexList.{VertexList}
-use Rattle.construction.specs.Sets.{minus, single, members, least}
+use Rattle.construction.specs.Sets.{minus, single, least}
 use Rattle.construction.specs.Search.{Reach, explore}
 use Rattle.construction.specs.Ears as construction
 use Rattle.construction.specs.Ears.{failed, answered, wayOut, pathSpace}
@@ -47,13 +47,13 @@ backBy told none rows set e =
     cond (ltb (e .0) capacity) (told (explore rows (single (e .1)) (minus set (single (e .0))) (single (e .0))) (single (e .0)) (e .0 ∷ [])) none
 
 unfoldable pub detourBy : {A : Type 0} → (Reach → VertexSet → List ℕ → A) → A → List ℕ → VertexSet → VertexSet → A
-detourBy told none rows full set = backBy told none rows set (wayOut rows set (members (minus full set)))
+detourBy told none rows near set = backBy told none rows set (wayOut rows near set)
 
 abbrev pub detourIn : List ℕ → List ℕ → VertexSet → VertexSet → construction.Found
-detourIn space rows full set = detourBy (answeredIn space) (failed emptySet set) rows full set
+detourIn space rows near set = detourBy (answeredIn space) (failed emptySet set) rows near set
 
 abbrev pub detourLeft : List ℕ → List ℕ → VertexSet → VertexSet → List ℕ
-detourLeft space rows full set = detourBy (λ m removed more. leftIn space m) space rows full set
+detourLeft space rows near set = detourBy (λ m removed more. leftIn space m) space rows near set
 
 -- the same for the search around vertex 0; or for fewer than two neighbours
 unfoldable pub cycleBy : {A : Type 0} → (Reach → VertexSet → List ℕ → A) → A → List ℕ → A

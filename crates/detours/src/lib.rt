@@ -5,9 +5,9 @@ ghost use lib.ListN.{length, take, getD};
 ghost use Rattle.vertexset.specs.Set.{emptySet, capacity};
 ghost use Rattle.search.specs.Arrays.{placed, placedEnd};
 ghost use Rattle.search.specs.Code.{pathOf, searchSpace, leftIn};
-ghost use Rattle.construction.specs.Sets.{stop, pair, single, withAll, members, lastOf};
+ghost use Rattle.construction.specs.Sets.{stop, pair, single, withAll, lastOf};
 ghost use Rattle.construction.specs.Search.{explore};
-ghost use Rattle.construction.specs.Ears.{noCut, isCut, wayOut, addPath, earsOn, ears};
+ghost use Rattle.construction.specs.Ears.{noCut, isCut, nearAll, wayOut, addPath, earsOn, ears};
 ghost use Rattle.construction.specs.Start.{marked};
 ghost use Rattle.detours.specs.Code.{cutOf, foundOf, earsOf, pushed, answeredIn, detourIn, detourLeft, cycleIn, cycleLeft};
 use graph::GraphTable;
@@ -27,7 +27,7 @@ pub struct Found {
     pub cut: Cut,
 }
 
-// An edge out of a set, or CAPACITY twice.
+// An edge out of a set; where there is none, CAPACITY inside.
 struct Exit {
     inside: u16,
     outside: u16,
@@ -190,39 +190,46 @@ pub fn find_on<'a>(
     }
 }
 
-// The first vertex of one set with a neighbour in another, and the least such neighbour.
-fn way_out(rows: &[u64; GraphTable::ROW_WORDS], set: VertexSet, outside: VertexSet) -> Exit
-    ensures { λ r. ⌜ (r .inside ≡ wayOut (now (rows .entry)) set (members outside) .0) × (r .outside ≡ wayOut (now (rows .entry)) set (members outside) .1) ⌝ }
+// The neighbours of the vertices of a list, beside others.
+pub fn near_all<'a>(
+    rows: &'a [u64; GraphTable::ROW_WORDS],
+    near: VertexSet,
+    list: &'a [u16],
+) -> VertexSet
+    ensures { λ r. ⌜ r ≡ nearAll (now (rows .entry)) near (now (list .entry)) ⌝ }
 {
-    let mut c = outside.next_from(0);
-    while c < VertexSet::CAPACITY {
-        let row = graph::row(rows, c);
-        let x = row.minus(row.minus(set)).next_from(0);
-        if x < VertexSet::CAPACITY {
-            return Exit {
-                inside: x,
-                outside: c,
-            };
-        }
-        c = outside.next_from(c + 1);
+    let mut all = near;
+    let mut i = 0;
+    while i < list.len() {
+        all = all.union(graph::row(rows, list[i]));
+        i += 1;
     }
+    all
+}
+
+// The least vertex outside a set that is near it, and its least neighbour inside.
+fn way_out(rows: &[u64; GraphTable::ROW_WORDS], near: VertexSet, set: VertexSet) -> Exit
+    ensures { λ r. ⌜ (r .inside ≡ wayOut (now (rows .entry)) near set .0) × (r .outside ≡ wayOut (now (rows .entry)) near set .1) ⌝ }
+{
+    let c = near.minus(set).next_from(0);
+    let row = graph::row(rows, c);
     Exit {
-        inside: VertexSet::CAPACITY,
-        outside: VertexSet::CAPACITY,
+        inside: row.minus(row.minus(set)).next_from(0),
+        outside: c,
     }
 }
 
-// Out of a set along an edge, and back to another of its vertices.
+// Out of a set along an edge to a vertex near it, and back to another of its vertices.
 pub fn detour<'a>(
     rows: &'a [u64; GraphTable::ROW_WORDS],
     space: &'a mut [u16],
-    full: VertexSet,
+    near: VertexSet,
     set: VertexSet,
 ) -> Found
-    ensures { λ r. ⌜ now (space .exit) ≡ detourLeft (now (space .entry)) (now (rows .entry)) full set ⌝ }
-    ensures { λ r. ⌜ r ≡ foundOf (detourIn (now (space .entry)) (now (rows .entry)) full set) ⌝ }
+    ensures { λ r. ⌜ now (space .exit) ≡ detourLeft (now (space .entry)) (now (rows .entry)) near set ⌝ }
+    ensures { λ r. ⌜ r ≡ foundOf (detourIn (now (space .entry)) (now (rows .entry)) near set) ⌝ }
 {
-    let e = way_out(rows, set, full.minus(set));
+    let e = way_out(rows, near, set);
     if e.inside < VertexSet::CAPACITY {
         return find_on(
             rows,
@@ -297,7 +304,7 @@ fn ears_of(flat: [u16; Ears::ROOM], len: usize, count: u16, cut: Cut) -> Ears
     }
 }
 
-// Ears behind the first until every vertex is in; or a cut.
+// Ears behind the first until every vertex is in; or a cut. Beside the vertices that are in stand their neighbours.
 fn more_ears<'a>(
     rows: &'a [u64; GraphTable::ROW_WORDS],
     space: &'a mut [u16],
@@ -310,6 +317,7 @@ fn more_ears<'a>(
     let mut flat = [0u16; Ears::ROOM];
     let mut len = add_path(&mut flat, 0, first);
     let mut set = with_all(VertexSet::empty(), first);
+    let mut near = near_all(rows, VertexSet::empty(), first);
     let mut count: u16 = 1;
     let mut left = VertexSet::CAPACITY;
     while 0 < left {
@@ -317,7 +325,7 @@ fn more_ears<'a>(
         if full.minus(set).is_empty() {
             return ears_of(flat, len, count, Cut::none());
         }
-        let d = detour(rows, space, full, set);
+        let d = detour(rows, space, near, set);
         let c = d.cut;
         if c.is_cut() {
             return ears_of(flat, len, count, c);
@@ -325,6 +333,7 @@ fn more_ears<'a>(
         let path = front(&d.path.vertices, d.path.count);
         len = add_path(&mut flat, len, path);
         set = with_all(set, path);
+        near = near_all(rows, near, path);
         count += 1;
     }
     ears_of(flat, len, count, Cut::none())

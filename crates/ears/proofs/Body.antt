@@ -17,9 +17,8 @@ use Rattle.connectivity.specs.Graph.{Graph}
 use Rattle.connectivity.specs.Path.{Path}
 use Rattle.certificates.specs.Tests.{nobody, with, allBelow, earTaken}
 use Rattle.certificates.specs.Records.{vertex, ear, side, body}
-use Rattle.paths.specs.Items.{endRead, limited}
+use Rattle.paths.specs.Items.{refused, endRead, limited}
 use Rattle.paths.specs.declared.Item.{Item}
-use Rattle.paths.specs.declared.Item.the-variants.{Fault}
 use Rattle.paths.proofs.Told.{limited-in}
 use Rattle.paths.proofs.Ends.{end-into, end-stop, end-then, end-same, front-stop, front-then}
 use Rattle.ears.specs.Code.{allEars}
@@ -60,11 +59,11 @@ module _ (g : Graph) (s : List ℕ) (at : ℕ) (low : g .n ≤ capacity) where
   unfolding pairAfter
   whole e = e ∙ end-into _ (vertex (g .n) ▸ pairAfter) s at ∙ ap endRead (sym (limited-in (g .n) at _ low))
 
-  pub ears-first : {q p : ℕ} → vertex (g .n) s at ≡ Refused q p → Fault q p ≡ endRead (limited (g .n) (body g 2) s at)
+  pub ears-first : {q p : ℕ} → vertex (g .n) s at ≡ Refused q p → refused q p ≡ endRead (limited (g .n) (body g 2) s at)
   ears-first e = whole (end-stop (vertex (g .n)) pairAfter e)
 
   module _ {c second : ℕ} (e : vertex (g .n) s at ≡ Got c second) where
-    pub ears-second : {q p : ℕ} → higher c s second ≡ Refused q p → Fault q p ≡ endRead (limited (g .n) (body g 2) s at)
+    pub ears-second : {q p : ℕ} → higher c s second ≡ Refused q p → refused q p ≡ endRead (limited (g .n) (body g 2) s at)
     unfolding pairAfter
     ears-second f = whole (end-stop (higher c) (earsAfter c) f ∙ end-then (vertex (g .n)) pairAfter e)
 
@@ -73,7 +72,7 @@ module _ (g : Graph) (s : List ℕ) (at : ℕ) (low : g .n ≤ capacity) where
       unfolding pairAfter
       later k = whole (k ∙ end-then (higher c) (earsAfter c) f ∙ end-then (vertex (g .n)) pairAfter e)
 
-      pub ears-count : {q p : ℕ} → (number needs⟨ 9 ⟩ within 1 (g .n - 2)) s third ≡ Refused q p → Fault q p ≡ endRead (limited (g .n) (body g 2) s at)
+      pub ears-count : {q p : ℕ} → (number needs⟨ 9 ⟩ within 1 (g .n - 2)) s third ≡ Refused q p → refused q p ≡ endRead (limited (g .n) (body g 2) s at)
       ears-count k = later (end-stop _ (λ all. allIn all ▸ sideAfter c d all) (leads-bad (number needs⟨ 9 ⟩ within 1 (g .n - 2)) _ k))
 
       module _ {k from : ℕ} (h : (number needs⟨ 9 ⟩ within 1 (g .n - 2)) s third ≡ Got k from) where
@@ -81,7 +80,7 @@ module _ (g : Graph) (s : List ℕ) (at : ℕ) (low : g .n ≤ capacity) where
             → x ≡ endRead (limited (g .n) (body g 2) s at)
         counted-on l = later (l ∙ end-same _ _ (λ all. allIn all ▸ sideAfter c d all) (leads-got (number needs⟨ 9 ⟩ within 1 (g .n - 2)) _ h))
 
-        pub ears-all : {q p : ℕ} → allEars g k s from ≡ Refused q p → Fault q p ≡ endRead (limited (g .n) (body g 2) s at)
+        pub ears-all : {q p : ℕ} → allEars g k s from ≡ Refused q p → refused q p ≡ endRead (limited (g .n) (body g 2) s at)
         ears-all l = counted-on (front-stop _ allIn (sideAfter c d) s from l)
 
         pub ears-side : {removed : ℕ → Bool} {x : List Path × Unit {0}} {next : ℕ} → removed ≡ with (with nobody c) d → allEars g k s from ≡ Got x next

@@ -4,26 +4,23 @@ use mathlib.Core.List.{List, [], _∷_, _++_}
 use mathlib.Core.Bool.{Bool, true, false, cond, _||_, or-true, or-assoc, false≢true}
 use mathlib.Core.Path.{_≡_, refl, sym, ap, fun-ext, _∙_}
 use native.Mathlib.Omega.{arith}
-use lib.Bits.{bitOr}
 use lib.Dec.{eqb}
 use lib.ListN.{length}
 use borrow.Author.Tests.{eqb-true}
 use Rattle.record.specs.Read.{Read, Read.Got, Read.Refused, onRead, _needs⟨_⟩_, _▸_, many, check, folded}
 use Rattle.record.specs.Loop.{runs, finish}
 use Rattle.record.proofs.Loops.{needs-true, many-same, many-kept}
-use Rattle.vertexset.specs.Set.{has, emptySet, inserted, wordCount, capacity}
-use Rattle.vertexset.specs.declared.VertexSet.{VertexSet}
-use Rattle.vertexset.proofs.Laws.{empty-has, has-union, wordwise-length}
+use Rattle.vertexset.specs.Set.{has, wordCount, capacity}
+use Rattle.vertexset.proofs.Laws.{empty-has}
 use Rattle.connectivity.proofs.Lists.{and-true}
 use Rattle.connectivity.specs.Lists.{member}
 use Rattle.connectivity.specs.Graph.{Graph}
 use Rattle.connectivity.specs.Path.{Path, vertices}
 use Rattle.certificates.specs.Tests.{allBelow, begun, earAlong, earEnds, earNew, earTaken}
 use Rattle.certificates.specs.Records.{path, ear}
-use Rattle.paths.specs.Items.{endRead}
-use Rattle.paths.specs.declared.Item.the-variants.{Value, Fault}
+use Rattle.paths.specs.Items.{taken, refused, endRead}
 use Rattle.paths.proofs.Reading.{path-low}
-use Rattle.paths.proofs.Sets.{taken-length, listed-has}
+use Rattle.paths.proofs.Sets.{taken-length, taken-has}
 use Rattle.ears.specs.Code.{noEars, earsWith, earBeside, allEars, earLoop}
 use Rattle.ears.specs.declared.Ears.{Ears}
 
@@ -80,16 +77,11 @@ member-taken (b ∷ B) P v h =
 same-taken : (g : Graph) → g .n ≤ capacity → (B : List ℕ) (e : Ears) → Same B e → (s : List ℕ) (at : ℕ) (P : Path) (next : ℕ) → ear g B s at ≡ Got P next → Same (earTaken B P) (earsWith e P)
 same-taken g h B e r s at P next f =
     let p = ear-got g B s at f in
-    let set : VertexSet = folded inserted emptySet (vertices P) in
-    let l : length (set .words) ≡ wordCount = taken-length emptySet (vertices P) refl in
     let low = path-low (g .n) 3 (64 * wordCount) s at (omega arith) (omega arith) (p .0) in
     record {
-      long = wordwise-length bitOr (e .set) set (r .long) l;
+      long = taken-length (e .set) (vertices P) (r .long);
       begins = begun-taken B P;
-      in-both = λ v.
-          member-taken B P v (p .1) ∙ ap (λ (b : Bool). b || member v (vertices P)) (r .in-both v)
-          ∙ ap (λ (b : Bool). has (e .set .words) v || b) (sym (listed-has (vertices P) v low))
-          ∙ sym (has-union (e .set .words) (set .words) (r .long ∙ sym l) v);
+      in-both = λ v. member-taken B P v (p .1) ∙ ap (λ (b : Bool). b || member v (vertices P)) (r .in-both v) ∙ sym (taken-has (e .set) (vertices P) v (r .long) low);
     }
 
 -- the loop gives what the ears give
@@ -102,12 +94,12 @@ ears-begin g h k s from =
     tested : List Path → ℕ → Read (List Path × Unit {0})
     tested all mid = onRead (check 28 (allBelow (g .n) (λ v. member v (folded earTaken [] all))) s mid) (λ u next. Got (all, u) next)
 
-    pick : (b : Bool) (all : List Path) (mid : ℕ) → cond b (Value 0 mid) (Fault 28 mid) ≡ endRead {A = List Path × Unit {0}} (onRead (cond b (Got tt mid) (Refused 28 mid)) (λ u next. Got (all, u) next))
+    pick : (b : Bool) (all : List Path) (mid : ℕ) → cond b (taken 0 mid) (refused 28 mid) ≡ endRead {A = List Path × Unit {0}} (onRead (cond b (Got tt mid) (Refused 28 mid)) (λ u next. Got (all, u) next))
     pick true all mid = refl
     pick false all mid = refl
 
-    go : (x : Read (List Path)) → many (ear g) earTaken k [] s from ≡ x → finish earsWith (earLoop g .ok) Fault noEars x ≡ endRead (onRead x tested)
+    go : (x : Read (List Path)) → many (ear g) earTaken k [] s from ≡ x → finish earsWith (earLoop g .ok) refused noEars x ≡ endRead (onRead x tested)
     go (Got all next) m =
         let r = many-kept Same (ear g) earTaken (earLoop g .item) earsWith (same-ear g) (same-taken g h) k [] noEars same-none s from m in
-        ap (λ (f : ℕ → Bool). cond (allBelow (g .n) f) (Value 0 next) (Fault 28 next)) (sym (fun-ext (r .in-both))) ∙ pick (allBelow (g .n) (λ v. member v (folded earTaken [] all))) all next
+        ap (λ (f : ℕ → Bool). cond (allBelow (g .n) f) (taken 0 next) (refused 28 next)) (sym (fun-ext (r .in-both))) ∙ pick (allBelow (g .n) (λ v. member v (folded earTaken [] all))) all next
     go (Refused q p) m = refl

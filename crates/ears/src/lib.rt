@@ -5,10 +5,11 @@ ghost use Rattle.vertexset.specs.Set.{has, capacity};
 ghost use Rattle.graph.specs.Rows.{adjacentIn, rowsGraph};
 ghost use Rattle.certificates.specs.Records.{body};
 ghost use Rattle.paths.specs.Items.{endRead, limited};
-ghost use Rattle.ears.specs.Code.{noEars, earRead, earTested, earBeside, allEars};
+ghost use Rattle.ears.specs.Code.{noEars, earRead, earFault, earBeside, allEars};
 use graph::GraphTable;
 use paths::Item;
 use paths::PathRead;
+use record::Answer;
 use vertexset::VertexSet;
 
 // The vertices that are in, and whether there is an ear yet.
@@ -33,62 +34,51 @@ impl Ears {
         }
     }
 
-    // An ear that was read, tested and taken in.
-    fn tested(
-        self,
-        rows: &[u64; GraphTable::ROW_WORDS],
-        p: PathRead,
-        at: usize,
-        next: usize,
-    ) -> EarRead
-        ensures { λ r. ⌜ r ≡ earTested (adjacentIn (now (rows .entry))) self p at next ⌝ }
+    // Document 01's number for an ear that was read whole, or 0.
+    fn fault(self, rows: &[u64; GraphTable::ROW_WORDS], p: PathRead) -> u8
+        ensures { λ r. ⌜ r ≡ earFault (adjacentIn (now (rows .entry))) self p ⌝ }
     {
         let set = self.set;
         let begun = self.begun;
-        let first = p.first;
-        let last = p.last;
-        if p.along & (begun | graph::adjacent(rows, last, first)) {
-            if !begun | (set.contains(first) & set.contains(last)) {
-                if p.new {
-                    let path = p.set;
-                    let ears = Ears {
-                        set: set.union(path),
-                        begun: true,
-                    };
-                    return EarRead {
-                        end: Item::Value(0, next),
-                        ears,
-                    };
-                }
-                return EarRead {
-                    end: Item::Fault(26, at),
-                    ears: self,
-                };
-            }
-            return EarRead {
-                end: Item::Fault(25, at),
-                ears: self,
-            };
+        let along = p.along & (begun | graph::adjacent(rows, p.last, p.first));
+        let ends = !begun | (set.contains(p.first) & set.contains(p.last));
+        if !along {
+            return 24;
         }
-        EarRead {
-            end: Item::Fault(24, at),
-            ears: self,
+        if !ends {
+            return 25;
         }
+        if !p.new {
+            return 26;
+        }
+        0
     }
 }
 
-// One ear beside those before it.
+// One ear beside those before it. Its vertices are read again where it is taken in, so that no list of them is kept.
 fn read_ear(s: &[u8], rows: &[u64; GraphTable::ROW_WORDS], n: u16, ears: Ears, at: usize) -> EarRead
     requires { ⌜ n ≤ capacity ⌝ }
     ensures { λ r. ⌜ r ≡ earRead ears (earBeside (rowsGraph n (now (rows .entry))) (ears .begun) (has (ears .set .words)) (now (s .entry)) at) ⌝ }
 {
     let set = ears.set;
     let p = paths::read_ear_path(s, rows, n, set, at);
-    let x = p.end;
-    let Item::Value(_, next) = x else {
-        return EarRead { end: x, ears };
+    let end = p.end;
+    let a = end.answer;
+    let Answer::Accepted = a else {
+        return EarRead { end, ears };
     };
-    ears.tested(rows, p, at, next)
+    let r = ears.fault(rows, p);
+    if 0 < r {
+        return EarRead {
+            end: Item::refused(r, at),
+            ears,
+        };
+    }
+    let grown = Ears {
+        set: paths::with_path(s, n, at, set),
+        begun: true,
+    };
+    EarRead { end, ears: grown }
 }
 
 // As many ears as are counted, and then every vertex is in.
@@ -107,19 +97,20 @@ fn read_all_ears(
     let mut left = count;
     while 0 < left {
         let r = read_ear(s, rows, n, ears, at);
-        let x = r.end;
-        let Item::Value(_, next) = x else {
-            return x;
+        let end = r.end;
+        let a = end.answer;
+        let Answer::Accepted = a else {
+            return end;
         };
         ears = r.ears;
-        at = next;
+        at = end.next;
         left -= 1;
     }
     let set = ears.set;
     if paths::all_below(set, n) {
-        return Item::Value(0, at);
+        return Item::taken(0, at);
     }
-    Item::Fault(28, at)
+    Item::refused(28, at)
 }
 
 // Kind 2: a removed pair, ears that take in every vertex, and a side.
@@ -127,26 +118,31 @@ pub fn read_ears(s: &[u8], rows: &[u64; GraphTable::ROW_WORDS], n: u16, at: usiz
     ensures { λ r. ⌜ r ≡ endRead (limited n (body (rowsGraph n (now (rows .entry))) 2) (now (s .entry)) at) ⌝ }
 {
     if VertexSet::CAPACITY < n {
-        return Item::Fault(9, at);
+        return Item::refused(9, at);
     }
-    let x = paths::read_vertex(s, n, at);
-    let Item::Value(c, second) = x else {
-        return x;
+    let first = paths::read_vertex(s, n, at);
+    let a = first.answer;
+    let Answer::Accepted = a else {
+        return first;
     };
-    let y = paths::read_vertex(s, n, second);
-    let Item::Value(d, third) = y else {
-        return y;
+    let second = paths::read_vertex(s, n, first.next);
+    let b = second.answer;
+    let Answer::Accepted = b else {
+        return second;
     };
-    if d <= c {
-        return Item::Fault(20, second);
+    if second.value <= first.value {
+        return Item::refused(20, first.next);
     }
-    let z = paths::read_ranged(s, 1, n - 2, third);
-    let Item::Value(count, from) = z else {
-        return z;
+    let count = paths::read_ranged(s, 1, n - 2, second.next);
+    let c = count.answer;
+    let Answer::Accepted = c else {
+        return count;
     };
-    let w = read_all_ears(s, rows, n, count, from);
-    let Item::Value(_, next) = w else {
-        return w;
+    let ears = read_all_ears(s, rows, n, count.value, count.next);
+    let d = ears.answer;
+    let Answer::Accepted = d else {
+        return ears;
     };
-    sides::read_side(s, rows, n, VertexSet::empty().insert(c).insert(d), next)
+    let removed = VertexSet::empty().insert(first.value).insert(second.value);
+    sides::read_side(s, rows, n, removed, ears.next)
 }

@@ -3,7 +3,7 @@ ghost use mathlib.Core.Path.{_≡_};
 ghost use Prim.Native.Nat.{_≤_};
 ghost use Rattle.vertexset.specs.Set.{has, capacity};
 ghost use Rattle.links.specs.Ends.{sameLink, linkEnd, additionOf, held};
-ghost use Rattle.links.specs.Tables.{pointer, pointed, reach, endIn, pointAlong, splitRows, splitBy};
+ghost use Rattle.links.specs.Tables.{pointer, pointed, pointedBoth, reach, endIn, splitRows, splitBy};
 use graph::GraphTable;
 use vertexset::VertexSet;
 
@@ -183,16 +183,10 @@ fn point(pointers: &mut [u16; Link::POINTERS], half: usize, v: u16, to: u16)
     }
 }
 
-// Each inner vertex of a path points to the vertex before it and to the one after it.
-pub fn point_along<'a>(pointers: &'a mut [u16; Link::POINTERS], list: &'a [u16])
-    ensures { λ r. ⌜ now (pointers .exit) ≡ pointAlong (now (pointers .entry)) (now (list .entry)) ⌝ }
+// A vertex that stands between two others on its link points to both.
+pub fn point_between(pointers: &mut [u16; Link::POINTERS], u: u16, v: u16, w: u16)
+    ensures { λ r. ⌜ now (pointers .exit) ≡ pointedBoth (now (pointers .entry)) u v w ⌝ }
 {
-    let mut left = list.len();
-    while 2 < left {
-        let i = list.len() - left;
-        let v = list[i + 1];
-        point(pointers, Link::BEFORE, v, list[i]);
-        point(pointers, Link::AFTER, v, list[i + 2]);
-        left -= 1;
-    }
+    point(pointers, Link::BEFORE, v, u);
+    point(pointers, Link::AFTER, v, w);
 }

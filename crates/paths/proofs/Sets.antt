@@ -1,11 +1,16 @@
 -- The vertices of a path as a set, and a test of all vertices. Assumes nothing.
-use Prim.Native.Nat.{ℕ, zero, suc, _*_, _-_, _<_, _≤_}
+use Prim.Native.Nat.{ℕ, zero, suc, _*_, _-_, _/_, _%_, _^_, _<_, _≤_}
 use mathlib.Core.List.{List, [], _∷_}
-use mathlib.Core.Bool.{Bool, true, _&&_, _||_, or-false, or-assoc}
+use mathlib.Core.Bool.{Bool, true, _&&_, _||_, not, or-false, or-assoc}
 use mathlib.Core.Path.{_≡_, refl, sym, ap, _∙_}
+use native.Mathlib.Nat.{one-mul}
 use native.Mathlib.Omega.{arith}
-use lib.ListN.{length}
-use lib.Dec.{eqb}
+use native.Mathlib.Decide.{ℕ-discrete}
+use lib.ListN.{length, getD}
+use lib.Dec.{eqb, lit<}
+use lib.Bits.{bitOr}
+use lib.Pow.{shl-exact}
+use lib.Seq.{set-out}
 use Rattle.record.specs.Read.{folded}
 use Rattle.record.proofs.Loops.{All}
 use Rattle.vertexset.specs.Set.{has, emptySet, inserted, wordCount}
@@ -13,6 +18,24 @@ use Rattle.vertexset.specs.declared.VertexSet.{VertexSet}
 use Rattle.vertexset.proofs.Laws.{empty-has, inserted-has, inserted-length}
 use Rattle.connectivity.specs.Lists.{member}
 use Rattle.certificates.specs.Tests.{allBelow}
+
+-- a set by its words, which the code changes in place
+abbrev pub ofWords : List ℕ → VertexSet
+ofWords ws = record { words = ws }
+
+-- the code's bit of a vertex; a vertex past the words changes nothing
+pub bit-of : (v : ℕ) → 1 * 2 ^ (v % 64) % 2 ^ 64 ≡ 2 ^ (v % 64)
+bit-of v = rw (shl-exact {a = 1} 1 (v % 64) 64 (lit< tt) (omega arith), one-mul)
+
+pub past-same : (ws : List ℕ) (v : ℕ) → length ws ≤ v / 64 → inserted (ofWords ws) v ≡ ofWords ws
+past-same ws v h = ap ofWords (set-out ws (v / 64) (bitOr (getD ws (v / 64) 0) (2 ^ (v % 64))) h)
+
+-- a bit that is 0 is not 1
+pub bit-clear : (x : ℕ) → eqb (x % 2) 0 ≡ not (eqb (x % 2) 1)
+bit-clear x = elim (ℕ-discrete (x % 2) 0) [
+  | yes e ↦ rw e
+  | no n ↦ let e : x % 2 ≡ 1 = omega arith in rw e
+]
 
 pub taken-length : (B : VertexSet) (l : List ℕ) → length (B .words) ≡ wordCount → length (folded inserted B l .words) ≡ wordCount
 unfolding folded

@@ -1,60 +1,48 @@
--- What the private functions give.
-use Prim.Native.Nat.{ℕ, _+_}
-use mathlib.Core.List.{List}
+-- What the private functions give, and what reading a path again gives.
+use Prim.Native.Nat.{ℕ, zero, suc, _-_}
+use mathlib.Core.List.{List, [], _∷_}
 use mathlib.Core.Bool.{Bool, true, _&&_, _||_, not}
-use lib.ListN.{set, replicate}
 use lib.Dec.{eqb}
 use Rattle.record.specs.Loop.{Loop}
-use Rattle.vertexset.specs.Set.{has, emptySet, inserted, capacity}
+use Rattle.vertexset.specs.Set.{has, emptySet, inserted}
+use Rattle.vertexset.specs.declared.VertexSet.{VertexSet}
 use Rattle.certificates.specs.Records.{vertex}
+use Rattle.paths.specs.Items.{taken, refused, itemRead}
 use Rattle.paths.specs.Paths.{noPath}
 use Rattle.paths.specs.declared.PathRead.{PathRead}
-use Rattle.paths.specs.declared.Scan.{Scan}
-use Rattle.paths.specs.declared.Item.{Item}
-use Rattle.paths.specs.declared.Item.the-variants.{Value, Fault}
 
-abbrev pub faultPath : Item → PathRead
-faultPath (Value v next) = noPath 0 0
-faultPath (Fault r p) = noPath r p
+-- what is known of a path up to the vertex read last, and how many vertices are left to read
+pub record Walked : Type 0 where
+  pub last : ℕ
+  pub along : Bool
+  pub new : Bool
+  pub set : VertexSet
+  pub left : ℕ
 
--- what is known of a path at its first vertex, and at each later one: the end of the path may be old
-abbrev pub scanFirst : ℕ → Scan
-scanFirst v = record { last = v; along = true; new = true; set = inserted emptySet v }
+abbrev pub pathBegun : ℕ → ℕ → Walked
+pathBegun first len = record { last = first; along = true; new = true; set = inserted emptySet first; left = len - 1 }
 
-abbrev pub scanned : (ℕ → ℕ → Bool) → (ℕ → Bool) → Scan → Bool → ℕ → Scan
-scanned adj old t end v = record {
+-- the next vertex taken in; the end of a path may be old, an inner vertex may not
+abbrev pub walkedOn : (ℕ → ℕ → Bool) → (ℕ → Bool) → Walked → ℕ → Walked
+walkedOn adj old t v = record {
   last = v;
   along = t .along && adj (t .last) v;
-  new = t .new && not (has (t .set .words) v) && (end || not (old v));
+  new = t .new && not (has (t .set .words) v) && (eqb (t .left) 1 || not (old v));
   set = inserted (t .set) v;
+  left = t .left - 1;
 }
 
-abbrev pub scanTold : Scan → ℕ → ℕ → List ℕ → ℕ → PathRead
-scanTold t first len list next = record {
-  end = Value 0 next;
-  first = first;
-  last = t .last;
-  along = t .along;
-  new = t .new;
-  len = len;
-  list = list;
-  set = t .set;
-}
-
--- the loop over the vertices after the first: it keeps the scan, the list and its length
-pub record Walked : Type 0 where
-  pub scan : Scan
-  pub list : List ℕ
-  pub i : ℕ
-
-abbrev pub pathBegun : ℕ → Walked
-pathBegun first = record { scan = scanFirst first; list = set (replicate capacity 0) 0 first; i = 1 }
-
+-- the loop over the vertices after the first
 abbrev pub pathLoop : (ℕ → ℕ → Bool) → (ℕ → Bool) → ℕ → ℕ → ℕ → Loop (Unit {0}) ℕ Walked PathRead
-pathLoop adj old n len first = record {
+pathLoop adj old n first len = record {
   item = λ u. vertex n;
   after = λ u v. u;
-  step = λ t v. record { scan = scanned adj old (t .scan) (eqb (t .i + 1) len) v; list = set (t .list) (t .i) v; i = t .i + 1 };
-  ok = λ t next. scanTold (t .scan) first len (t .list) next;
-  bad = noPath;
+  step = walkedOn adj old;
+  ok = λ t next. record { end = taken 0 next; first = first; last = t .last; along = t .along; new = t .new; len = len };
+  bad = λ r p. noPath (refused r p);
 }
+
+-- the values of k vertices, read from a place on without a look at their answers
+unfoldable pub valuesFrom : ℕ → ℕ → List ℕ → ℕ → List ℕ
+valuesFrom n zero s at = []
+valuesFrom n (suc k) s at = itemRead (vertex n s at) .value ∷ valuesFrom n k s (itemRead (vertex n s at) .next)

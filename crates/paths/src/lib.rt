@@ -1,28 +1,53 @@
 // Vertices and paths of a certificate, read and tested.
 ghost use mathlib.Core.Path.{_≡_};
-ghost use Prim.Native.Nat.{_-_, _≤_};
+ghost use Prim.Native.Nat.{_-_, _<_, _≤_};
 ghost use Rattle.record.specs.Number.{number};
-ghost use Rattle.record.specs.Read.{_needs⟨_⟩_, within};
+ghost use Rattle.record.specs.Read.{_needs⟨_⟩_, within, folded};
 ghost use Rattle.record.specs.Loop.{runs};
-ghost use Rattle.vertexset.specs.Set.{has, capacity};
+ghost use Rattle.vertexset.specs.Set.{has, inserted, capacity};
 ghost use Rattle.graph.specs.Rows.{adjacentIn};
 ghost use Rattle.certificates.specs.Tests.{allBelow};
 ghost use Rattle.certificates.specs.Records.{vertex, path};
-ghost use Rattle.paths.specs.Items.{itemRead, limited};
-ghost use Rattle.paths.specs.Paths.{pathRead, noPath};
-ghost use Rattle.paths.specs.Code.{faultPath, scanFirst, scanned, scanTold, pathLoop, pathBegun};
+ghost use Rattle.paths.specs.Items.{taken, refused, itemRead, limited};
+ghost use Rattle.paths.specs.Paths.{pathRead, noPath, verticesAt};
+ghost use Rattle.paths.specs.Code.{pathLoop, pathBegun};
 use graph::GraphTable;
+use record::Answer;
 use record::Number;
 use vertexset::VertexSet;
 
-// A number that was read and tested, with the place after it; or document 01's number for its fault, and the place.
-pub enum Item {
-    Value(u16, usize),
-    Fault(u8, usize),
+// A number of a certificate that was read and tested: accepted, with its value and the place after it; or the certificate's
+// fault, beside 0 and 0.
+pub struct Item {
+    pub answer: Answer,
+    pub value: u16,
+    pub next: usize,
+}
+
+impl Item {
+    pub fn taken(value: u16, next: usize) -> Self
+        ensures { λ r. ⌜ r ≡ taken value next ⌝ }
+    {
+        Item {
+            answer: Answer::Accepted,
+            value,
+            next,
+        }
+    }
+
+    pub fn refused(number: u8, place: usize) -> Self
+        ensures { λ r. ⌜ r ≡ refused number place ⌝ }
+    {
+        Item {
+            answer: Answer::CertificateFault(number, place),
+            value: 0,
+            next: 0,
+        }
+    }
 }
 
 // A path that was read: where reading goes on (or its fault), its two ends, whether its neighbours are adjacent, whether no
-// vertex is twice on it and all inner ones are new, its vertices in order and as a set.
+// vertex is twice on it and all inner ones are new, and how many vertices it has.
 pub struct PathRead {
     pub end: Item,
     pub first: u16,
@@ -30,16 +55,6 @@ pub struct PathRead {
     pub along: bool,
     pub new: bool,
     pub len: u16,
-    pub list: [u16; VertexSet::CAPACITY as usize],
-    pub set: VertexSet,
-}
-
-// What is known of the vertices of a path up to the one read last.
-struct Scan {
-    last: u16,
-    along: bool,
-    new: bool,
-    set: VertexSet,
 }
 
 // A number from least to most, refused 9 otherwise.
@@ -48,15 +63,15 @@ pub fn read_ranged(s: &[u8], least: u16, most: u16, at: usize) -> Item
 {
     let x = record::read_number(s, at);
     let Number::Value(v, next) = x else {
-        return Item::Fault(record::fault_number(x), record::fault_place(x));
+        return Item::refused(record::fault_number(x), record::fault_place(x));
     };
     if v < least {
-        return Item::Fault(9, at);
+        return Item::refused(9, at);
     }
     if most < v {
-        return Item::Fault(9, at);
+        return Item::refused(9, at);
     }
-    Item::Value(v, next)
+    Item::taken(v, next)
 }
 
 // A vertex below n, refused 9 otherwise.
@@ -65,91 +80,29 @@ pub fn read_vertex(s: &[u8], n: u16, at: usize) -> Item
 {
     let x = record::read_number(s, at);
     let Number::Value(v, next) = x else {
-        return Item::Fault(record::fault_number(x), record::fault_place(x));
+        return Item::refused(record::fault_number(x), record::fault_place(x));
     };
     if n <= v {
-        return Item::Fault(9, at);
+        return Item::refused(9, at);
     }
-    Item::Value(v, next)
-}
-
-impl Scan {
-    fn first(v: u16) -> Self
-        ensures { λ r. ⌜ r ≡ scanFirst v ⌝ }
-    {
-        Scan {
-            last: v,
-            along: true,
-            new: true,
-            set: VertexSet::empty().insert(v),
-        }
-    }
-
-    // The next vertex taken in; the end of a path may be old, an inner vertex may not.
-    fn taken(self, rows: &[u64; GraphTable::ROW_WORDS], old: VertexSet, end: bool, v: u16) -> Self
-        ensures { λ r. ⌜ r ≡ scanned (adjacentIn (now (rows .entry))) (has (old .words)) self end v ⌝ }
-    {
-        let set = self.set;
-        let along = self.along & graph::adjacent(rows, self.last, v);
-        let new = self.new & !set.contains(v) & (end | !old.contains(v));
-        Scan {
-            last: v,
-            along,
-            new,
-            set: set.insert(v),
-        }
-    }
-
-    // What is known once the last vertex is in.
-    fn told(
-        self,
-        first: u16,
-        len: u16,
-        list: [u16; VertexSet::CAPACITY as usize],
-        next: usize,
-    ) -> PathRead
-        ensures { λ r. ⌜ r ≡ scanTold self first len list next ⌝ }
-    {
-        let set = self.set;
-        PathRead {
-            end: Item::Value(0, next),
-            first,
-            last: self.last,
-            along: self.along,
-            new: self.new,
-            len,
-            list,
-            set,
-        }
-    }
+    Item::taken(v, next)
 }
 
 // A path that can't be read: its fault, and nothing beside it.
-fn no_path(r: u8, p: usize) -> PathRead
-    ensures { λ x. ⌜ x ≡ noPath r p ⌝ }
+fn no_path(end: Item) -> PathRead
+    ensures { λ x. ⌜ x ≡ noPath end ⌝ }
 {
     PathRead {
-        end: Item::Fault(r, p),
+        end,
         first: 0,
         last: 0,
         along: false,
         new: false,
         len: 0,
-        list: [0u16; VertexSet::CAPACITY as usize],
-        set: VertexSet::empty(),
     }
 }
 
-fn fault_path(x: Item) -> PathRead
-    ensures { λ r. ⌜ r ≡ faultPath x ⌝ }
-{
-    match x {
-        Item::Value(_, _) => no_path(0, 0),
-        Item::Fault(r, p) => no_path(r, p),
-    }
-}
-
-// The vertices of a path after its first.
+// The vertices of a path after its first. The words of their set are changed in place, so that no set is copied for a vertex.
 fn read_rest(
     s: &[u8],
     rows: &[u64; GraphTable::ROW_WORDS],
@@ -159,25 +112,40 @@ fn read_rest(
     first: u16,
     from: usize,
 ) -> PathRead
-    requires { ⌜ len ≤ capacity ⌝ }
-    ensures { λ r. ⌜ r ≡ runs (pathLoop (adjacentIn (now (rows .entry))) (has (old .words)) n len first) (len - 1) tt (pathBegun first) (now (s .entry)) from ⌝ }
+    requires { ⌜ (0 < len) × (n ≤ capacity) ⌝ }
+    ensures { λ r. ⌜ r ≡ runs (pathLoop (adjacentIn (now (rows .entry))) (has (old .words)) n first len) (len - 1) tt (pathBegun first len) (now (s .entry)) from ⌝ }
 {
-    let mut list = [0u16; VertexSet::CAPACITY as usize];
-    list[0] = first;
-    let mut scan = Scan::first(first);
+    let begun = VertexSet::empty().insert(first);
+    let mut words = begun.words;
+    let mut along = true;
+    let mut new = true;
+    let mut last = first;
     let mut at = from;
-    let mut i: u16 = 1;
-    while i < len {
+    let mut left = len - 1;
+    while 0 < left {
         let x = read_vertex(s, n, at);
-        let Item::Value(v, next) = x else {
-            return fault_path(x);
+        let a = x.answer;
+        let Answer::Accepted = a else {
+            return no_path(x);
         };
-        scan = scan.taken(rows, old, i + 1 == len, v);
-        list[i as usize] = v;
-        at = next;
-        i += 1;
+        let v = x.value;
+        let i = (v / 64) as usize;
+        let w = words[i];
+        along = along & graph::adjacent(rows, last, v);
+        new = new & ((w >> (v % 64)) % 2 == 0) & ((left == 1) | !old.contains(v));
+        words[i] = w | (1u64 << (v % 64));
+        last = v;
+        at = x.next;
+        left -= 1;
     }
-    scan.told(first, len, list, at)
+    PathRead {
+        end: Item::taken(0, at),
+        first,
+        last,
+        along,
+        new,
+        len,
+    }
 }
 
 // A path of at least as many vertices.
@@ -193,17 +161,19 @@ fn read_path(
     ensures { λ r. ⌜ r ≡ pathRead (adjacentIn (now (rows .entry))) (has (old .words)) (limited n (path n least) (now (s .entry)) at) ⌝ }
 {
     if VertexSet::CAPACITY < n {
-        return no_path(9, at);
+        return no_path(Item::refused(9, at));
     }
     let x = read_ranged(s, least, n, at);
-    let Item::Value(len, mid) = x else {
-        return fault_path(x);
+    let a = x.answer;
+    let Answer::Accepted = a else {
+        return no_path(x);
     };
-    let y = read_vertex(s, n, mid);
-    let Item::Value(first, from) = y else {
-        return fault_path(y);
+    let y = read_vertex(s, n, x.next);
+    let b = y.answer;
+    let Answer::Accepted = b else {
+        return no_path(y);
     };
-    read_rest(s, rows, n, old, len, first, from)
+    read_rest(s, rows, n, old, x.value, y.value, y.next)
 }
 
 // Every vertex below n is in the set.
@@ -244,4 +214,33 @@ pub fn read_ear_path(
     ensures { λ r. ⌜ r ≡ pathRead (adjacentIn (now (rows .entry))) (has (old .words)) (limited n (path n 3) (now (s .entry)) at) ⌝ }
 {
     read_path(s, rows, n, old, 3, at)
+}
+
+// A set with the vertices of the path that stands at a place; the set as it was where none can be read there. The path is read
+// again rather than kept.
+pub fn with_path(s: &[u8], n: u16, at: usize, set: VertexSet) -> VertexSet
+    ensures { λ r. ⌜ r ≡ folded inserted set (verticesAt n (now (s .entry)) at) ⌝ }
+{
+    let x = read_ranged(s, 2, n, at);
+    let a = x.answer;
+    let Answer::Accepted = a else {
+        return set;
+    };
+    let mut words = set.words;
+    let mut next = x.next;
+    let mut left = x.value;
+    while 0 < left {
+        let y = read_vertex(s, n, next);
+        let b = y.answer;
+        let Answer::Accepted = b else {
+            return set;
+        };
+        let v = y.value;
+        next = y.next;
+        left -= 1;
+        if v < VertexSet::CAPACITY {
+            words[(v / 64) as usize] |= 1u64 << (v % 64);
+        }
+    }
+    VertexSet { words }
 }

@@ -1,20 +1,23 @@
 -- The reader of a plan accepts exactly the records of the plans that are allowed, and gives the graph of each. Assumes nothing.
 use Prim.Native.Nat.{ℕ, _+_, _<_, _≤_}
 use mathlib.Core.List.{List, _++_}
-use mathlib.Core.Path.{_≡_, refl, ap, _∙_}
+use mathlib.Core.Path.{_≡_, refl, sym, ap, _∙_}
 use native.Mathlib.Omega.{arith}
 use lib.ListN.{length, drop}
 use Rattle.record.specs.Read.{Read, Read.Got, Read.Refused, Bytes, ended, within}
 use Rattle.record.specs.declared.Answer.the-variants.{Accepted}
-use Rattle.record.proofs.Laws.{Reads, needs-law, pair-law, counted-law, into-law, each-same, ended-there, ended-back}
+use Rattle.record.proofs.Laws.{Reads, needs-law, pair-law, counted-law, into-law, each-same, ended-got, ended-there, ended-back}
 use Rattle.record.proofs.Groups.{number-law}
 use Rattle.record.proofs.Parts.{one-value, leads-there, leads-back}
 use Rattle.reading.specs.Plan.{Plan, Allowed, proper, follows, edge, plan, planBytes}
 use Rattle.graph.specs.Limits.{minVertices, maxVertices, maxEdges}
-use Rattle.reading.specs.Code.{graphOf, planRead, wholePlan, leadingPlan}
+use Rattle.graph.specs.Rows.{bareRows}
+use Rattle.reading.specs.Code.{graphOf, planRead, wholePlan, leadingPlan, headOf, rowsLeft, byValue}
+use Rattle.reading.specs.declared.PlanHead.{PlanHead}
 use Rattle.reading.specs.declared.PlanRead.{PlanRead}
 use Rattle.record.proofs.Bounds.{within-true, true-within}
 use Rattle.reading.proofs.EdgeTests.{proper-true}
+use Rattle.reading.proofs.Reading.{rows-got}
 use Rattle.record.specs.Number.{numberLimit}
 
 pub plan-law : Reads plan planBytes Allowed
@@ -56,6 +59,27 @@ told (Refused r q) e = let z : _≡_ {A = ℕ} 0 1 = cc in absurd (omega arith)
 got : (x : Read Plan) (p : Plan) (next : ℕ) → x ≡ Got p next → planRead x ≡ record { answer = Accepted; graph = graphOf p; next = next }
 unfolding planRead
 got x p next e = rw e
+
+-- rows that were bare when they were lent are then the graph's
+got-rows : (s : List ℕ) {p : Plan} {next : ℕ} → plan s 0 ≡ Got p next → rowsLeft bareRows s ≡ graphOf p .rows
+unfolding graphOf
+got-rows s e = rows-got bareRows s e
+
+pub leading-rows : (s : List ℕ) → leadingPlan s .answer ≡ Accepted → rowsLeft bareRows s ≡ leadingPlan s .graph .rows
+leading-rows s e =
+    let t = told (plan s 0) e in
+    got-rows s (t .2) ∙ ap (λ (r : PlanRead). r .graph .rows) (sym (got (plan s 0) (t .0) (t .1) (t .2)))
+
+pub whole-rows : (s : List ℕ) → wholePlan s .answer ≡ Accepted → rowsLeft bareRows s ≡ wholePlan s .graph .rows
+whole-rows s e =
+    let t = told (ended plan s 0) e in
+    got-rows s (ended-got plan (t .2) .0) ∙ ap (λ (r : PlanRead). r .graph .rows) (sym (got (ended plan s 0) (t .0) (t .1) (t .2)))
+
+-- the plan by value from its numbers and those rows
+pub valued : (x : Read Plan) {h : PlanHead} {rows : List ℕ} → h ≡ headOf (planRead x) → (planRead x .answer ≡ Accepted → rows ≡ planRead x .graph .rows) → byValue h rows ≡ planRead x
+unfolding planRead
+valued (Got p next) {rows = rows} e f = ap (λ (h : PlanHead). byValue h rows) e ∙ rw (f refl)
+valued (Refused r p) {rows = rows} e f = ap (λ (h : PlanHead). byValue h rows) e
 
 pub accepted : (s : List ℕ) → Bytes s → wholePlan s .answer ≡ Accepted → (p : Plan) × Allowed p × (s ≡ planBytes p) × (wholePlan s .graph ≡ graphOf p)
 accepted s bytes e =

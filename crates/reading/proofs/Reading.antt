@@ -1,23 +1,26 @@
 -- Reading an edge and a plan, one statement of the code after the other. Assumes nothing.
 use Prim.Native.Nat.{ℕ, _<_, _≤_}
-use mathlib.Core.List.{List}
+use mathlib.Core.List.{List, [], _∷_}
 use mathlib.Core.Bool.{Bool, true, false, cond}
-use mathlib.Core.Path.{_≡_, refl, ap}
+use mathlib.Core.Path.{_≡_, refl, ap, _∙_}
 use native.Mathlib.Omega.{arith}
 use lib.ListN.{length}
 use lib.Dec.{ltb}
 use borrow.Author.Tests.{lt-ltb, le-ltb}
-use Rattle.record.specs.Read.{Read, Read.Got, Read.Refused, onRead, _needs⟨_⟩_, _▸_, _▹_, into, many, ended, within}
+use Rattle.record.specs.Read.{Read, Read.Got, Read.Refused, onRead, _needs⟨_⟩_, _▸_, _▹_, into, many, orKept, folded, ended, within}
 use Rattle.record.specs.Number.{number, numberAt, asRead}
 use Rattle.record.specs.Loop.{runs, finish}
 use Rattle.record.specs.declared.Number.the-variants.{Value}
-use Rattle.record.specs.declared.Answer.the-variants.{Accepted, PlanFault}
-use Rattle.record.proofs.Loops.{needs-true, many-length}
+use Rattle.record.specs.declared.Answer.{Answer}
+use Rattle.record.specs.declared.Answer.the-variants.{Accepted, Grade, PlanFault, CertificateFault}
+use Rattle.record.proofs.Faults.{NotAccepted, not-accepted}
+use Rattle.record.proofs.Laws.{on-got, carry}
+use Rattle.record.proofs.Loops.{needs-true, many-length, many-same, led-folded}
 use Rattle.reading.specs.Plan.{Plan, edge, plan, proper, follows}
 use Rattle.graph.specs.Limits.{minVertices, maxVertices, maxEdges}
-use Rattle.graph.specs.Rows.{joined, bareRows}
-use Rattle.reading.specs.Code.{graphOf, testedEdge, edgeRead, edgeLoop, refusedPlan, planRead}
-use Rattle.reading.specs.declared.PlanRead.{PlanRead}
+use Rattle.graph.specs.Rows.{joined, noGraph}
+use Rattle.reading.specs.Code.{graphOf, testedEdge, edgeRead, edgeLoop, refusedHead, planRead, headOf, edgeAfter, edgeJoined, edgesIn, rowsLeft, tableOf}
+use Rattle.reading.specs.declared.PlanHead.{PlanHead}
 use Rattle.reading.specs.declared.Edge.{Edge}
 use Rattle.reading.specs.declared.Edge.the-variants.{Joins, Fault}
 use Rattle.reading.proofs.EdgeTests.{proper-true}
@@ -83,7 +86,7 @@ module _ (s : List ℕ) where
     plan-many g h = rw (← e, f, ← g, h)
 
     pub plan-edges : {m at : ℕ} → Value m at ≡ numberAt s mid → within 0 maxEdges m ≡ true
-        → runs (edgeLoop n m) m (0, 0) bareRows s at ≡ planRead (plan s 0)
+        → runs (edgeLoop n m) m (0, 0) tt s at ≡ headOf (planRead (plan s 0))
     unfolding plan number _needs⟨_⟩_ _▸_ _▹_ into runs planRead graphOf
     plan-edges {m} {at} g h = rw (← e, f, ← g, h) (go (many (edge n) (λ before e. e) m (0, 0) s at) refl)
       where
@@ -91,39 +94,97 @@ module _ (s : List ℕ) where
         paired l next = Got (n, l) next
 
         go : (x : Read (List (ℕ × ℕ))) → many (edge n) (λ before e. e) m (0, 0) s at ≡ x
-            → finish joined (edgeLoop n m .ok) refusedPlan bareRows x
-            ≡ planRead (onRead (onRead x paired) (λ p next. Got (record { n = p .0; edges = p .1 }) next))
+            → finish (edgeLoop n m .step) (edgeLoop n m .ok) refusedHead tt x
+            ≡ headOf (planRead (onRead (onRead x paired) (λ p next. Got (record { n = p .0; edges = p .1 }) next)))
         go (Got l next) k = rw (many-length (edge n) (λ before e. e) m (0, 0) s at k)
         go (Refused r p) k = refl
 
+-- what each of these statements leaves of the rows
+module _ (rows s : List ℕ) where
+  pub rows-first : {r p : ℕ} → asRead (numberAt s 0) ≡ Refused r p → rows ≡ rowsLeft rows s
+  unfolding rowsLeft number _needs⟨_⟩_
+  rows-first e = rw e
+
+  pub rows-range : {n mid : ℕ} → Value n mid ≡ numberAt s 0 → within minVertices maxVertices n ≡ false → rows ≡ rowsLeft rows s
+  unfolding rowsLeft number _needs⟨_⟩_
+  rows-range e f = rw (← e, f)
+
+  module _ {n mid : ℕ} (e : Value n mid ≡ numberAt s 0) (f : within minVertices maxVertices n ≡ true) where
+    pub rows-second : {r p : ℕ} → asRead (numberAt s mid) ≡ Refused r p → rows ≡ rowsLeft rows s
+    unfolding rowsLeft number _needs⟨_⟩_
+    rows-second g = rw (← e, f, g)
+
+    pub rows-many : {m at : ℕ} → Value m at ≡ numberAt s mid → within 0 maxEdges m ≡ false → rows ≡ rowsLeft rows s
+    unfolding rowsLeft number _needs⟨_⟩_
+    rows-many g h = rw (← e, f, ← g, h)
+
+    pub rows-edges : {m at : ℕ} → Value m at ≡ numberAt s mid → within 0 maxEdges m ≡ true → edgesIn n m rows s at ≡ rowsLeft rows s
+    unfolding rowsLeft number _needs⟨_⟩_
+    rows-edges g h = rw (← e, f, ← g, h)
+
+folded-rows : (before : ℕ × ℕ) (rows : List ℕ) (es : List (ℕ × ℕ)) → folded edgeJoined (before, rows) es .1 ≡ folded joined rows es
+unfolding folded
+folded-rows before rows [] = refl
+folded-rows before rows (e ∷ es) = folded-rows e (joined rows e) es
+
+edges-got : (n m : ℕ) (rows s : List ℕ) (at : ℕ) {l : List (ℕ × ℕ)} {next : ℕ} → many (edge n) (λ before e. e) m (0, 0) s at ≡ Got l next → edgesIn n m rows s at ≡ folded joined rows l
+unfolding edgesIn
+edges-got n m rows s at {l} e =
+    let k : many (edgeAfter n) edgeJoined m ((0, 0), rows) s at ≡ many (edge n) (λ before e. e) m (0, 0) s at =
+    many-same (λ st before. st .0 ≡ before) (edgeAfter n) edgeJoined (edge n) (λ before e. e) (λ st u r s at. rw r) (λ st u r s at a mid e. refl) m ((0, 0), rows) (0, 0) refl s at
+    in
+    ap (λ (st : (ℕ × ℕ) × List ℕ). st .1) (led-folded (edgeAfter n) edgeJoined m ((0, 0), rows) s at (k ∙ e)) ∙ folded-rows (0, 0) rows l
+
+-- where the plan is read, all its edges are joined
+pub rows-got : (rows s : List ℕ) {p : Plan} {next : ℕ} → plan s 0 ≡ Got p next → rowsLeft rows s ≡ folded joined rows (p .edges)
+unfolding rowsLeft plan into _▸_ _▹_
+rows-got rows s {p} {next} e =
+    let a = on-got _ _ e in
+    let b = on-got ((number needs⟨ 3 ⟩ within minVertices maxVertices) s 0) _ (a .2) in
+    let c = on-got _ _ (b .3) in
+    let d = on-got ((number needs⟨ 4 ⟩ within 0 maxEdges) s (b .1)) _ (c .2) in
+    let k : rowsLeft rows s ≡ folded joined rows (c .0) =
+    ap (λ (x : Read ℕ). orKept x (λ n mid. orKept ((number needs⟨ 4 ⟩ within 0 maxEdges) s mid) (λ m at. edgesIn n m rows s at) rows) rows) (b .2)
+    ∙ ap (λ (x : Read ℕ). orKept x (λ m at. edgesIn (b .0) m rows s at) rows) (d .2)
+    ∙ edges-got (b .0) (d .0) rows s (d .1) (d .3)
+    in
+    carry (λ p n. rowsLeft rows s ≡ folded joined rows (p .edges)) (a .3) (carry (λ (x : ℕ × List (ℕ × ℕ)) n. rowsLeft rows s ≡ folded joined rows (x .1)) (c .3) k)
+
 -- a whole record, from what was read up to the last edge
-module _ (s : List ℕ) {r : PlanRead} (e : r ≡ planRead (plan s 0)) where
-  pub whole-more : r .answer ≡ Accepted → r .next < length s → refusedPlan 7 (r .next) ≡ planRead (ended plan s 0)
+module _ (s : List ℕ) {r : PlanHead} (e : r ≡ headOf (planRead (plan s 0))) where
+  pub whole-more : r .answer ≡ Accepted → r .next < length s → refusedHead 7 (r .next) ≡ headOf (planRead (ended plan s 0))
   unfolding ended planRead
   whole-more f h = go (plan s 0) e
     where
-      go : (x : Read Plan) → r ≡ planRead x → refusedPlan 7 (r .next) ≡ planRead (onRead x (λ v next. cond (ltb next (length s)) (Refused 7 next) (Got v next)))
+      go : (x : Read Plan) → r ≡ headOf (planRead x) → refusedHead 7 (r .next) ≡ headOf (planRead (onRead x (λ v next. cond (ltb next (length s)) (Refused 7 next) (Got v next))))
       go (Got p next) e =
-          let n : r .next ≡ next = ap (λ (q : PlanRead). q .next) e in
+          let n : r .next ≡ next = ap (λ (q : PlanHead). q .next) e in
           let l : next < length s = omega arith in
           rw (lt-ltb next (length s) l, n)
-      go (Refused q p) e = let a : r .answer ≡ PlanFault q p = ap (λ (q : PlanRead). q .answer) e in let z : _≡_ {A = ℕ} 0 1 = cc in absurd (omega arith)
+      go (Refused q p) e = let a : r .answer ≡ PlanFault q p = ap (λ (q : PlanHead). q .answer) e in let z : _≡_ {A = ℕ} 0 1 = cc in absurd (omega arith)
 
-  pub whole-done : r .answer ≡ Accepted → length s ≤ r .next → r ≡ planRead (ended plan s 0)
+  pub whole-done : r .answer ≡ Accepted → length s ≤ r .next → r ≡ headOf (planRead (ended plan s 0))
   unfolding ended planRead
   whole-done f h = go (plan s 0) e
     where
-      go : (x : Read Plan) → r ≡ planRead x → r ≡ planRead (onRead x (λ v next. cond (ltb next (length s)) (Refused 7 next) (Got v next)))
+      go : (x : Read Plan) → r ≡ headOf (planRead x) → r ≡ headOf (planRead (onRead x (λ v next. cond (ltb next (length s)) (Refused 7 next) (Got v next))))
       go (Got p next) e =
-          let n : r .next ≡ next = ap (λ (q : PlanRead). q .next) e in
+          let n : r .next ≡ next = ap (λ (q : PlanHead). q .next) e in
           let l : length s ≤ next = omega arith in
           rw (le-ltb next (length s) l) e
       go (Refused q p) e = e
 
-  pub whole-fault : (r .answer ≡ Accepted → ⊥) → r ≡ planRead (ended plan s 0)
+  pub whole-fault : (r .answer ≡ Accepted → ⊥) → r ≡ headOf (planRead (ended plan s 0))
   unfolding ended planRead
   whole-fault f = go (plan s 0) e
     where
-      go : (x : Read Plan) → r ≡ planRead x → r ≡ planRead (onRead x (λ v next. cond (ltb next (length s)) (Refused 7 next) (Got v next)))
-      go (Got p next) e = absurd (f (ap (λ (q : PlanRead). q .answer) e))
+      go : (x : Read Plan) → r ≡ headOf (planRead x) → r ≡ headOf (planRead (onRead x (λ v next. cond (ltb next (length s)) (Refused 7 next) (Got v next))))
+      go (Got p next) e = absurd (f (ap (λ (q : PlanHead). q .answer) e))
       go (Refused q p) e = e
+
+-- a plan that was refused has no graph
+pub no-table : (a : Answer) (n m : ℕ) (rows : List ℕ) → NotAccepted a → noGraph ≡ tableOf a n m rows
+no-table Accepted n m rows k = absurd (not-accepted Accepted k refl)
+no-table (Grade g) n m rows k = refl
+no-table (PlanFault r p) n m rows k = refl
+no-table (CertificateFault r p) n m rows k = refl

@@ -1,11 +1,10 @@
-// The plan record, read into a graph by value.
+// The plan record, read into lent rows or into a graph by value.
 ghost use mathlib.Core.Path.{_≡_};
 ghost use Prim.Native.Nat.{_≤_};
 ghost use Rattle.record.specs.Loop.{runs};
 ghost use Rattle.vertexset.specs.Set.{capacity};
-ghost use Rattle.graph.specs.Rows.{bareRows};
 ghost use Rattle.reading.specs.Plan.{edge};
-ghost use Rattle.reading.specs.Code.{wholePlan, leadingPlan, edgeRead, testedEdge, edgeFault, refusedPlan, edgeLoop};
+ghost use Rattle.reading.specs.Code.{wholePlan, leadingPlan, headOf, rowsLeft, byValue, edgeRead, testedEdge, edgeFault, refusedHead, edgeLoop, edgesIn};
 use graph::GraphTable;
 use record::Answer;
 use record::Number;
@@ -14,6 +13,14 @@ use record::Number;
 pub struct PlanRead {
     pub answer: Answer,
     pub graph: GraphTable,
+    pub next: usize,
+}
+
+// The numbers of an accepted plan and the place after its last edge; or the plan's fault, beside zeros.
+pub struct PlanHead {
+    pub answer: Answer,
+    pub n: u16,
+    pub m: u16,
     pub next: usize,
 }
 
@@ -58,17 +65,18 @@ fn read_edge(s: &[u8], n: u16, lower: u16, higher: u16, at: usize) -> Edge
     tested_edge(n, lower, higher, at, u, v, next)
 }
 
-fn refused(r: u8, p: usize) -> PlanRead
-    ensures { λ x. ⌜ x ≡ refusedPlan r p ⌝ }
+fn refused(r: u8, p: usize) -> PlanHead
+    ensures { λ x. ⌜ x ≡ refusedHead r p ⌝ }
 {
-    PlanRead {
+    PlanHead {
         answer: Answer::PlanFault(r, p),
-        graph: GraphTable::none(),
+        n: 0,
+        m: 0,
         next: 0,
     }
 }
 
-fn edge_fault(x: Edge) -> PlanRead
+fn edge_fault(x: Edge) -> PlanHead
     ensures { λ r. ⌜ r ≡ edgeFault x ⌝ }
 {
     match x {
@@ -77,11 +85,18 @@ fn edge_fault(x: Edge) -> PlanRead
     }
 }
 
-fn read_edges(s: &[u8], n: u16, m: u16, from: usize) -> PlanRead
+// The edges of a plan, joined in the rows as they come.
+fn read_edges<'a>(
+    s: &'a [u8],
+    n: u16,
+    m: u16,
+    from: usize,
+    rows: &'a mut [u64; GraphTable::ROW_WORDS],
+) -> PlanHead
     requires { ⌜ n ≤ capacity ⌝ }
-    ensures { λ r. ⌜ r ≡ runs (edgeLoop n m) m (0, 0) bareRows (now (s .entry)) from ⌝ }
+    ensures { λ r. ⌜ r ≡ runs (edgeLoop n m) m (0, 0) tt (now (s .entry)) from ⌝ }
+    ensures { λ r. ⌜ now (rows .exit) ≡ edgesIn n m (now (rows .entry)) (now (s .entry)) from ⌝ }
 {
-    let mut rows = [0u64; GraphTable::ROW_WORDS];
     let mut at = from;
     let mut lower: u16 = 0;
     let mut higher: u16 = 0;
@@ -91,22 +106,25 @@ fn read_edges(s: &[u8], n: u16, m: u16, from: usize) -> PlanRead
         let Edge::Joins(u, v, next) = x else {
             return edge_fault(x);
         };
-        graph::join(&mut rows, u, v);
+        graph::join(rows, u, v);
         lower = u;
         higher = v;
         at = next;
         left -= 1;
     }
-    PlanRead {
+    PlanHead {
         answer: Answer::Accepted,
-        graph: GraphTable { n, m, rows },
+        n,
+        m,
         next: at,
     }
 }
 
-// A plan at the start of s, up to its last edge, whatever follows.
-pub fn read_leading_plan(s: &[u8]) -> PlanRead
-    ensures { λ r. ⌜ r ≡ leadingPlan (now (s .entry)) ⌝ }
+// A plan at the start of s, up to its last edge, whatever follows. Its edges are joined in the rows as they come, so those before
+// a fault stay in them.
+pub fn read_leading_rows<'a>(s: &'a [u8], rows: &'a mut [u64; GraphTable::ROW_WORDS]) -> PlanHead
+    ensures { λ r. ⌜ r ≡ headOf (leadingPlan (now (s .entry))) ⌝ }
+    ensures { λ r. ⌜ now (rows .exit) ≡ rowsLeft (now (rows .entry)) (now (s .entry)) ⌝ }
 {
     let x = record::read_number(s, 0);
     let Number::Value(n, m_at) = x else {
@@ -125,25 +143,62 @@ pub fn read_leading_plan(s: &[u8]) -> PlanRead
     if GraphTable::MAX_EDGES < m {
         return refused(4, m_at);
     }
-    read_edges(s, n, m, at)
+    read_edges(s, n, m, at, rows)
 }
 
 // A whole plan record: a byte after its last edge is refused.
+pub fn read_plan_rows<'a>(s: &'a [u8], rows: &'a mut [u64; GraphTable::ROW_WORDS]) -> PlanHead
+    ensures { λ r. ⌜ r ≡ headOf (wholePlan (now (s .entry))) ⌝ }
+    ensures { λ r. ⌜ now (rows .exit) ≡ rowsLeft (now (rows .entry)) (now (s .entry)) ⌝ }
+{
+    let head = read_leading_rows(s, rows);
+    let answer = head.answer;
+    let next = head.next;
+    let Answer::Accepted = answer else {
+        return head;
+    };
+    if next < s.len() {
+        return refused(7, next);
+    }
+    head
+}
+
+// What was read into rows that were bare, with its graph by value.
+fn by_value(head: PlanHead, rows: [u64; GraphTable::ROW_WORDS]) -> PlanRead
+    ensures { λ r. ⌜ r ≡ byValue head rows ⌝ }
+{
+    let answer = head.answer;
+    let Answer::Accepted = answer else {
+        return PlanRead {
+            answer,
+            graph: GraphTable::none(),
+            next: head.next,
+        };
+    };
+    let graph = GraphTable {
+        n: head.n,
+        m: head.m,
+        rows,
+    };
+    PlanRead {
+        answer,
+        graph,
+        next: head.next,
+    }
+}
+
+pub fn read_leading_plan(s: &[u8]) -> PlanRead
+    ensures { λ r. ⌜ r ≡ leadingPlan (now (s .entry)) ⌝ }
+{
+    let mut rows = [0u64; GraphTable::ROW_WORDS];
+    let head = read_leading_rows(s, &mut rows);
+    by_value(head, rows)
+}
+
 pub fn read_plan(s: &[u8]) -> PlanRead
     ensures { λ r. ⌜ r ≡ wholePlan (now (s .entry)) ⌝ }
 {
-    let r = read_leading_plan(s);
-    let a = r.answer;
-    let next = r.next;
-    match a {
-        Answer::Accepted => {
-            if next < s.len() {
-                return refused(7, next);
-            }
-            r
-        }
-        Answer::Grade(_) => r,
-        Answer::PlanFault(_, _) => r,
-        Answer::CertificateFault(_, _) => r,
-    }
+    let mut rows = [0u64; GraphTable::ROW_WORDS];
+    let head = read_plan_rows(s, &mut rows);
+    by_value(head, rows)
 }

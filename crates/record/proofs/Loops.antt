@@ -5,7 +5,7 @@ use mathlib.Core.Bool.{Bool, true, false, cond}
 use mathlib.Core.Path.{_≡_, refl, sym, ap, _∙_}
 use native.Mathlib.Omega.{arith}
 use lib.ListN.{length}
-use Rattle.record.specs.Read.{Read, Read.Got, Read.Refused, Reader, onRead, _needs⟨_⟩_, _▸_, _▹_, many, folded}
+use Rattle.record.specs.Read.{Read, Read.Got, Read.Refused, Reader, onRead, _needs⟨_⟩_, _▸_, _▹_, many, orKept, led, folded}
 use Rattle.record.specs.Loop.{Loop, runs, finish}
 use Rattle.record.proofs.Laws.{on-got, test-got, carry}
 
@@ -35,6 +35,33 @@ module _ {S A T R : Type 0} (L : Loop S A T R) where
   unfolding runs many folded
   turn-done s zero h st t at = refl
   turn-done s (suc k) h st t at = absurd (omega arith)
+
+-- what one turn of a loop does to the state that it leaves, and what that is after the last item
+module _ {S A : Type 0} (item : S → Reader A) (after : S → A → S) where
+  pub led-go : (s : List ℕ) (k : ℕ) → 0 < k → (st : S) {st′ : S} {at next : ℕ} {a : A} → item st s at ≡ Got a next → st′ ≡ after st a
+      → led item after (k - 1) st′ s next ≡ led item after k st s at
+  unfolding led
+  led-go s zero h st e f = absurd (omega arith)
+  led-go s (suc k) h st e f = let z : suc k - 1 ≡ k = omega arith in rw (e, z, f)
+
+  pub led-stop : (s : List ℕ) (k : ℕ) (st : S) (at : ℕ) {r p : ℕ} → item st s at ≡ Refused r p → st ≡ led item after k st s at
+  unfolding led
+  led-stop s zero st at e = refl
+  led-stop s (suc k) st at e = rw e
+
+  pub led-done : (s : List ℕ) (k : ℕ) → k ≤ 0 → (st : S) (at : ℕ) → st ≡ led item after k st s at
+  unfolding led
+  led-done s zero h st at = refl
+  led-done s (suc k) h st at = absurd (omega arith)
+
+  pub led-folded : (k : ℕ) (st : S) (s : List ℕ) (at : ℕ) {l : List A} {next : ℕ} → many item after k st s at ≡ Got l next → led item after k st s at ≡ folded after st l
+  unfolding many led folded
+  led-folded zero st s at e = carry (λ l n. st ≡ folded after st l) e refl
+  led-folded (suc k) st s at e =
+      let g = on-got (item st s at) _ e in
+      let q = on-got (many item after k (after st (g .0)) s (g .1)) _ (g .3) in
+      let one : led item after (suc k) st s at ≡ led item after k (after st (g .0)) s (g .1) = ap (λ (x : Read A). orKept x (λ a mid. led item after k (after st a) s mid) st) (g .2) in
+      carry (λ l n. led item after (suc k) st s at ≡ folded after st l) (q .3) (one ∙ led-folded k (after st (g .0)) s (g .1) (q .2))
 
 -- a test that was passed
 pub needs-true : {A : Type 0} (R : Reader A) (r : ℕ) (ok : A → Bool) {s : List ℕ} {at next : ℕ} {v : A} → (R needs⟨ r ⟩ ok) s at ≡ Got v next → (R s at ≡ Got v next) × (ok v ≡ true)

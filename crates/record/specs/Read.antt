@@ -39,6 +39,16 @@ many item after zero st s at = Got [] at
 many item after (suc k) st s at =
     onRead (item st s at) (λ a mid. onRead (many item after k (after st a) s mid) (λ l next. Got (a ∷ l) next))
 
+-- what comes after a value, or what a refusal keeps
+abbrev pub orKept : {A B : Type 0} → Read A → (A → ℕ → B) → B → B
+orKept (Got v next) f kept = f v next
+orKept (Refused r p) f kept = kept
+
+-- the state that the items before a fault, or all of them, have led to
+unfoldable pub led : {S A : Type 0} → (S → Reader A) → (S → A → S) → ℕ → S → List ℕ → ℕ → S
+led item after zero st s at = st
+led item after (suc k) st s at = orKept (item st s at) (λ a mid. led item after k (after st a) s mid) st
+
 -- a count, then that many items
 abbrev pub counted : {S A : Type 0} → Reader ℕ → (S → Reader A) → (S → A → S) → S → Reader (List A)
 counted count item after st = count ▹ λ k. many item after k st

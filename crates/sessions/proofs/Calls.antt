@@ -3,54 +3,42 @@ use Prim.Native.Nat.{ℕ, _+_, _-_, _<_, _≤_}
 use mathlib.Core.List.{List, [], _∷_}
 use mathlib.Core.Bool.{true, false, cond, and-false}
 use mathlib.Core.Path.{_≡_, refl, sym, ap, _∙_}
-use mathlib.Core.Logic.{inl, inr, _≢_}
+use mathlib.Core.Logic.{_≢_}
 use native.Mathlib.Omega.{arith}
-use types.Run.{OneOf}
-use denote.Enum.Declared.{tagOf}
 use lib.Dec.{ltb}
 use lib.ListN.{length, take, drop, length-drop, drop-of-length-le}
 use lib.Seq.{take-all}
 use borrow.Author.Tests.{lt-ltb, le-ltb, eq-eqb, ne-eqb}
-use Rattle.record.proofs.Answer.{the-type}
+use Rattle.record.proofs.Faults.{NotAccepted, not-accepted}
 use Rattle.record.specs.Read.{Read, Read.Got, Read.Refused, ended}
-use Rattle.record.specs.declared.Answer.{Answer}
 use Rattle.record.specs.declared.Answer.the-variants.{Accepted, Grade, PlanFault, CertificateFault}
 use Rattle.vertexset.specs.Set.{has, emptySet}
 use Rattle.reading.specs.Plan.{Plan, plan}
 use Rattle.reading.specs.Code.{graphOf, planRead}
 use Rattle.reading.specs.declared.PlanRead.{PlanRead}
 use Rattle.certificates.specs.Tests.{allBelow}
-use Rattle.graph.specs.Rows.{rowsGraph}
-use Rattle.paths.specs.Items.{limited}
-use Rattle.paths.specs.declared.Item.the-variants.{Value, Fault}
+use Rattle.graph.specs.Rows.{rowsGraph, bareRows}
+use Rattle.paths.specs.Items.{limited, endRead}
+use Rattle.paths.specs.declared.Item.{Item}
 use Rattle.paths.proofs.Told.{end-told, end-fault}
 use Rattle.build.specs.declared.Build.{Build}
 use Rattle.build.specs.declared.Taken.{Taken}
-use Rattle.build.specs.declared.Started.{Started}
 use Rattle.sessions.specs.declared.Session.{Session}
 use Rattle.sessions.specs.declared.Opened.{Opened}
 use Rattle.sessions.specs.declared.Stepped.{Stepped}
-use Rattle.build.specs.State.{bareBuild, buildStart, buildPath, pathTaken}
-use Rattle.build.specs.Code.{startRead, buildIn, onPathRead, Leaves}
+use Rattle.build.specs.State.{bareBuild, barePointers, buildStart, buildPath, pathTaken}
+use Rattle.build.specs.Code.{startLeft, buildIn, onPathRead, Leaves}
 use Rattle.sessions.specs.Session.{noSession, openedOn, onOpening, opening, refusedStep, unreadStep, onStart, startStep, pathCount, onPath, dueStep, pathStep, closing}
-use Rattle.build.proofs.Starts.{started-fault, started-told}
+use Rattle.build.proofs.Starts.{started-told}
 
 -- opening
 module _ (s : List ℕ) {x : PlanRead} (e : x ≡ planRead (ended plan s 0)) where
-  pub open-refused : {session : Session} → OneOf (1 ∷ 2 ∷ 3 ∷ []) (tagOf the-type (x .answer)) → session ≡ noSession → _≡_ {A = Opened} (record { answer = x .answer; session = session }) (opening s)
+  pub open-refused : {session : Session} → NotAccepted (x .answer) → session ≡ noSession → _≡_ {A = Opened} (record { answer = x .answer; session = session }) (opening s)
   unfolding planRead opening
   open-refused {session} k f = go (ended plan s 0) e
     where
       go : (y : Read Plan) → x ≡ planRead y → record { answer = x .answer; session = session } ≡ onOpening y
-      go (Got p next) d = let a : x .answer ≡ Accepted = ap (λ (z : PlanRead). z .answer) d in absurd (not-accepted (x .answer) k a)
-        where
-          not-accepted : (a : Answer) → OneOf (1 ∷ 2 ∷ 3 ∷ []) (tagOf the-type a) → a ≡ Accepted → ⊥
-          not-accepted Accepted (inl i) j = omega arith
-          not-accepted Accepted (inr (inl i)) j = omega arith
-          not-accepted Accepted (inr (inr i)) j = omega arith
-          not-accepted (Grade g) i j = let z : _≡_ {A = ℕ} 0 1 = cc in omega arith
-          not-accepted (PlanFault r p) i j = let z : _≡_ {A = ℕ} 0 1 = cc in omega arith
-          not-accepted (CertificateFault r p) i j = let z : _≡_ {A = ℕ} 0 1 = cc in omega arith
+      go (Got p next) d = absurd (not-accepted (x .answer) k (ap (λ (z : PlanRead). z .answer) d))
       go (Refused r p) d = let a : x .answer ≡ PlanFault r p = ap (λ (z : PlanRead). z .answer) d in rw (a, f)
 
   opened : x .answer ≡ Accepted → (p : Plan) × ((x .graph ≡ graphOf p) × (opening s ≡ cond (ltb (graphOf p .m) (graphOf p .n + 2)) (record { answer = PlanFault 29 0; session = noSession }) (record { answer = Accepted; session = openedOn (graphOf p) })))
@@ -78,18 +66,21 @@ module _ (s : Session) (part : List ℕ) where
   unfolding startStep
   start-closed e = rw e
 
-  module _ (e : s .ready ≡ true) {x : Started} (f : x ≡ startRead (limited (s .graph .n) (buildStart (rowsGraph (s .graph .n) (s .graph .rows))) part 0)) where
+  module _ (e : s .ready ≡ true) {x : Taken} {pointers linked : List ℕ} (f : x .end ≡ endRead (limited (s .graph .n) (buildStart (rowsGraph (s .graph .n) (s .graph .rows))) part 0))
+      (h : buildIn (x .sets) pointers linked ≡ startLeft barePointers bareRows (rowsGraph (s .graph .n) (s .graph .rows)) part 0) where
     start-open : startStep s part ≡ onStart s (limited (s .graph .n) (buildStart (rowsGraph (s .graph .n) (s .graph .rows))) part 0)
     unfolding startStep
     start-open = rw e
 
-    pub start-refused : {q p : ℕ} → x .end ≡ Fault q p → unreadStep s (x .end) ≡ startStep s part
-    start-refused d = ap (unreadStep s) d ∙ sym (start-open ∙ ap (onStart s) (started-fault (s .graph .n) (s .graph .rows) part 0 f d))
+    pub start-refused : NotAccepted (x .end .answer) → unreadStep s (x .end .answer) ≡ startStep s part
+    start-refused d =
+        let t = end-fault (limited (s .graph .n) (buildStart (rowsGraph (s .graph .n) (s .graph .rows))) part 0) d f in
+        ap (λ (y : Item). unreadStep s (y .answer)) (t .3) ∙ sym (start-open ∙ ap (onStart s) (t .2))
 
-    pub start-accepted : {v next : ℕ} → x .end ≡ Value v next
-        → _≡_ {A = Stepped} (record { session = record { graph = s .graph; ready = false; started = true; taken = 0; build = x .build }; answer = Accepted; read = next }) (startStep s part)
+    pub start-accepted : x .end .answer ≡ Accepted
+        → _≡_ {A = Stepped} (record { session = record { graph = s .graph; ready = false; started = true; taken = 0; build = buildIn (x .sets) pointers linked }; answer = Accepted; read = x .end .next }) (startStep s part)
     start-accepted d =
-        let t = started-told (s .graph .n) (s .graph .rows) part 0 f d in
+        let t = started-told (s .graph .n) (s .graph .rows) part 0 f h d in
         rw (t .1 .1) (sym (start-open ∙ ap (onStart s) (t .1 .0)))
 
 -- a path
@@ -108,15 +99,17 @@ module _ (s : Session) (part : List ℕ) where
 
   module _ {r : Taken} {pointers linked : List ℕ}
       (f : Leaves (s .graph .n) (buildPath (rowsGraph (s .graph .n) (s .graph .rows))) pathTaken (s .build) part 0 r pointers linked) where
-    pub due-refused : {q p : ℕ} → r .end ≡ Fault q p → unreadStep s (r .end) ≡ dueStep s part
-    due-refused d = ap (unreadStep s) d ∙ sym (ap (onPath s) (end-fault _ d (f .end)))
+    pub due-refused : NotAccepted (r .end .answer) → unreadStep s (r .end .answer) ≡ dueStep s part
+    due-refused d =
+        let t = end-fault (limited (s .graph .n) (buildPath (rowsGraph (s .graph .n) (s .graph .rows)) (s .build)) part 0) d (f .end) in
+        ap (λ (y : Item). unreadStep s (y .answer)) (t .3) ∙ sym (ap (onPath s) (t .2))
 
-    pub due-accepted : {v next : ℕ} {b : Build} → r .end ≡ Value v next → b ≡ buildIn (r .sets) pointers linked
-        → _≡_ {A = Stepped} (record { session = record { graph = s .graph; ready = s .ready; started = s .started; taken = s .taken + 1; build = b }; answer = Accepted; read = next }) (dueStep s part)
+    pub due-accepted : {b : Build} → r .end .answer ≡ Accepted → b ≡ buildIn (r .sets) pointers linked
+        → _≡_ {A = Stepped} (record { session = record { graph = s .graph; ready = s .ready; started = s .started; taken = s .taken + 1; build = b }; answer = Accepted; read = r .end .next }) (dueStep s part)
     unfolding onPathRead
-    due-accepted {v} {next} d k =
+    due-accepted d k =
         let t = end-told (limited (s .graph .n) (buildPath (rowsGraph (s .graph .n) (s .graph .rows)) (s .build)) part 0) d (f .end) in
-        ap (λ (y : Build). with-build y next) (k ∙ f .build ∙ ap (onPathRead pathTaken (s .build)) (t .1)) ∙ sym (ap (onPath s) (t .1))
+        ap (λ (y : Build). with-build y (r .end .next)) (k ∙ f .build ∙ ap (onPathRead pathTaken (s .build)) (t .1)) ∙ sym (ap (onPath s) (t .1))
       where
         with-build : Build → ℕ → Stepped
         with-build y next = record { session = record { graph = s .graph; ready = s .ready; started = s .started; taken = s .taken + 1; build = y }; answer = Accepted; read = next }

@@ -16,8 +16,6 @@ use Rattle.connectivity.specs.Path.{Path}
 use Rattle.connectivity.specs.Build.{furtherCount}
 use Rattle.certificates.specs.Tests.{allBelow}
 use Rattle.paths.specs.Items.{limited}
-use Rattle.paths.specs.declared.Item.{Item}
-use Rattle.paths.specs.declared.Item.the-variants.{Value, Fault}
 use Rattle.sessions.specs.declared.Session.{Session}
 use Rattle.sessions.specs.declared.Opened.{Opened}
 use Rattle.sessions.specs.declared.Stepped.{Stepped}
@@ -43,10 +41,9 @@ opening s = onOpening (ended plan s 0)
 abbrev pub refusedStep : Session → ℕ → ℕ → Stepped
 refusedStep s r p = record { session = s; answer = CertificateFault r p; read = 0 }
 
--- the same for a fault that was read
-abbrev pub unreadStep : Session → Item → Stepped
-unreadStep s (Value v next) = refusedStep s 0 0
-unreadStep s (Fault r p) = refusedStep s r p
+-- the same with the answer of a reader
+abbrev pub unreadStep : Session → Answer → Stepped
+unreadStep s a = record { session = s; answer = a; read = 0 }
 
 -- a start: number 31 before reading
 abbrev pub onStart : Session → Read ((ℕ × (ℕ × (ℕ × ℕ))) × List Path) → Stepped

@@ -5,7 +5,7 @@ ghost use lib.ListN.{drop};
 ghost use Rattle.sessions.specs.Session.{noSession, opening, refusedStep, unreadStep, startStep, pathCount, dueStep, pathStep, closing, closeStep, startRest, pathRest};
 use build::Build;
 use graph::GraphTable;
-use paths::Item;
+use links::Link;
 use record::Answer;
 use vertexset::VertexSet;
 
@@ -57,12 +57,14 @@ impl Session {
         }
     }
 
-    fn unread(self, end: Item) -> Stepped
-        ensures { λ x. ⌜ x ≡ unreadStep self end ⌝ }
+    // The same with the answer of a reader.
+    fn unread(self, answer: Answer) -> Stepped
+        ensures { λ x. ⌜ x ≡ unreadStep self answer ⌝ }
     {
-        match end {
-            Item::Value(_, _) => self.refused(0, 0),
-            Item::Fault(r, p) => self.refused(r, p),
+        Stepped {
+            session: self,
+            answer,
+            read: 0,
         }
     }
 
@@ -75,12 +77,20 @@ impl Session {
             return self.refused(31, 0);
         }
         let graph = self.graph;
-        let x = build::read_start(part, &graph.rows, graph.n, 0);
+        let mut pointers = [0u16; Link::POINTERS];
+        let mut linked = [0u64; GraphTable::ROW_WORDS];
+        let x = build::read_start(part, &graph.rows, graph.n, 0, &mut pointers, &mut linked);
         let end = x.end;
-        let Item::Value(_, next) = end else {
-            return self.unread(end);
+        let answer = end.answer;
+        let Answer::Accepted = answer else {
+            return self.unread(answer);
         };
-        let build = x.build;
+        let sets = x.sets;
+        let build = Build {
+            sets,
+            pointers,
+            linked,
+        };
         let session = Session {
             graph,
             ready: false,
@@ -91,7 +101,7 @@ impl Session {
         Stepped {
             session,
             answer: Answer::Accepted,
-            read: next,
+            read: end.next,
         }
     }
 
@@ -129,8 +139,9 @@ impl Session {
             &mut linked,
         );
         let end = x.end;
-        let Item::Value(_, next) = end else {
-            return self.unread(end);
+        let answer = end.answer;
+        let Answer::Accepted = answer else {
+            return self.unread(answer);
         };
         self.taken += 1;
         let sets = x.sets;
@@ -143,7 +154,7 @@ impl Session {
         Stepped {
             session: self,
             answer: Answer::Accepted,
-            read: next,
+            read: end.next,
         }
     }
 

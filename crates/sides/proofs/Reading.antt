@@ -10,6 +10,7 @@ use Rattle.record.specs.Read.{Read, Read.Got, Read.Refused, Reader, onRead, _ne
 use Rattle.record.specs.Number.{number}
 use Rattle.record.specs.Loop.{runs, finish}
 use Rattle.record.proofs.Laws.{on-got, carry}
+use Rattle.record.proofs.Faults.{NotAccepted, not-accepted}
 use Rattle.record.proofs.Loops.{All, many-all, needs-true, leads-bad, leads-got}
 use Rattle.vertexset.specs.Set.{has, emptySet, inserted, wordCount, capacity}
 use Rattle.connectivity.specs.Lists.{member}
@@ -17,11 +18,11 @@ use Rattle.connectivity.specs.Graph.{Graph}
 use Rattle.connectivity.specs.Certificate.{Certificate.tree}
 use Rattle.certificates.specs.Tests.{nobody, with, someBelow, bothHold, noEdgeBetween}
 use Rattle.certificates.specs.Records.{vertex, sideVertex, side, pair, body}
-use Rattle.paths.specs.Items.{endRead, limited}
+use Rattle.paths.specs.Items.{taken, refused, endRead, limited}
 use Rattle.graph.specs.Rows.{rowsGraph}
 use Rattle.paths.specs.declared.Item.{Item}
-use Rattle.paths.specs.declared.Item.the-variants.{Value, Fault}
-use Rattle.paths.proofs.Told.{end-told, end-fault, limited-in}
+use Rattle.record.specs.declared.Answer.the-variants.{Accepted}
+use Rattle.paths.proofs.Told.{Stopped, never, end-told, end-fault, limited-in}
 use Rattle.paths.proofs.Ends.{end-into, end-stop, end-then}
 use Rattle.paths.proofs.Reading.{vertex-low}
 use Rattle.paths.proofs.Sets.{listed-has}
@@ -33,7 +34,7 @@ use Rattle.sides.proofs.Between.{between-same}
 -- ---- the limit
 
 module _ (n : ℕ) (s : List ℕ) (at : ℕ) where
-  pub over-limit : {A : Type 0} (R : Reader A) → capacity < n → Fault 9 at ≡ endRead (limited n R s at)
+  pub over-limit : {A : Type 0} (R : Reader A) → capacity < n → refused 9 at ≡ endRead (limited n R s at)
   unfolding endRead
   over-limit R h = rw (lt-leb n capacity h)
 
@@ -77,7 +78,7 @@ module _ (g : Graph) (removed : ℕ → Bool) (s : List ℕ) (at : ℕ) where
   abbrev sideList : ℕ → Reader (List ℕ)
   sideList k = many (sideVertex (g .n) removed) (λ least v. suc v) k 0
 
-  list-refused : {q p : ℕ} → (sideCount ▹ sideList) s at ≡ Refused q p → Fault q p ≡ endRead (side g removed s at)
+  list-refused : {q p : ℕ} → (sideCount ▹ sideList) s at ≡ Refused q p → refused q p ≡ endRead (side g removed s at)
   unfolding side endRead _needs⟨_⟩_
   list-refused e = rw e
 
@@ -85,61 +86,57 @@ module _ (g : Graph) (removed : ℕ → Bool) (s : List ℕ) (at : ℕ) where
   unfolding side sideTested endRead _needs⟨_⟩_
   list-tested l next e = rw e (go (bothHold (g .n) removed (λ v. member v l)))
     where
-      last : (c : Bool) → cond c (Value 0 next) (Fault 23 at) ≡ endRead (cond c (Got l next) (Refused 23 at))
+      last : (c : Bool) → cond c (taken 0 next) (refused 23 at) ≡ endRead (cond c (Got l next) (Refused 23 at))
       last true = refl
       last false = refl
 
-      go : (b : Bool) → cond b (cond (noEdgeBetween g removed (λ v. member v l)) (Value 0 next) (Fault 23 at)) (Fault 22 at)
+      go : (b : Bool) → cond b (cond (noEdgeBetween g removed (λ v. member v l)) (taken 0 next) (refused 23 at)) (refused 22 at)
           ≡ endRead (onRead (cond b (Got l next) (Refused 22 at)) (λ m z. cond (noEdgeBetween g removed (λ v. member v m)) (Got m z) (Refused 23 at)))
       go true = last (noEdgeBetween g removed (λ v. member v l))
       go false = refl
 
-  pub count-refused : {q p : ℕ} → sideCount s at ≡ Refused q p → Fault q p ≡ endRead (side g removed s at)
+  pub count-refused : {q p : ℕ} → sideCount s at ≡ Refused q p → refused q p ≡ endRead (side g removed s at)
   count-refused e = list-refused (leads-bad sideCount sideList e)
 
   -- what the loop handed back
   module _ {k from : ℕ} (e : sideCount s at ≡ Got k from) {x : SideRead} (h : x ≡ runs (sideLoop (g .n) removed) k 0 emptySet s from) where
-    pub side-refused : {q p : ℕ} → x .end ≡ Fault q p → Fault q p ≡ endRead (side g removed s at)
+    pub side-refused : NotAccepted (x .end .answer) → x .end ≡ endRead (side g removed s at)
     unfolding runs
-    side-refused {q} {p} f = go (sideList k s from) refl h
+    side-refused f = go (sideList k s from) refl h
       where
         go : (r : Read (List ℕ)) → sideList k s from ≡ r → x ≡ finish inserted (sideLoop (g .n) removed .ok) (sideLoop (g .n) removed .bad) emptySet r
-            → Fault q p ≡ endRead (side g removed s at)
-        go (Got l z) m h = let y : x .end ≡ Value 0 z = ap (λ (w : SideRead). w .end) h in let c : _≡_ {A = ℕ} 0 1 = cc in absurd (omega arith)
-        go (Refused a b) m h =
-            let y : x .end ≡ Fault a b = ap (λ (w : SideRead). w .end) h in
-            let c : Fault q p ≡ Fault a b = sym f ∙ y in
-            c ∙ list-refused (leads-got sideCount sideList e ∙ m)
+            → x .end ≡ endRead (side g removed s at)
+        go (Got l z) m h = absurd (not-accepted _ f (ap (λ (w : SideRead). w .end .answer) h))
+        go (Refused q p) m h = ap (λ (w : SideRead). w .end) h ∙ list-refused (leads-got sideCount sideList e ∙ m)
 
-    pub side-read : {v next : ℕ} → g .n ≤ capacity → x .end ≡ Value v next
-        → (Low (g .n) (x .set .words)) × (sideTested g removed (has (x .set .words)) at next ≡ endRead (side g removed s at))
+    pub side-read : g .n ≤ capacity → x .end .answer ≡ Accepted
+        → (Low (g .n) (x .set .words)) × (sideTested g removed (has (x .set .words)) at (x .end .next) ≡ endRead (side g removed s at))
     unfolding runs
-    side-read {v} {next} small f = go (sideList k s from) refl h
+    side-read small f = go (sideList k s from) refl h
       where
         go : (r : Read (List ℕ)) → sideList k s from ≡ r → x ≡ finish inserted (sideLoop (g .n) removed .ok) (sideLoop (g .n) removed .bad) emptySet r
-            → (Low (g .n) (x .set .words)) × (sideTested g removed (has (x .set .words)) at next ≡ endRead (side g removed s at))
+            → (Low (g .n) (x .set .words)) × (sideTested g removed (has (x .set .words)) at (x .end .next) ≡ endRead (side g removed s at))
         go (Got l z) m h =
-            let y : x .end ≡ Value 0 z = ap (λ (w : SideRead). w .end) h in
-            let c : z ≡ next = cc in
+            let c : z ≡ x .end .next = sym (ap (λ (w : SideRead). w .end .next) h) in
             let all : All (λ v. v < g .n) l = many-all (sideVertex (g .n) removed) (λ least v. suc v) (side-vertex-low (g .n) removed) k 0 s from m in
             let few : All (λ v. v < 64 * wordCount) l =
             many-all (sideVertex (g .n) removed) (λ least v. suc v) (λ least s at v next e. let i = side-vertex-low (g .n) removed least s at v next e in omega arith) k 0 s from m in
             let same : has (x .set .words) ≡ (λ w. member w l) = ap (λ (w : SideRead). has (w .set .words)) h ∙ fun-ext (λ w. listed-has l w few) in (
               (λ w t. member-all (λ v. v < g .n) l all w (sym (ap (λ (p : ℕ → Bool). p w) same) ∙ t)),
-              ap (λ (p : ℕ → Bool). sideTested g removed p at next) same ∙ list-tested l next (leads-got sideCount sideList e ∙ m ∙ ap (Got l) c),
+              ap (λ (p : ℕ → Bool). sideTested g removed p at (x .end .next)) same ∙ list-tested l (x .end .next) (leads-got sideCount sideList e ∙ m ∙ ap (Got l) c),
             )
-        go (Refused a b) m h = let y : x .end ≡ Fault a b = ap (λ (w : SideRead). w .end) h in let c : _≡_ {A = ℕ} 0 1 = cc in absurd (omega arith)
+        go (Refused q p) m h = never q p f (ap (λ (w : SideRead). w .end .answer) h)
 
 -- ---- the tests of a side
 
-pub side-empty : (g : Graph) (removed set : ℕ → Bool) (at next : ℕ) → someBelow (g .n) set ≡ false → Fault 22 at ≡ sideTested g removed set at next
+pub side-empty : (g : Graph) (removed set : ℕ → Bool) (at next : ℕ) → someBelow (g .n) set ≡ false → refused 22 at ≡ sideTested g removed set at next
 unfolding sideTested
 side-empty g removed set at next e = rw e
 
 -- the tests as the code makes them: of the side, of the rest, and between them
 pub side-tests : (rows : List ℕ) (n : ℕ) → n ≤ capacity → (removed set left : List ℕ) → RestOf n removed set left → Low n set → (at next : ℕ) {y z : Bool}
     → true ≡ someBelow n (has set) → y ≡ someBelow n (has left) → z ≡ noneBetween rows (has set) (has left)
-    → cond y (cond z (Value 0 next) (Fault 23 at)) (Fault 22 at) ≡ sideTested (rowsGraph n rows) (has removed) (has set) at next
+    → cond y (cond z (taken 0 next) (refused 23 at)) (refused 22 at) ≡ sideTested (rowsGraph n rows) (has removed) (has set) at next
 unfolding sideTested
 side-tests rows n small removed set left r low at next e f h = rw (← e, ← rest-some n removed set left r, ← f, ← between-same rows n small removed set left r low, ← h)
 
@@ -172,18 +169,15 @@ module _ (n : ℕ) (adj : ℕ → ℕ → Bool) (named : ℕ → Bool) (s : List
       let u = on-got (vertex n s (w .1)) _ (w .3) in
       carry (λ p q. p .0 < n) (u .3) (vertex-low n s at (w .2))
 
-pub pair-got : {x : Item} (r : Read (ℕ × ℕ)) {a next : ℕ} → x ≡ pairRead r → x ≡ Value a next → (b : ℕ) × (r ≡ Got (a, b) next)
+pub pair-got : {x : Item} (r : Read (ℕ × ℕ)) → x ≡ pairRead r → x .answer ≡ Accepted → (b : ℕ) × (r ≡ Got (x .value, b) (x .next))
 unfolding pairRead
-pair-got (Got p q) {a} {next} e f = let g : p .0 ≡ a = cc in let h : q ≡ next = cc in (p .1, same p q a next g h)
-  where
-    same : (p : ℕ × ℕ) (q a next : ℕ) → p .0 ≡ a → q ≡ next → Got p q ≡ Got (a, p .1) next
-    same p q a next g h = rw (← g, h)
-pair-got (Refused r p) e f = let z : _≡_ {A = ℕ} 0 1 = cc in absurd (omega arith)
+pair-got (Got p next) e f = (p .1, rw e)
+pair-got (Refused q p) e f = never q p f (ap (λ (y : Item). y .answer) e)
 
-pub pair-refused : {x : Item} (r : Read (ℕ × ℕ)) {q p : ℕ} → x ≡ pairRead r → x ≡ Fault q p → r ≡ Refused q p
+pub pair-refused : {x : Item} (r : Read (ℕ × ℕ)) → x ≡ pairRead r → NotAccepted (x .answer) → Stopped r x
 unfolding pairRead
-pair-refused (Got p q) e f = let z : _≡_ {A = ℕ} 0 1 = cc in absurd (omega arith)
-pair-refused (Refused r p) e f = cc
+pair-refused (Got p next) e f = absurd (not-accepted _ f (ap (λ (y : Item). y .answer) e))
+pair-refused (Refused q p) e f = (q, p, refl, e)
 
 -- the pairs as one item
 pub pairs-end : (n : ℕ) (adj : ℕ → ℕ → Bool) (k : ℕ) (named : ℕ → Bool) (s : List ℕ) (at : ℕ)
@@ -191,7 +185,7 @@ pub pairs-end : (n : ℕ) (adj : ℕ → ℕ → Bool) (k : ℕ) (named : ℕ �
 unfolding runs endRead
 pairs-end n adj k named s at = go (many (pair n adj) (λ named p. with named (p .0)) k named s at)
   where
-    go : (r : Read (List (ℕ × ℕ))) → finish (λ u p. u) (λ u next. Value 0 next) Fault (tt {0}) r ≡ endRead r
+    go : (r : Read (List (ℕ × ℕ))) → finish (λ u p. u) (λ u next. taken 0 next) refused (tt {0}) r ≡ endRead r
     go (Got l next) = refl
     go (Refused q p) = refl
 
@@ -210,19 +204,19 @@ module _ (g : Graph) (s : List ℕ) (at : ℕ) where
   whole : endRead ((vertex (g .n) ▸ afterRemoved) s at) ≡ endRead (body g 1 s at)
   whole = end-into (λ x. tree (x .0) (x .1 .0) (x .1 .1 .0) (x .1 .1 .1)) (vertex (g .n) ▸ afterRemoved) s at
 
-  pub tree-removed : {q p : ℕ} → vertex (g .n) s at ≡ Refused q p → Fault q p ≡ endRead (body g 1 s at)
+  pub tree-removed : {q p : ℕ} → vertex (g .n) s at ≡ Refused q p → refused q p ≡ endRead (body g 1 s at)
   tree-removed e = end-stop (vertex (g .n)) afterRemoved e ∙ whole
 
   module _ {c firstAt : ℕ} (e : vertex (g .n) s at ≡ Got c firstAt) where
-    pub tree-first : {q p : ℕ} → vertex (g .n) s firstAt ≡ Refused q p → Fault q p ≡ endRead (body g 1 s at)
+    pub tree-first : {q p : ℕ} → vertex (g .n) s firstAt ≡ Refused q p → refused q p ≡ endRead (body g 1 s at)
     tree-first f = end-stop (vertex (g .n)) (afterFirst c) f ∙ end-then (vertex (g .n)) afterRemoved e ∙ whole
 
     module _ {first pairsAt : ℕ} (f : vertex (g .n) s firstAt ≡ Got first pairsAt) {x : Item} (h : x ≡ runs (pairLoop (g .n) (g .adj)) (g .n - 1) (with nobody first) tt s pairsAt) where
       on : endRead (afterFirst c first s pairsAt) ≡ endRead (body g 1 s at)
       on = end-then (vertex (g .n)) (afterFirst c) f ∙ end-then (vertex (g .n)) afterRemoved e ∙ whole
 
-      pub tree-pairs : {q p : ℕ} → x ≡ Fault q p → Fault q p ≡ endRead (body g 1 s at)
-      tree-pairs k = end-stop (pairList first) (λ pairs. side g (with nobody c)) (end-fault _ k (h ∙ pairs-end _ _ _ _ s pairsAt)) ∙ on
+      pub tree-pairs : NotAccepted (x .answer) → x ≡ endRead (body g 1 s at)
+      tree-pairs k = let r = end-fault _ k (h ∙ pairs-end _ _ _ _ s pairsAt) in r .3 ∙ end-stop (pairList first) (λ pairs. side g (with nobody c)) (r .2) ∙ on
 
-      pub tree-side : {v sideAt : ℕ} → x ≡ Value v sideAt → endRead (side g (with nobody c) s sideAt) ≡ endRead (body g 1 s at)
+      pub tree-side : x .answer ≡ Accepted → endRead (side g (with nobody c) s (x .next)) ≡ endRead (body g 1 s at)
       tree-side k = let r = end-told _ k (h ∙ pairs-end _ _ _ _ s pairsAt) in end-then (pairList first) (λ pairs. side g (with nobody c)) (r .1) ∙ on

@@ -13,7 +13,7 @@ use Rattle.connectivity.specs.Graph.{Graph}
 use Rattle.certificates.specs.Tests.{with, allBelow, rest, bothHold, noEdgeBetween}
 use Rattle.certificates.specs.Records.{sideVertex, pair}
 use Rattle.paths.specs.declared.Item.{Item}
-use Rattle.paths.specs.declared.Item.the-variants.{Value, Fault}
+use Rattle.paths.specs.Items.{taken, refused}
 use Rattle.sides.specs.declared.SideRead.{SideRead}
 
 -- the loop over the vertices of a side: the set of them, or a fault
@@ -22,8 +22,8 @@ sideLoop n removed = record {
   item = sideVertex n removed;
   after = λ least v. suc v;
   step = inserted;
-  ok = λ set next. record { end = Value 0 next; set = set };
-  bad = λ r p. record { end = Fault r p; set = emptySet };
+  ok = λ set next. record { end = taken 0 next; set = set };
+  bad = λ r p. record { end = refused r p; set = emptySet };
 }
 
 -- no vertex of the rest is adjacent to u
@@ -45,12 +45,12 @@ Low n words = (v : ℕ) → has words v ≡ true → v < n
 -- a side that was read up to next, tested for 22 and 23
 unfoldable pub sideTested : Graph → (ℕ → Bool) → (ℕ → Bool) → ℕ → ℕ → Item
 sideTested g removed side at next =
-    cond (bothHold (g .n) removed side) (cond (noEdgeBetween g removed side) (Value 0 next) (Fault 23 at)) (Fault 22 at)
+    cond (bothHold (g .n) removed side) (cond (noEdgeBetween g removed side) (taken 0 next) (refused 23 at)) (refused 22 at)
 
 -- document 01's number and place for a pair: the new vertex and the place after the pair, or the fault
 unfoldable pub pairRead : Read (ℕ × ℕ) → Item
-pairRead (Got p next) = Value (p .0) next
-pairRead (Refused r p) = Fault r p
+pairRead (Got p next) = taken (p .0) next
+pairRead (Refused r p) = refused r p
 
 -- the loop over the pairs of a spanning tree
 abbrev pub pairLoop : ℕ → (ℕ → ℕ → Bool) → Loop (ℕ → Bool) (ℕ × ℕ) (Unit {0}) Item
@@ -58,6 +58,6 @@ pairLoop n adj = record {
   item = pair n adj;
   after = λ named p. with named (p .0);
   step = λ u p. u;
-  ok = λ u next. Value 0 next;
-  bad = Fault;
+  ok = λ u next. taken 0 next;
+  bad = refused;
 }

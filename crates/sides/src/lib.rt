@@ -10,6 +10,7 @@ ghost use Rattle.paths.specs.Items.{itemRead, endRead, limited};
 ghost use Rattle.sides.specs.Code.{sideLoop, missesRow, noneBetween, RestOf, Low, sideTested, pairRead, pairLoop};
 use graph::GraphTable;
 use paths::Item;
+use record::Answer;
 use vertexset::VertexSet;
 
 // The vertices of a side, and where reading goes on; or the fault, beside the empty set.
@@ -23,14 +24,16 @@ fn read_side_vertex(s: &[u8], n: u16, removed: VertexSet, least: u16, at: usize)
     ensures { λ r. ⌜ r ≡ itemRead (sideVertex n (has (removed .words)) least (now (s .entry)) at) ⌝ }
 {
     let x = paths::read_vertex(s, n, at);
-    let Item::Value(v, _) = x else {
+    let a = x.answer;
+    let Answer::Accepted = a else {
         return x;
     };
+    let v = x.value;
     if v < least {
-        return Item::Fault(20, at);
+        return Item::refused(20, at);
     }
     if removed.contains(v) {
-        return Item::Fault(21, at);
+        return Item::refused(21, at);
     }
     x
 }
@@ -44,19 +47,20 @@ fn read_side_vertices(s: &[u8], n: u16, removed: VertexSet, count: u16, from: us
     let mut left = count;
     while 0 < left {
         let x = read_side_vertex(s, n, removed, least, at);
-        let Item::Value(v, next) = x else {
+        let a = x.answer;
+        let Answer::Accepted = a else {
             return SideRead {
                 end: x,
                 set: VertexSet::empty(),
             };
         };
-        set = set.insert(v);
-        least = v + 1;
-        at = next;
+        set = set.insert(x.value);
+        least = x.value + 1;
+        at = x.next;
         left -= 1;
     }
     SideRead {
-        end: Item::Value(0, at),
+        end: Item::taken(0, at),
         set,
     }
 }
@@ -114,16 +118,17 @@ fn tested_side(
     requires { ⌜ (n ≤ capacity) × Low n (side .words) ⌝ }
     ensures { λ r. ⌜ r ≡ sideTested (rowsGraph n (now (rows .entry))) (has (removed .words)) (has (side .words)) at next ⌝ }
 {
-    if holds_one(n, side) {
-        let rest = rest_of(n, removed, side);
-        if holds_one(n, rest) {
-            if none_between(rows, side, rest) {
-                return Item::Value(0, next);
-            }
-            return Item::Fault(23, at);
-        }
+    if !holds_one(n, side) {
+        return Item::refused(22, at);
     }
-    Item::Fault(22, at)
+    let rest = rest_of(n, removed, side);
+    if !holds_one(n, rest) {
+        return Item::refused(22, at);
+    }
+    if !none_between(rows, side, rest) {
+        return Item::refused(23, at);
+    }
+    Item::taken(0, next)
 }
 
 // A side beside the removed vertices.
@@ -137,19 +142,21 @@ pub fn read_side(
     ensures { λ r. ⌜ r ≡ endRead (limited n (side (rowsGraph n (now (rows .entry))) (has (removed .words))) (now (s .entry)) at) ⌝ }
 {
     if VertexSet::CAPACITY < n {
-        return Item::Fault(9, at);
+        return Item::refused(9, at);
     }
-    let x = paths::read_ranged(s, 0, n, at);
-    let Item::Value(count, from) = x else {
-        return x;
+    let count = paths::read_ranged(s, 0, n, at);
+    let a = count.answer;
+    let Answer::Accepted = a else {
+        return count;
     };
-    let read = read_side_vertices(s, n, removed, count, from);
+    let read = read_side_vertices(s, n, removed, count.value, count.next);
     let end = read.end;
-    let Item::Value(_, next) = end else {
+    let b = end.answer;
+    let Answer::Accepted = b else {
         return end;
     };
     let set = read.set;
-    tested_side(rows, n, removed, set, at, next)
+    tested_side(rows, n, removed, set, at, end.next)
 }
 
 // Kind 0: a side, with no vertex removed.
@@ -169,24 +176,26 @@ fn read_pair(
 ) -> Item
     ensures { λ r. ⌜ r ≡ pairRead (pair n (adjacentIn (now (rows .entry))) (has (named .words)) (now (s .entry)) at) ⌝ }
 {
-    let x = paths::read_vertex(s, n, at);
-    let Item::Value(new, mid) = x else {
-        return x;
+    let new = paths::read_vertex(s, n, at);
+    let a = new.answer;
+    let Answer::Accepted = a else {
+        return new;
     };
-    let y = paths::read_vertex(s, n, mid);
-    let Item::Value(old, next) = y else {
-        return y;
+    let old = paths::read_vertex(s, n, new.next);
+    let b = old.answer;
+    let Answer::Accepted = b else {
+        return old;
     };
-    if graph::adjacent(rows, new, old) {
-        if named.contains(old) {
-            if named.contains(new) {
-                return Item::Fault(26, at);
+    if graph::adjacent(rows, new.value, old.value) {
+        if named.contains(old.value) {
+            if named.contains(new.value) {
+                return Item::refused(26, at);
             }
-            return Item::Value(new, next);
+            return Item::taken(new.value, old.next);
         }
-        return Item::Fault(25, at);
+        return Item::refused(25, at);
     }
-    Item::Fault(24, at)
+    Item::refused(24, at)
 }
 
 // The pairs of a spanning tree that begins with first.
@@ -206,14 +215,15 @@ fn read_pairs(
     let mut left = count;
     while 0 < left {
         let x = read_pair(s, rows, n, named, at);
-        let Item::Value(new, next) = x else {
+        let a = x.answer;
+        let Answer::Accepted = a else {
             return x;
         };
-        named = named.insert(new);
-        at = next;
+        named = named.insert(x.value);
+        at = x.next;
         left -= 1;
     }
-    Item::Value(0, at)
+    Item::taken(0, at)
 }
 
 // Kind 1: a removed vertex, a spanning tree, and a side.
@@ -221,19 +231,28 @@ pub fn read_tree(s: &[u8], rows: &[u64; GraphTable::ROW_WORDS], n: u16, at: usiz
     ensures { λ r. ⌜ r ≡ endRead (limited n (body (rowsGraph n (now (rows .entry))) 1) (now (s .entry)) at) ⌝ }
 {
     if VertexSet::CAPACITY < n {
-        return Item::Fault(9, at);
+        return Item::refused(9, at);
     }
-    let x = paths::read_vertex(s, n, at);
-    let Item::Value(c, first_at) = x else {
-        return x;
+    let removed = paths::read_vertex(s, n, at);
+    let a = removed.answer;
+    let Answer::Accepted = a else {
+        return removed;
     };
-    let y = paths::read_vertex(s, n, first_at);
-    let Item::Value(first, pairs_at) = y else {
-        return y;
+    let first = paths::read_vertex(s, n, removed.next);
+    let b = first.answer;
+    let Answer::Accepted = b else {
+        return first;
     };
-    let z = read_pairs(s, rows, n, first, n - 1, pairs_at);
-    let Item::Value(_, side_at) = z else {
-        return z;
+    let pairs = read_pairs(s, rows, n, first.value, n - 1, first.next);
+    let c = pairs.answer;
+    let Answer::Accepted = c else {
+        return pairs;
     };
-    read_side(s, rows, n, VertexSet::empty().insert(c), side_at)
+    read_side(
+        s,
+        rows,
+        n,
+        VertexSet::empty().insert(removed.value),
+        pairs.next,
+    )
 }

@@ -3,7 +3,6 @@ ghost use mathlib.Core.Path.{_≡_};
 ghost use mathlib.Core.List.{_∷_};
 ghost use Prim.Native.Nat.{_≤_};
 ghost use lib.ListN.{length};
-ghost use Rattle.graph.specs.Rows.{bareRows};
 ghost use Rattle.search.specs.Arrays.{placed, placedEnd};
 ghost use Rattle.search.specs.Code.{pathRoom, searchSpace};
 ghost use Rattle.construction.specs.Sets.{stop};
@@ -24,10 +23,6 @@ pub struct Start {
     pub flat: [u16; Ears::ROOM],
     pub len: usize,
     pub cut: Cut,
-}
-
-struct Table {
-    rows: [u64; GraphTable::ROW_WORDS],
 }
 
 // A third path from vertex 0 to the cycle through it.
@@ -66,10 +61,15 @@ fn path_across<'a>(
     detours::find(rows, space, seeds, goals, ends)
 }
 
-// The table in which neighbours on the three paths are joined.
-fn table_of<'a>(around: &'a [u16], third: &'a [u16], across: &'a [u16]) -> Table
+// Neighbours on the three paths are joined in a table.
+fn join_paths<'a>(
+    table: &'a mut [u64; GraphTable::ROW_WORDS],
+    around: &'a [u16],
+    third: &'a [u16],
+    across: &'a [u16],
+)
     requires { ⌜ length (now around) ≤ pathRoom ⌝ }
-    ensures { λ r. ⌜ r .rows ≡ marked bareRows (threePaths (now (around .entry)) (now (third .entry)) (now (across .entry))) ⌝ }
+    ensures { λ r. ⌜ now (table .exit) ≡ marked (now (table .entry)) (threePaths (now (around .entry)) (now (third .entry)) (now (across .entry))) ⌝ }
 {
     let mut closed = [0u16; VertexList::ROOM + 1];
     let k = search::put_all(&mut closed, 1, around);
@@ -77,9 +77,7 @@ fn table_of<'a>(around: &'a [u16], third: &'a [u16], across: &'a [u16]) -> Table
     let first = detours::add_path(&mut flat, 0, &closed[0..k]);
     let second = detours::add_path(&mut flat, first, third);
     let len = detours::add_path(&mut flat, second, across);
-    let mut rows = [0u64; GraphTable::ROW_WORDS];
-    detours::mark(&mut rows, &flat[0..len]);
-    Table { rows }
+    detours::mark(table, &flat[0..len]);
 }
 
 // The link between two branch vertices, behind the other links.
@@ -159,8 +157,8 @@ fn start_on<'a>(
     let four = detours::pair(0, detours::number_at(third, 0))
         .insert(detours::number_at(across, 0))
         .insert(detours::last_of(across));
-    let t = table_of(around, third, across);
-    let table = t.rows;
+    let mut table = [0u64; GraphTable::ROW_WORDS];
+    join_paths(&mut table, around, third, across);
     six_links(&table, space, four)
 }
 

@@ -10,14 +10,15 @@ use Rattle.vertexset.specs.declared.VertexSet.{VertexSet}
 use Rattle.graph.specs.Limits.{maxEdges}
 use Rattle.search.specs.Arrays.{placed, placedEnd}
 use Rattle.construction.specs.Sets.{withAll, added}
-use Rattle.construction.specs.Ears.{noCut, isCut, pathSpace}
+use Rattle.construction.specs.Ears.{noCut, isCut, nearAll, near, pathSpace}
 use Rattle.construction.specs.Start.{Begun, begun}
 use Rattle.construction.specs.Steps.{State, steps, firstState, build, finish}
-use Rattle.detours.specs.Code.{cutOf, cutIn, Kept, FlatShows}
+use Rattle.construction.proofs.Near.{near-set}
+use Rattle.detours.specs.Code.{cutOf, cutIn, FlatShows}
 use Rattle.detours.specs.declared.Cut.{Cut}
 use Rattle.detours.proofs.Kept.{front, front-take}
 use Rattle.detours.proofs.Filled.{Filled, filled-length, filled-take, filled-added, filled-none, flat-kept}
-use Rattle.stepping.specs.Code.{Shows, stateIn, builtOf, finishedOf}
+use Rattle.stepping.specs.Code.{Shows, Holds, stateIn, builtOf, finishedOf}
 use Rattle.stepping.specs.declared.Built.{Built}
 use Rattle.stepping.specs.declared.Progress.{Progress}
 use Rattle.stepping.proofs.States.{goingOn, shows-take}
@@ -35,24 +36,28 @@ module _ (list : List ℕ) {flat : List ℕ} {len : ℕ} (o : flat ≡ placed (r
   pub put-fits : len ≤ length flat
   put-fits = let f = put in omega (arith, f .size, f .short, filled-length f)
 
-  pub put-kept : Kept flat len
-  put-kept = flat-kept put
+  module _ (rows : List ℕ) (full four : VertexSet) {bare built bare2 n : VertexSet} {none : Cut} (z : bare ≡ emptySet) (w : built ≡ withAll bare (front flat len))
+      (y : bare2 ≡ emptySet) (m : n ≡ nearAll rows bare2 (front flat len)) (c : none ≡ cutOf noCut) where
+    pub first-holds : Holds rows flat (goingOn four built n len 0 none)
+    first-holds = record {
+      kept = flat-kept put;
+      same-near = m ∙ ap (λ (s : VertexSet). nearAll rows s (front flat len)) y ∙ sym (near-set rows (front flat len)) ∙ ap (near rows) (sym (w ∙ ap (λ (s : VertexSet). withAll s (front flat len)) z));
+    }
 
-  module _ (rows : List ℕ) (full four : VertexSet) {bare built : VertexSet} {none : Cut} (z : bare ≡ emptySet) (w : built ≡ withAll bare (front flat len)) (n : none ≡ cutOf noCut) where
-    first-is : stateIn flat (goingOn four built len 0 none) ≡ firstState (begun four (added pathSpace [] list))
-    first-is = rw (w, z, n, front-take flat len, filled-take put)
+    first-is : stateIn flat (goingOn four built n len 0 none) ≡ firstState (begun four (added pathSpace [] list))
+    first-is = rw (w, z, c, front-take flat len, filled-take put)
 
-    pub build-shows : {out : List ℕ} {b : Progress} → Shows out b (steps rows full (maxEdges + 1) (stateIn flat (goingOn four built len 0 none)))
-        → Shows out b (build rows full (begun four (added pathSpace [] list)))
+    pub build-shows : {out : List ℕ} {b : Progress} → Shows rows out b (steps rows full (maxEdges + 1) (stateIn flat (goingOn four built n len 0 none)))
+        → Shows rows out b (build rows full (begun four (added pathSpace [] list)))
     build-shows {out} {b} h =
-        subst (λ (st : State). Shows out b st) (ap (λ (st : State). steps rows full (maxEdges + 1) st) first-is ∙ build-steps rows full (begun four (added pathSpace [] list))) h
+        subst (λ (st : State). Shows rows out b st) (ap (λ (st : State). steps rows full (maxEdges + 1) st) first-is ∙ build-steps rows full (begun four (added pathSpace [] list))) h
 
 -- ---- what is left: a cut, or the paths and the edges that no path has
 
 abbrev pub builtAt : List ℕ → ℕ → Cut → Built
 builtAt flat len cut = record { flat = flat; len = len; cut = cut }
 
-module _ (rows : List ℕ) (n : ℕ) (st : State) {out : List ℕ} {b : Progress} (h : Shows out b st) {y : Bool} (t : y ≡ isCut (cutIn (b .cut))) where
+module _ (rows : List ℕ) (n : ℕ) (st : State) {out : List ℕ} {b : Progress} (h : Shows rows out b st) {y : Bool} (t : y ≡ isCut (cutIn (b .cut))) where
   cut-is : b .cut ≡ cutOf (st .cutBy)
   cut-is = ap (λ (x : Progress). x .cut) (h .beside)
 
@@ -65,4 +70,4 @@ module _ (rows : List ℕ) (n : ℕ) (st : State) {out : List ℕ} {b : Progress
 
   pub build-done : y ≡ false → {all : List ℕ} {end : ℕ} → FlatShows all end (finish rows n (take (b .len) out)) → builtAt all end (b .cut) ≡ finishedOf rows n st
   build-done u f =
-      (λ i. builtAt (f .array i) (f .size i) (cut-is i)) ∙ ap (λ (l : List ℕ). builtOf (finish rows n l) (st .cutBy)) (shows-take out b st h) ∙ by-test u
+      (λ i. builtAt (f .array i) (f .size i) (cut-is i)) ∙ ap (λ (l : List ℕ). builtOf (finish rows n l) (st .cutBy)) (shows-take rows out b st h) ∙ by-test u

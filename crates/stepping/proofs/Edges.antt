@@ -19,7 +19,7 @@ use Rattle.construction.specs.Steps.{addEdges, addRows, finish}
 use Rattle.search.specs.Arrays.{placed, placedEnd}
 use Rattle.search.proofs.Members.{after}
 use Rattle.detours.specs.Code.{Kept, FlatShows}
-use Rattle.detours.proofs.Ways.{after-next, next-past}
+use Rattle.detours.proofs.NextMember.{after-next, next-past}
 use Rattle.detours.proofs.Filled.{Flat, filled-take, filled-added, flat-shows, shows-flat, kept-flat}
 
 -- ---- the edges from u to the members of a set above it

@@ -13,18 +13,20 @@ use Rattle.vertexset.specs.declared.VertexSet.{VertexSet}
 use Rattle.search.specs.Arrays.{padded, placed, placedEnd}
 use Rattle.search.proofs.Placed.{padded-length, drop-zeros}
 use Rattle.construction.specs.Sets.{stop, withAll, lastOf}
-use Rattle.construction.specs.Ears.{pathSpace, noCut}
+use Rattle.construction.specs.Ears.{nearAll, near, pathSpace, noCut}
 use Rattle.construction.specs.Steps.{State, extended, reroute, turned, putIn}
+use Rattle.construction.proofs.Basics.{Sized}
+use Rattle.construction.proofs.Near.{near-grows}
 use Rattle.detours.specs.Code.{cutOf, flatOf, Kept}
 use Rattle.detours.specs.declared.Cut.{Cut}
 use Rattle.detours.proofs.Kept.{taken-short, kept-size, flat-take, flat-kept, add-kept, add-kept-end, add-kept-short}
-use Rattle.stepping.specs.Code.{Shows, stateIn, putBetween, putBetweenEnd}
+use Rattle.stepping.specs.Code.{Shows, Holds, stateIn, putBetween, putBetweenEnd}
 use Rattle.stepping.specs.declared.Progress.{Progress}
 use Rattle.stepping.proofs.Lists.{moved}
 
-module _ (items : List ℕ) (b : Progress) (st : State) (s : Shows items b st) where
-  pub shows-kept : Kept items (b .len)
-  shows-kept = rw (s .beside) (flat-kept items (st .flat) (s .array) (s .short))
+module _ (rows items : List ℕ) (b : Progress) (st : State) (s : Shows rows items b st) where
+  pub shows-holds : Holds rows items b
+  shows-holds = rw (s .beside) (record { kept = flat-kept items (st .flat) (s .array) (s .short); same-near = refl })
 
   pub shows-take : take (b .len) items ≡ st .flat
   shows-take = rw (s .beside) (flat-take items (st .flat) (s .array) (s .short))
@@ -126,31 +128,34 @@ module _ (items : List ℕ) (len k : ℕ) (new : List ℕ) (kept : Kept items le
 -- ---- the two steps
 
 -- what is kept beside the paths, while the build goes on
-abbrev pub goingOn : VertexSet → VertexSet → ℕ → ℕ → Cut → Progress
-goingOn branch built len at cut = record { branch = branch; built = built; len = len; at = at; going = true; cut = cut }
+abbrev pub goingOn : VertexSet → VertexSet → VertexSet → ℕ → ℕ → Cut → Progress
+goingOn branch built near len at cut = record { branch = branch; built = built; near = near; len = len; at = at; going = true; cut = cut }
 
-module _ (items : List ℕ) (b : Progress) (path : List ℕ) (kept : Kept items (b .len)) {out : List ℕ} {len : ℕ} {built : VertexSet} {none : Cut} where
+near-more : (rows items : List ℕ) (b : Progress) (path : List ℕ) → Holds rows items b → Sized (b .built) → {n : VertexSet} → n ≡ nearAll rows (b .near) path → n ≡ near rows (withAll (b .built) path)
+near-more rows items b path h sized m = m ∙ ap (λ (s : VertexSet). nearAll rows s path) (h .same-near) ∙ sym (near-grows rows (b .built) path sized)
+
+module _ (rows items : List ℕ) (b : Progress) (path : List ℕ) (h : Holds rows items b) (sized : Sized (b .built)) {out : List ℕ} {len : ℕ} {built n : VertexSet} {none : Cut}
+    (u : built ≡ withAll (b .built) path) (m : n ≡ nearAll rows (b .near) path) (z : none ≡ cutOf noCut) where
   pub extend-shows : (at : ℕ) {branch : VertexSet} → out ≡ placed items (b .len) (stop ∷ path) → len ≡ placedEnd items (b .len) (stop ∷ path)
-      → branch ≡ inserted (inserted (b .branch) (getD path 0 0)) (lastOf path) → built ≡ withAll (b .built) path → none ≡ cutOf noCut
-      → Shows out (goingOn branch built len at none) (extended (stateIn items b) path at)
-  extend-shows at o l r u n = record {
-    array = o ∙ add-kept items (b .len) path kept;
-    short = add-kept-short items (b .len) path kept;
-    beside = rw (l ∙ add-kept-end items (b .len) path kept, r, u, n);
+      → branch ≡ inserted (inserted (b .branch) (getD path 0 0)) (lastOf path) → Shows rows out (goingOn branch built n len at none) (extended (stateIn items b) path at)
+  extend-shows at o l r = record {
+    array = o ∙ add-kept items (b .len) path (h .kept);
+    short = add-kept-short items (b .len) path (h .kept);
+    beside = rw (l ∙ add-kept-end items (b .len) path (h .kept), r, u, near-more rows items b path h sized m, z);
   }
 
   pub reroute-shows : (k : ℕ) → k < b .len → out ≡ putBetween items (b .len) (k + 1) (turned path (getD items k 0)) → len ≡ putBetweenEnd items (b .len) (turned path (getD items k 0))
-      → built ≡ withAll (b .built) path → none ≡ cutOf noCut → Shows out (goingOn (b .branch) built len (k + 1) none) (reroute (stateIn items b) path k)
-  reroute-shows k low o l u n =
+      → Shows rows out (goingOn (b .branch) built n len (k + 1) none) (reroute (stateIn items b) path k)
+  reroute-shows k low o l =
       let low1 : k + 1 ≤ b .len = omega arith in
       let g : getD (take (b .len) items) k 0 ≡ getD items k 0 = getD-take (b .len) items k 0 low in
       rw g record {
-        array = o ∙ between-kept items (b .len) (k + 1) (turned path (getD items k 0)) kept low1;
-        short = between-kept-short items (b .len) (k + 1) (turned path (getD items k 0)) kept low1;
-        beside = rw (l ∙ between-kept-end items (b .len) (k + 1) (turned path (getD items k 0)) kept low1, u, n);
+        array = o ∙ between-kept items (b .len) (k + 1) (turned path (getD items k 0)) (h .kept) low1;
+        short = between-kept-short items (b .len) (k + 1) (turned path (getD items k 0)) (h .kept) low1;
+        beside = rw (l ∙ between-kept-end items (b .len) (k + 1) (turned path (getD items k 0)) (h .kept) low1, u, near-more rows items b path h sized m, z);
       }
 
 -- a state that stays as it is
-module _ (items : List ℕ) (b : Progress) (kept : Kept items (b .len)) where
-  pub same-shows : Shows items b (stateIn items b)
-  same-shows = record { array = kept .0; short = taken-short items (b .len) kept; beside = rw (kept-size items (b .len) kept) }
+module _ (rows items : List ℕ) (b : Progress) (h : Holds rows items b) where
+  pub same-shows : Shows rows items b (stateIn items b)
+  same-shows = record { array = h .kept .0; short = taken-short items (b .len) (h .kept); beside = rw (kept-size items (b .len) (h .kept), ← h .same-near) }

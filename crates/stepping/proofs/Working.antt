@@ -22,6 +22,7 @@ use Rattle.construction.specs.Steps.{State, extended, segment, upTo, runEnd}
 use Rattle.construction.proofs.Basics.{Sized, On}
 use Rattle.construction.proofs.Finding.{end-high, place-within, place-none}
 use Rattle.construction.proofs.Places.{in-place, same-place, segment-place}
+use Rattle.construction.proofs.Near.{same-test}
 use Rattle.construction.proofs.SetLaws.{sized-empty, sized-inserted, sized-all, sized-minus, sized-single, on-low, minus-on, on-minus, inserted-on, on-inserted, inserted-keep, single-on, on-single, on-all, set-on, on-set, members-in, members-nodup, members-count}
 use Rattle.stepping.specs.Code.{Spans, AtWork, Works, Left}
 use Rattle.stepping.specs.declared.Work.{Work}
@@ -92,12 +93,7 @@ counted l e =
 
 same-on : (a b : VertexSet) → Sized a → Sized b → ((v : ℕ) → On a v → On b v) → ((v : ℕ) → On b v → On a v) → a ≡ b
 same-on a b h k f g =
-    ap (λ (ws : List ℕ). record { words = ws }) (laws.same-members (a .words) (b .words) (h .size ∙ sym (k .size)) (h .words) (k .words) (λ x low. both x (bool? (has (a .words) x)) (bool? (has (b .words) x))))
-  where
-    both : (x : ℕ) → (has (a .words) x ≡ true) ⊎ (has (a .words) x ≡ false) → (has (b .words) x ≡ true) ⊎ (has (b .words) x ≡ false) → has (a .words) x ≡ has (b .words) x
-    both x (inl p) q = p ∙ sym (f x p)
-    both x (inr p) (inl q) = absurd (clash (g x q) p)
-    both x (inr p) (inr q) = p ∙ sym q
+    ap (λ (ws : List ℕ). record { words = ws }) (laws.same-members (a .words) (b .words) (h .size ∙ sym (k .size)) (h .words) (k .words) (λ v low. same-test _ _ (f v) (g v)))
 
 minus-off : (a b : VertexSet) → Sized a → Sized b → (v : ℕ) → On b v → has (minus a b .words) v ≡ false
 minus-off a b h k v e = ⊎-elim (λ t. absurd (minus-on a b h k v t .1 e)) (λ t. t) (bool? (has (minus a b .words) v))

@@ -10,10 +10,10 @@ use Rattle.vertexset.specs.Set.{has, count}
 use Rattle.vertexset.specs.declared.VertexSet.{VertexSet}
 use Rattle.construction.specs.Sets.{added, minus, single, setOf, placeOf}
 use Rattle.construction.specs.Ears as construction
-use Rattle.construction.specs.Ears.{isCut, pathSpace}
+use Rattle.construction.specs.Ears.{isCut, near, pathSpace}
 use Rattle.construction.specs.Start.{begun}
 use Rattle.construction.specs.Steps.{State, segment, runEnd, build, finish}
-use Rattle.detours.specs.Code.{cutOf, cutIn, flatOf}
+use Rattle.detours.specs.Code.{cutOf, cutIn, flatOf, Kept}
 use Rattle.stepping.specs.declared.Built.{Built}
 use Rattle.stepping.specs.declared.Progress.{Progress}
 use Rattle.stepping.specs.declared.Work.{Work}
@@ -60,13 +60,26 @@ stateIn items b = record {
   cutBy = cutIn (b .cut);
 }
 
-abbrev pub progressOf : State → Progress
-progressOf st = record { branch = st .branch; built = st .built; len = length (st .flat); at = st .at; going = st .going; cut = cutOf (st .cutBy) }
+abbrev pub progressOf : List ℕ → State → Progress
+progressOf rows st = record {
+  branch = st .branch;
+  built = st .built;
+  near = near rows (st .built);
+  len = length (st .flat);
+  at = st .at;
+  going = st .going;
+  cut = cutOf (st .cutBy);
+}
 
-pub record Shows (items : List ℕ) (b : Progress) (st : State) : Type 0 where
+pub record Shows (rows items : List ℕ) (b : Progress) (st : State) : Type 0 where
   pub array : items ≡ flatOf (st .flat)
   pub short : length (st .flat) ≤ pathSpace
-  pub beside : b ≡ progressOf st
+  pub beside : b ≡ progressOf rows st
+
+-- a list of paths at the front of the array, and the neighbours of what is built
+pub record Holds (rows items : List ℕ) (b : Progress) : Type 0 where
+  pub kept : Kept items (b .len)
+  pub same-near : b .near ≡ near rows (b .built)
 
 -- ---- the link at work, kept from step to step
 

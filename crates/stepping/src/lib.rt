@@ -11,7 +11,7 @@ ghost use Rattle.search.specs.Code.{pathOf, pathRoom, searchSpace};
 ghost use Rattle.construction.specs.Sets.{minus, setOf, membersFrom, reversed, placeOf};
 ghost use Rattle.construction.specs.Steps.{state, extended, segment, offLink, upTo, linkStep, turned, pairPlace, besidePlace, reroute, outStep, step, steps, addEdges, finish};
 ghost use Rattle.detours.specs.Code.{foundOf, Kept, FlatShows};
-ghost use Rattle.stepping.specs.Code.{sideOf, hasPair, putBetween, putBetweenEnd, stateIn, Shows, builtIn, Spans, AtWork, Works, Left};
+ghost use Rattle.stepping.specs.Code.{sideOf, hasPair, putBetween, putBetweenEnd, stateIn, Holds, Shows, builtIn, Spans, AtWork, Works, Left};
 use detours::Cut;
 use detours::Ears;
 use detours::Found;
@@ -31,6 +31,8 @@ pub struct Built {
 struct Progress {
     branch: VertexSet,
     built: VertexSet,
+    // the neighbours of what is built
+    near: VertexSet,
     len: usize,
     // no inner vertex stands before this place
     at: usize,
@@ -111,13 +113,15 @@ fn up_to<'a>(path: &'a [u16], set: VertexSet) -> &'a [u16]
 }
 
 fn stopped(b: Progress, c: Cut) -> Progress
-    ensures { λ r. ⌜ r ≡ record { branch = b .branch; built = b .built; len = b .len; at = b .at; going = false; cut = c } ⌝ }
+    ensures { λ r. ⌜ r ≡ record { branch = b .branch; built = b .built; near = b .near; len = b .len; at = b .at; going = false; cut = c } ⌝ }
 {
     let branch = b.branch;
     let built = b.built;
+    let near = b.near;
     Progress {
         branch,
         built,
+        near,
         len: b.len,
         at: b.at,
         going: false,
@@ -126,18 +130,26 @@ fn stopped(b: Progress, c: Cut) -> Progress
 }
 
 // A path is taken in; its ends are, or become, branch vertices.
-fn extend<'a>(flat: &'a mut [u16], b: Progress, path: &'a [u16], at: usize) -> Progress
-    requires { ⌜ Kept (now flat) (b .len) ⌝ }
-    ensures { λ r. ⌜ Shows (now (flat .exit)) r (extended (stateIn (now (flat .entry)) b) (now (path .entry)) at) ⌝ }
+fn extend<'a>(
+    rows: &'a [u64; GraphTable::ROW_WORDS],
+    flat: &'a mut [u16],
+    b: Progress,
+    path: &'a [u16],
+    at: usize,
+) -> Progress
+    requires { ⌜ Holds (now rows) (now flat) b ⌝ }
+    ensures { λ r. ⌜ Shows (now (rows .entry)) (now (flat .exit)) r (extended (stateIn (now (flat .entry)) b) (now (path .entry)) at) ⌝ }
 {
     let len = detours::add_path(flat, b.len, path);
     let branch = b.branch;
     let built = b.built;
+    let near = b.near;
     Progress {
         branch: branch
             .insert(detours::number_at(path, 0))
             .insert(detours::last_of(path)),
         built: detours::with_all(built, path),
+        near: detours::near_all(rows, near, path),
         len,
         at,
         going: true,
@@ -239,8 +251,8 @@ fn link_step<'a>(
     b: Progress,
     w: Work,
 ) -> Stepped
-    requires { ⌜ (length (now space) ≡ searchSpace) × (Kept (now flat) (b .len) × ((w .first < w .end) × Spans (take (b .len) (now flat)) (minus (b .built) (b .branch)) w)) ⌝ }
-    ensures { λ r. ⌜ Shows (now (flat .exit)) (r .progress) (linkStep (now (rows .entry)) (stateIn (now (flat .entry)) b) (w .first)) ⌝ }
+    requires { ⌜ (length (now space) ≡ searchSpace) × (Holds (now rows) (now flat) b × ((w .first < w .end) × Spans (take (b .len) (now flat)) (minus (b .built) (b .branch)) w)) ⌝ }
+    ensures { λ r. ⌜ Shows (now (rows .entry)) (now (flat .exit)) (r .progress) (linkStep (now (rows .entry)) (stateIn (now (flat .entry)) b) (w .first)) ⌝ }
     ensures { λ r. ⌜ Works (stateIn (now (flat .exit)) (r .progress)) (r .work) ⌝ }
 {
     let len = b.len;
@@ -259,7 +271,7 @@ fn link_step<'a>(
     }
     let path = up_to(detours::front(&f.path.vertices, f.path.count), inner);
     let work = work_left(list, branch, w, detours::last_of(path));
-    let progress = extend(flat, b, path, i);
+    let progress = extend(rows, flat, b, path, i);
     Stepped { progress, work }
 }
 
@@ -386,17 +398,25 @@ fn put_between<'a>(flat: &'a mut [u16], len: usize, k: usize, new: &'a [u16]) ->
 }
 
 // The inner vertices of a path are put in between its ends, which stand side by side at the place k.
-fn reroute<'a>(flat: &'a mut [u16], b: Progress, path: &'a [u16], k: usize) -> Progress
-    requires { ⌜ Kept (now flat) (b .len) × ((k < b .len) × (length (now path) ≤ pathRoom)) ⌝ }
-    ensures { λ r. ⌜ Shows (now (flat .exit)) r (reroute (stateIn (now (flat .entry)) b) (now (path .entry)) k) ⌝ }
+fn reroute<'a>(
+    rows: &'a [u64; GraphTable::ROW_WORDS],
+    flat: &'a mut [u16],
+    b: Progress,
+    path: &'a [u16],
+    k: usize,
+) -> Progress
+    requires { ⌜ Holds (now rows) (now flat) b × ((k < b .len) × (length (now path) ≤ pathRoom)) ⌝ }
+    ensures { λ r. ⌜ Shows (now (rows .entry)) (now (flat .exit)) r (reroute (stateIn (now (flat .entry)) b) (now (path .entry)) k) ⌝ }
 {
     let new = turned(path, flat[k]);
     let len = put_between(flat, b.len, k + 1, detours::front(&new.vertices, new.count));
     let branch = b.branch;
     let built = b.built;
+    let near = b.near;
     Progress {
         branch,
         built: detours::with_all(built, path),
+        near: detours::near_all(rows, near, path),
         len,
         at: k + 1,
         going: true,
@@ -412,14 +432,14 @@ fn out_step<'a>(
     flat: &'a mut [u16],
     b: Progress,
 ) -> Progress
-    requires { ⌜ (length (now space) ≡ searchSpace) × Kept (now flat) (b .len) ⌝ }
-    ensures { λ r. ⌜ Shows (now (flat .exit)) r (outStep (now (rows .entry)) full (stateIn (now (flat .entry)) b)) ⌝ }
+    requires { ⌜ (length (now space) ≡ searchSpace) × Holds (now rows) (now flat) b ⌝ }
+    ensures { λ r. ⌜ Shows (now (rows .entry)) (now (flat .exit)) r (outStep (now (rows .entry)) full (stateIn (now (flat .entry)) b)) ⌝ }
 {
     let built = b.built;
     if full.minus(built).is_empty() {
         return stopped(b, Cut::none());
     }
-    let f = detours::detour(rows, space, full, built);
+    let f = detours::detour(rows, space, b.near, built);
     let c = f.cut;
     if c.is_cut() {
         return stopped(b, c);
@@ -433,9 +453,9 @@ fn out_step<'a>(
         detours::number_at(path, 0),
     );
     if k < len {
-        return reroute(flat, b, path, k);
+        return reroute(rows, flat, b, path, k);
     }
-    extend(flat, b, path, len)
+    extend(rows, flat, b, path, len)
 }
 
 // One step: (a) where an inner vertex is left, else (b).
@@ -446,8 +466,8 @@ fn step<'a>(
     flat: &'a mut [u16],
     s: Stepped,
 ) -> Stepped
-    requires { ⌜ (length (now space) ≡ searchSpace) × (Kept (now flat) (s .progress .len) × Works (stateIn (now flat) (s .progress)) (s .work)) ⌝ }
-    ensures { λ r. ⌜ Shows (now (flat .exit)) (r .progress) (step (now (rows .entry)) full (stateIn (now (flat .entry)) (s .progress))) ⌝ }
+    requires { ⌜ (length (now space) ≡ searchSpace) × (Holds (now rows) (now flat) (s .progress) × Works (stateIn (now flat) (s .progress)) (s .work)) ⌝ }
+    ensures { λ r. ⌜ Shows (now (rows .entry)) (now (flat .exit)) (r .progress) (step (now (rows .entry)) full (stateIn (now (flat .entry)) (s .progress))) ⌝ }
     ensures { λ r. ⌜ Works (stateIn (now (flat .exit)) (r .progress)) (r .work) ⌝ }
 {
     let b = s.progress;
@@ -471,8 +491,8 @@ fn all_steps<'a>(
     flat: &'a mut [u16],
     first: Progress,
 ) -> Progress
-    requires { ⌜ (length (now space) ≡ searchSpace) × Kept (now flat) (first .len) ⌝ }
-    ensures { λ r. ⌜ Shows (now (flat .exit)) r (steps (now (rows .entry)) full (maxEdges + 1) (stateIn (now (flat .entry)) first)) ⌝ }
+    requires { ⌜ (length (now space) ≡ searchSpace) × Holds (now rows) (now flat) first ⌝ }
+    ensures { λ r. ⌜ Shows (now (rows .entry)) (now (flat .exit)) r (steps (now (rows .entry)) full (maxEdges + 1) (stateIn (now (flat .entry)) first)) ⌝ }
 {
     let mut s = Stepped {
         progress: first,
@@ -542,6 +562,7 @@ pub fn build<'a>(
     let first = Progress {
         branch: four,
         built: detours::with_all(VertexSet::empty(), &flat[0..len]),
+        near: detours::near_all(rows, VertexSet::empty(), &flat[0..len]),
         len,
         at: 0,
         going: true,

@@ -4,7 +4,7 @@ use mathlib.Core.Bool.{Bool, true, false, not, _&&_, _||_, or-false, and-true, f
 use mathlib.Core.List.{List, [], _∷_}
 use mathlib.Core.Logic.{_⊎_, inl, inr, ⊎-elim}
 use Prim.Native.Nat.{ℕ, zero, suc, _+_, _*_, _-_, _/_, _%_, _^_, _<_, _≤_}
-use native.Mathlib.Nat.{add-zero, add-suc, add-assoc, zero-div, div-eq-of-lt, mod-eq-of-lt}
+use native.Mathlib.Nat.{two-pow-succ, add-zero, add-suc, add-assoc, zero-div, div-eq-of-lt, mod-eq-of-lt}
 use native.Mathlib.Decide.{ℕ-discrete}
 use native.Mathlib.Omega.{arith}
 use lib.Dec.{eqb, lit<}
@@ -66,8 +66,11 @@ getD-zip f e (x ∷ xs) [] h i = absurd (omega arith)
 getD-zip f e (x ∷ xs) (y ∷ ys) h zero = refl
 getD-zip f e (x ∷ xs) (y ∷ ys) h (suc i) = getD-zip f e xs ys (omega arith) i
 
+pub on-union : (xs ys : List ℕ) → length xs ≡ length ys → (i k : ℕ) → on (getD (zip bitOr xs ys) i 0) k ≡ (on (getD xs i 0) k || on (getD ys i 0) k)
+on-union xs ys h i k = rw (getD-zip bitOr refl xs ys h) (on-or _ _ k)
+
 pub has-union : (xs ys : List ℕ) → length xs ≡ length ys → (x : ℕ) → has (zip bitOr xs ys) x ≡ (has xs x || has ys x)
-has-union xs ys h x = rw (getD-zip bitOr refl xs ys h) (on-or _ _ (x % 64))
+has-union xs ys h x = on-union xs ys h (x / 64) (x % 64)
 
 pub has-minus : (xs ys : List ℕ) → length xs ≡ length ys → (x : ℕ) → has (zip less xs ys) x ≡ (has xs x && not (has ys x))
 has-minus xs ys h x = rw (getD-zip less refl xs ys h) (on-less _ _ (x % 64))
@@ -81,6 +84,15 @@ pub same-members : (xs ys : List ℕ) → length xs ≡ length ys → Words xs �
 same-members xs ys l wx wy same =
     ext-getD 0 xs ys l (λ i h. same-bits 64 _ _ (wx i) (wy i)
     (λ k m. sym (at-word xs i k m) ∙ same (i * 64 + k) (omega arith) ∙ at-word ys i k m))
+
+pow-above : (n : ℕ) → n < 2 ^ n
+pow-above zero = lit< tt
+pow-above (suc n) = omega (arith, pow-above n, two-pow-succ n)
+
+-- words of any size are known by their bits
+pub same-words : (xs ys : List ℕ) → length xs ≡ length ys → ((i k : ℕ) → on (getD xs i 0) k ≡ on (getD ys i 0) k) → xs ≡ ys
+same-words xs ys l same =
+    ext-getD 0 xs ys l (λ i h. let sum = pow-above (getD xs i 0 + getD ys i 0) in same-bits (getD xs i 0 + getD ys i 0) _ _ (omega arith) (omega arith) (λ k m. same i k))
 
 -- ---- no members, and members of another set
 

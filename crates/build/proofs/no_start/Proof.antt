@@ -4,7 +4,7 @@ use Rattle.build.proofs.no_start.Statement.{statement}
 use Rattle.build.proofs.no_start.Tie as tie
 
 returns : tie.Need-returns
-returns c = rw (c .bare .ensures, c .before .empty .ensures)
+returns c = rw (c .empty .ensures)
 
 pub no-start-spec : {M : Type 1} → statement M
-no-start-spec = tie.close (tie.spec (λ c κs. search needs) (λ c κs. search needs) returns)
+no-start-spec = tie.close (tie.spec (λ c κs. search needs) returns)

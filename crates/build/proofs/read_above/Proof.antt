@@ -11,20 +11,22 @@ use Rattle.build.proofs.read_above.Tie as tie
 returns : tie.Need-returns
 unfolding itemRead
 returns c =
-    let f = c .enum-told .given .1 in
-    f ∙ sym (ap itemRead (needs-bad _ 20 _ (fault-told _ f (c .before .before .read-vertex .ensures))))
+    let f = fault-told _ (c .match .keys2) (c .before .read-vertex .ensures) in
+    f .3 ∙ sym (ap itemRead (needs-bad _ 20 _ (f .2)))
 
 returns-2 : tie.Need-returns-2
 unfolding itemRead
 returns-2 c =
     let k = c .before .before in
-    sym (ap itemRead (above-low _ _ _ _ (value-told _ (k .x .given .1) (k .before .before .read-vertex .ensures)) (c .if1 .taken)))
+    c .refused .ensures ∙ sym (ap itemRead (above-low _ _ _ _ (value-told _ (k .enum-told .given .1) (k .before .before .read-vertex .ensures)) (c .before .if1 .taken)))
 
 returns-3 : tie.Need-returns-3
 unfolding itemRead
 returns-3 c =
-    let k = c .before .before in
-    sym (ap itemRead (above-got _ _ _ _ (value-told _ (k .x .given .1) (k .before .before .read-vertex .ensures)) (c .if1 .left)))
+    let k = c .before in
+    let x = k .before .before .read-vertex .ensures in
+    let e = value-told _ (k .enum-told .given .1) x in
+    x ∙ ap itemRead (e ∙ sym (above-got _ _ _ _ e (c .if1 .left)))
 
 pub read-above-spec : {M : Type 1} → statement M
-read-above-spec = tie.close (tie.spec (λ c κs. search needs) (λ c. search needs) (λ c. search needs) returns returns-2 returns-3)
+read-above-spec = tie.close (tie.spec (λ c κs. search needs) (λ c. search needs) returns (λ c κs. search needs) returns-2 returns-3)

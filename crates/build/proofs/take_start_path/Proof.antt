@@ -2,7 +2,7 @@
 use mathlib.Core.Path.{refl}
 use borrow.Author.Needs.{needs}
 use Rattle.build.specs.Code.{buildIn}
-use Rattle.build.proofs.Taking.{leaves-unread, leaves-refused, leaves-taken, len-low, start-takes}
+use Rattle.build.proofs.Taking.{leaves-unread, leaves-refused, leaves-taken, path-there, start-takes}
 use Rattle.build.proofs.take_start_path.Statement.{statement}
 use Rattle.build.proofs.take_start_path.Tie as tie
 
@@ -11,31 +11,33 @@ returns c =
     let k = c .before .before in
     let a = k .before .before .before .args in
     let T = start-takes (a .n) (a .rows .now) (a .s .now) (a .at) (a .ends) (buildIn (a .sets) (a .pointers .now) (a .linked .now)) in
-    leaves-unread T (k .read-link-path .ensures) (c .enum-told2 .given .1) refl refl
+    leaves-unread T (k .read-link-path .ensures) (c .match .keys2) refl refl
 
 returns-2 : tie.Need-returns-2
 returns-2 c =
-    let k = c .before .before .before .before .before .before .before .before in
+    let m = c .before .before .before .before .before .before .before in
+    let k = m .before .before .before in
     let a = k .before .before .before .args in
     let T = start-takes (a .n) (a .rows .now) (a .s .now) (a .at) (a .ends) (buildIn (a .sets) (a .pointers .now) (a .linked .now)) in
-    leaves-refused T (k .read-link-path .ensures) (c .before .before .before .before .before .before .enum-told .given .1) (c .before .path-fault .ensures) (c .if1 .taken) refl refl
+    leaves-refused T (k .read-link-path .ensures) (m .enum-told .given .1) (c .before .before .path-fault .ensures) (c .before .if1 .taken) (c .refused .ensures) refl
 
 enter-requires : tie.Need-enter-requires
 enter-requires c κs =
     let m = c .before .before .before .before .before .before .before .before in
-    let k = m .before .before in
+    let k = m .before .before .before in
     let a = k .before .before .before .args in
     let T = start-takes (a .n) (a .rows .now) (a .s .now) (a .at) (a .ends) (buildIn (a .sets) (a .pointers .now) (a .linked .now)) in
-    len-low T (k .read-link-path .ensures) (m .enum-told .given .1)
+    path-there T (k .read-link-path .ensures) (m .enum-told .given .1)
 
 returns-3 : tie.Need-returns-3
 returns-3 c =
-    let h = c .before .before .before in
-    let k = h .before .before .before .before .before .before .before .before in
+    let i = c .before .before .before in
+    let m = i .before .before .before .before .before .before in
+    let k = m .before .before .before in
     let a = k .before .before .before .args in
     let T = start-takes (a .n) (a .rows .now) (a .s .now) (a .at) (a .ends) (buildIn (a .sets) (a .pointers .now) (a .linked .now)) in
-    leaves-taken T (k .read-link-path .ensures) (h .before .before .before .before .before .before .enum-told .given .1) (h .before .path-fault .ensures) (h .if1 .left) (c .enter .ensures .0) (c .enter .ensures .1)
+    leaves-taken T (k .read-link-path .ensures) (m .enum-told .given .1) (i .before .path-fault .ensures) (i .if1 .left) (c .enter .ensures .0) (c .enter .ensures .1)
 
 pub take-start-path-spec : {M : Type 1} → statement M
 take-start-path-spec = tie.close (tie.spec
-    (λ c κs. search needs) (λ c. search needs) (λ c. search needs) returns (λ c κs. search needs) returns-2 enter-requires returns-3)
+    (λ c κs. search needs) (λ c. search needs) returns (λ c κs. search needs) (λ c κs. search needs) returns-2 enter-requires returns-3)

@@ -24,27 +24,28 @@ loop-holds c = turn-start _ _ _ _ (c .none .ensures) (c .none .ensures) ∙ ears
 returns : tie.Need-returns Inv-loop μ-loop
 returns c =
     let h = c .before .before in
-    let f = c .enum-told .given .1 in
-    f ∙ turn-stop _ _ _ (h .before .loop-test .taken) _ _ _ (ear-fault _ _ (h .read-ear .ensures) f) ∙ h .before .before .loop .inv
+    let f = ear-fault _ _ (h .read-ear .ensures) (c .match .keys2) in
+    f .3 ∙ turn-stop _ _ _ (h .before .loop-test .taken) _ _ _ (f .2) ∙ h .before .before .loop .inv
 
 loop-again : tie.Need-loop-again Inv-loop μ-loop
 loop-again c =
-    let x = c .before .before in
-    let h = x .before .before in
-    let t = ear-told _ _ (h .read-ear .ensures) (x .x .given .1) in
+    let h = c .before .before .before .before in
+    let t = ear-told _ _ (h .read-ear .ensures) (c .before .enum-told .given .1) in
     turn-go _ _ _ (h .before .loop-test .taken) _ _ (t .1 .0) (t .1 .1) (t .1 .1) ∙ h .before .before .loop .inv
 
 returns-2 : tie.Need-returns-2 Inv-loop μ-loop
 returns-2 c =
-    let h = c .before .before .before in
-    pick-true _ _ (sym (c .before .all-below .ensures) ∙ c .if1 .taken) ∙ turn-done _ _ _ (h .loop-test .left) _ _ _ ∙ h .before .loop .inv
+    let k = c .before .before in
+    let h = k .before .before in
+    c .taken .ensures ∙ pick-true _ _ (sym (k .all-below .ensures) ∙ c .before .if1 .taken) ∙ turn-done _ _ _ (h .loop-test .left) _ _ _ ∙ h .before .loop .inv
 
 returns-3 : tie.Need-returns-3 Inv-loop μ-loop
 returns-3 c =
-    let h = c .before .before .before in
-    pick-false _ _ (sym (c .before .all-below .ensures) ∙ c .if1 .left) ∙ turn-done _ _ _ (h .loop-test .left) _ _ _ ∙ h .before .loop .inv
+    let k = c .before .before in
+    let h = k .before .before in
+    c .refused .ensures ∙ pick-false _ _ (sym (k .all-below .ensures) ∙ c .before .if1 .left) ∙ turn-done _ _ _ (h .loop-test .left) _ _ _ ∙ h .before .loop .inv
 
 pub read-all-ears-spec : {M : Type 1} → statement M
 read-all-ears-spec = tie.close (tie.spec
-    Inv-loop μ-loop (λ c κs. search needs) loop-holds (λ c κs. search needs) (λ c. search needs) (λ c. search needs) returns
-    (λ c. search needs) (λ c. search needs) loop-again (λ c κs. search needs) returns-2 returns-3)
+    Inv-loop μ-loop (λ c κs. search needs) loop-holds (λ c κs. search needs) (λ c. search needs) returns
+    (λ c. search needs) (λ c. search needs) loop-again (λ c κs. search needs) (λ c κs. search needs) returns-2 (λ c κs. search needs) returns-3)

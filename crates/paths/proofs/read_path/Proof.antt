@@ -13,47 +13,47 @@ use Rattle.paths.proofs.read_path.Tie as tie
 
 returns : tie.Need-returns
 unfolding pathRead
-returns c = c .no-path .ensures ∙ rw (lt-leb _ _ (c .before .if1 .taken))
+returns c = c .no-path .ensures ∙ rw (c .before .refused .ensures, lt-leb _ _ (c .before .before .if1 .taken))
 
 returns-2 : tie.Need-returns-2
 unfolding pathRead
 returns-2 c =
-    let k = c .before .before .before in
-    let f = c .before .enum-told .given .1 in
-    c .fault-path .ensures ∙ rw (f, le-leb _ _ (k .before .if1 .left)) (ap (pathRead _ _) (sym (path-length _ _ _ _ (fault-told _ f (k .read-ranged .ensures)))))
+    let x = c .before .before in
+    let f = fault-told _ (c .before .match .keys2) (x .read-ranged .ensures) in
+    c .no-path2 .ensures ∙ rw (f .3, le-leb _ _ (x .before .if1 .left)) (ap (pathRead _ _) (sym (path-length _ _ _ _ (f .2))))
 
 returns-3 : tie.Need-returns-3
 unfolding pathRead
 returns-3 c =
-    let y = c .before .before .before in
-    let x = y .before .before in
-    let k = x .before .before in
-    let f = c .before .enum-told2 .given .1 in
-    let a = k .before .before .before .args in
-    let e = value-told _ (x .x .given .1) (k .read-ranged .ensures) in
-    let two : 2 ≤ x .x .given .0 .0 = omega (arith, ranged-low (a .least) (a .n) _ _ e) in
-    c .fault-path2 .ensures ∙ rw (f, le-leb _ _ (k .before .if1 .left)) (ap (pathRead _ _) (sym (path-first _ _ _ _ e two (fault-told _ f (y .read-vertex .ensures)))))
+    let y = c .before .before in
+    let k = y .before in
+    let x = k .before .before in
+    let a = x .before .before .before .args in
+    let f = fault-told _ (c .before .match2 .keys2) (y .read-vertex .ensures) in
+    let e = value-told _ (k .enum-told .given .1) (x .read-ranged .ensures) in
+    let two : 2 ≤ x .read-ranged .result .value = omega (arith, ranged-low (a .least) (a .n) _ _ e) in
+    c .no-path3 .ensures ∙ rw (f .3, le-leb _ _ (x .before .if1 .left)) (ap (pathRead _ _) (sym (path-first _ _ _ _ e two (f .2))))
 
 read-rest-requires : tie.Need-read-rest-requires
 read-rest-requires c κs =
-    let x = c .before .before .before .before .before in
-    let k = x .before .before in
-    let a = k .before .before .before .args in
-    let e = value-told _ (x .x .given .1) (k .read-ranged .ensures) in
+    let k = c .before .before .before in
+    let x = k .before .before in
+    let a = x .before .before .before .args in
+    let e = value-told _ (k .enum-told .given .1) (x .read-ranged .ensures) in
     omega (arith, ranged-low (a .least) (a .n) _ _ e)
 
 returns-4 : tie.Need-returns-4
 returns-4 c =
-    let y = c .before .before in
-    let x = y .before .before .before .before in
-    let k = x .before .before in
-    let a = k .before .before .before .args in
-    let e = value-told _ (x .x .given .1) (k .read-ranged .ensures) in
-    let two : 2 ≤ x .x .given .0 .0 = omega (arith, ranged-low (a .least) (a .n) _ _ e) in
+    let y = c .before .before .before in
+    let k = y .before in
+    let x = k .before .before in
+    let a = x .before .before .before .args in
+    let e = value-told _ (k .enum-told .given .1) (x .read-ranged .ensures) in
+    let two : 2 ≤ x .read-ranged .result .value = omega (arith, ranged-low (a .least) (a .n) _ _ e) in
     let h : a .n ≤ capacity = omega arith in
-    c .read-rest .ensures ∙ rw (le-leb _ _ h) (path-rest _ _ _ _ e two _ _ h (value-told _ (y .y .given .1) (y .before .before .read-vertex .ensures)))
+    c .read-rest .ensures ∙ rw (le-leb _ _ h) (path-rest _ _ _ _ e two _ _ h (value-told _ (c .before .enum-told2 .given .1) (y .read-vertex .ensures)))
 
 pub read-path-spec : {M : Type 1} → statement M
 read-path-spec = tie.close (tie.spec
-    (λ c κs. search needs) returns (λ c κs. search needs) (λ c. search needs) (λ c. search needs) (λ c κs. search needs) returns-2
-    (λ c κs. search needs) (λ c. search needs) (λ c. search needs) (λ c κs. search needs) returns-3 read-rest-requires returns-4)
+    (λ c κs. search needs) (λ c κs. search needs) returns (λ c κs. search needs) (λ c. search needs) (λ c κs. search needs) returns-2
+    (λ c κs. search needs) (λ c. search needs) (λ c κs. search needs) returns-3 read-rest-requires returns-4)

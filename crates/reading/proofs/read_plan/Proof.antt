@@ -1,32 +1,17 @@
--- `graph::read_plan` meets its contract. Assumes nothing.
-use Prim.Native.Nat.{ℕ}
-use mathlib.Core.Path.{_≡_, _∙_}
+-- `reading::read_plan` meets its contract. Assumes nothing.
+use mathlib.Core.Path.{_∙_}
 use borrow.Author.Needs.{needs}
-use native.Mathlib.Omega.{arith}
-use Rattle.reading.proofs.Reading.{whole-more, whole-done, whole-fault}
+use Rattle.record.specs.Read.{ended}
+use Rattle.reading.specs.Plan.{plan}
+use Rattle.reading.proofs.Plans.{whole-rows, valued}
 use Rattle.reading.proofs.read_plan.Statement.{statement}
 use Rattle.reading.proofs.read_plan.Tie as tie
 
 returns : tie.Need-returns
 returns c =
-    let k = c .before .before in
-    c .refused .ensures ∙ whole-more _ (k .before .before .read-leading-plan .ensures) (k .enum-told .given .1) (c .before .if1 .taken)
-
-returns-2 : tie.Need-returns-2
-returns-2 c =
     let k = c .before in
-    whole-done _ (k .before .before .read-leading-plan .ensures) (k .enum-told .given .1) (c .if1 .left)
-
-returns-3 : tie.Need-returns-3
-returns-3 c = whole-fault _ (c .before .before .read-leading-plan .ensures) (λ e. let z : _≡_ {A = ℕ} 0 1 = cc (c .enum-told2 .given .1) in omega arith)
-
-returns-4 : tie.Need-returns-4
-returns-4 c = whole-fault _ (c .before .before .read-leading-plan .ensures) (λ e. let z : _≡_ {A = ℕ} 0 1 = cc (c .enum-told3 .given .1) in omega arith)
-
-returns-5 : tie.Need-returns-5
-returns-5 c = whole-fault _ (c .before .before .read-leading-plan .ensures) (λ e. let z : _≡_ {A = ℕ} 0 1 = cc (c .enum-told4 .given .1) in omega arith)
+    let s = k .before .before .before .args .s .now in
+    c .by-value .ensures ∙ valued (ended plan s 0) (k .read-plan-rows .ensures .0) (λ e. k .read-plan-rows .ensures .1 ∙ whole-rows s e)
 
 pub read-plan-spec : {M : Type 1} → statement M
-read-plan-spec = tie.close (tie.spec
-    (λ c κs. search needs) (λ c. search needs) (λ c κs. search needs) returns (λ c. search needs) (λ c. search needs) (λ c. search needs)
-    returns-2 returns-3 returns-4 returns-5)
+read-plan-spec = tie.close (tie.spec (λ c κs. search needs) (λ c κs. search needs) returns)

@@ -29,24 +29,24 @@ loop-holds c =
 
 returns : tie.Need-returns Inv-loop μ-loop
 returns c =
-    let h = c .before .before in
-    let f = c .enum-told .given .1 in
-    f ∙ turn-stop _ _ _ (h .before .loop-test .taken) _ _ _ (pair-refused _ (h .read-pair .ensures) f) ∙ h .before .before .loop .inv .1
+    let h = c .before in
+    let f = pair-refused _ (h .read-pair .ensures) (c .match .keys2) in
+    f .3 ∙ turn-stop _ _ _ (h .before .loop-test .taken) _ _ _ (f .2) ∙ h .before .before .loop .inv .1
 
 loop-again : tie.Need-loop-again Inv-loop μ-loop
 loop-again c =
-    let h = c .before .before .before .before in
+    let h = c .before .before .before in
     let named = h .before .before .loop .named in
     let l : length (named .words) ≡ wordCount = h .before .before .loop .inv .0 in
-    let q = pair-got _ (h .read-pair .ensures) (c .before .before .x .given .1) in
+    let q = pair-got _ (h .read-pair .ensures) (c .before .enum-told .given .1) in
     let z = pair-low _ _ _ _ _ (q .1) in
-    let w : c .before .before .x .given .0 .0 < 64 * wordCount = omega arith in
+    let w : h .read-pair .result .value < 64 * wordCount = omega arith in
     (more-length named l _ (c .insert2 .ensures), turn-go _ _ _ (h .before .loop-test .taken) _ _ (q .1) (more-has named l (c .insert2 .ensures) w) refl ∙ h .before .before .loop .inv .1)
 
 returns-2 : tie.Need-returns-2 Inv-loop μ-loop
-returns-2 c = turn-done _ _ _ (c .loop-test .left) _ _ _ ∙ c .before .loop .inv .1
+returns-2 c = c .taken .ensures ∙ turn-done _ _ _ (c .before .loop-test .left) _ _ _ ∙ c .before .before .loop .inv .1
 
 pub read-pairs-spec : {M : Type 1} → statement M
 read-pairs-spec = tie.close (tie.spec Inv-loop μ-loop
-    (λ c κs. search needs) (λ c κs. search needs) loop-holds (λ c κs. search needs) (λ c. search needs) (λ c. search needs) returns
-    (λ c κs. search needs) (λ c. search needs) (λ c. search needs) loop-again returns-2)
+    (λ c κs. search needs) (λ c κs. search needs) loop-holds (λ c κs. search needs) (λ c. search needs) returns
+    (λ c κs. search needs) (λ c. search needs) (λ c. search needs) loop-again (λ c κs. search needs) returns-2)

@@ -11,50 +11,52 @@ use Rattle.sides.proofs.read_side.Tie as tie
 
 returns : tie.Need-returns
 returns c =
-    let a = c .before .before .args in
-    over-limit (a .n) (a .s .now) (a .at) (side (rowsGraph (a .n) (a .rows .now)) (has (a .removed .words))) (c .if1 .taken)
+    let a = c .before .before .before .args in
+    c .refused .ensures ∙ over-limit (a .n) (a .s .now) (a .at) (side (rowsGraph (a .n) (a .rows .now)) (has (a .removed .words))) (c .before .if1 .taken)
 
 returns-2 : tie.Need-returns-2
 returns-2 c =
-    let i = c .before .before .before in
+    let i = c .before .before in
     let a = i .before .before .args in
     let g = rowsGraph (a .n) (a .rows .now) in
-    let f = c .enum-told .given .1 in
-    f ∙ count-refused g (has (a .removed .words)) (a .s .now) (a .at) (fault-told _ f (c .before .before .read-ranged .ensures)) ∙ in-limit (a .n) (a .s .now) (a .at) (side g (has (a .removed .words))) (i .if1 .left)
+    let f = fault-told _ (c .match .keys2) (c .before .read-ranged .ensures) in
+    f .3 ∙ count-refused g (has (a .removed .words)) (a .s .now) (a .at) (f .2) ∙ in-limit (a .n) (a .s .now) (a .at) (side g (has (a .removed .words))) (i .if1 .left)
 
 returns-3 : tie.Need-returns-3
 returns-3 c =
-    let k = c .before .before .before .before in
+    let r = c .before .before in
+    let k = r .before in
     let i = k .before .before .before in
     let a = i .before .before .args in
     let g = rowsGraph (a .n) (a .rows .now) in
-    let f = c .enum-told2 .given .1 in
-    f ∙ side-refused g (has (a .removed .words)) (a .s .now) (a .at) (value-told _ (k .x .given .1) (k .before .before .read-ranged .ensures)) (c .before .before .read-side-vertices .ensures) f
+    side-refused g (has (a .removed .words)) (a .s .now) (a .at) (value-told _ (k .enum-told .given .1) (k .before .before .read-ranged .ensures)) (r .read-side-vertices .ensures) (c .match2 .keys2)
     ∙ in-limit (a .n) (a .s .now) (a .at) (side g (has (a .removed .words))) (i .if1 .left)
 
 tested-side-requires : tie.Need-tested-side-requires
 tested-side-requires c κs =
-    let h = c .before .before in
-    let k = h .before .before .before .before in
+    let h = c .before in
+    let r = h .before .before .before in
+    let k = r .before in
     let i = k .before .before .before in
     let a = i .before .before .args in
     let g = rowsGraph (a .n) (a .rows .now) in (
       i .if1 .left,
-      side-read g (has (a .removed .words)) (a .s .now) (a .at) (value-told _ (k .x .given .1) (k .before .before .read-ranged .ensures)) (h .before .before .read-side-vertices .ensures) (i .if1 .left) (h .end .given .1) .0,
+      side-read g (has (a .removed .words)) (a .s .now) (a .at) (value-told _ (k .enum-told .given .1) (k .before .before .read-ranged .ensures)) (r .read-side-vertices .ensures) (i .if1 .left) (h .enum-told2 .given .1) .0,
     )
 
 returns-4 : tie.Need-returns-4
 returns-4 c =
-    let h = c .before .before .before in
-    let k = h .before .before .before .before in
+    let h = c .before .before in
+    let r = h .before .before .before in
+    let k = r .before in
     let i = k .before .before .before in
     let a = i .before .before .args in
     let g = rowsGraph (a .n) (a .rows .now) in
     c .tested-side .ensures
-    ∙ side-read g (has (a .removed .words)) (a .s .now) (a .at) (value-told _ (k .x .given .1) (k .before .before .read-ranged .ensures)) (h .before .before .read-side-vertices .ensures) (i .if1 .left) (h .end .given .1) .1
+    ∙ side-read g (has (a .removed .words)) (a .s .now) (a .at) (value-told _ (k .enum-told .given .1) (k .before .before .read-ranged .ensures)) (r .read-side-vertices .ensures) (i .if1 .left) (h .enum-told2 .given .1) .1
     ∙ in-limit (a .n) (a .s .now) (a .at) (side g (has (a .removed .words))) (i .if1 .left)
 
 pub read-side-spec : {M : Type 1} → statement M
 read-side-spec = tie.close (tie.spec
-    returns (λ c κs. search needs) (λ c. search needs) (λ c. search needs) returns-2
-    (λ c κs. search needs) (λ c. search needs) (λ c. search needs) returns-3 tested-side-requires returns-4)
+    (λ c κs. search needs) returns (λ c κs. search needs) (λ c. search needs) returns-2
+    (λ c κs. search needs) (λ c. search needs) returns-3 tested-side-requires returns-4)

@@ -23,26 +23,27 @@ loop-holds c = rw (c .empty .ensures)
 
 returns : tie.Need-returns Inv-loop μ-loop
 returns c =
-    let h = c .before .before .before in
-    let f = c .before .enum-told .given .1 in
-    rw (f, c .empty2 .ensures) (turn-stop _ _ _ (h .before .loop-test .taken) _ _ _ (fault-told _ f (h .read-side-vertex .ensures)) ∙ h .before .before .loop .inv)
+    let h = c .before .before in
+    let f = fault-told _ (c .before .match .keys2) (h .read-side-vertex .ensures) in
+    rw (f .3, c .empty2 .ensures) (turn-stop _ _ _ (h .before .loop-test .taken) _ _ _ (f .2) ∙ h .before .before .loop .inv)
 
 add-least : tie.Need-add-least Inv-loop μ-loop
 add-least c =
-    let h = c .before .before .before .before in
-    let z = side-vertex-low _ _ _ _ _ _ _ (value-told _ (c .before .before .x .given .1) (h .read-side-vertex .ensures)) in
+    let k = c .before .before in
+    let z = side-vertex-low _ _ _ _ _ _ _ (value-told _ (k .enum-told .given .1) (k .before .before .read-side-vertex .ensures)) in
     search needs
 
 loop-again : tie.Need-loop-again Inv-loop μ-loop
 loop-again c =
-    let h = c .before .before .before .before in
-    turn-go _ _ _ (h .before .loop-test .taken) _ _ (value-told _ (c .before .before .x .given .1) (h .read-side-vertex .ensures)) (add-one _) (c .insert .ensures)
+    let k = c .before .before in
+    let h = k .before .before in
+    turn-go _ _ _ (h .before .loop-test .taken) _ _ (value-told _ (k .enum-told .given .1) (h .read-side-vertex .ensures)) (add-one _) (c .before .insert .ensures)
     ∙ h .before .before .loop .inv
 
 returns-2 : tie.Need-returns-2 Inv-loop μ-loop
-returns-2 c = turn-done _ _ _ (c .loop-test .left) _ _ _ ∙ c .before .loop .inv
+returns-2 c = rw (c .taken .ensures) (turn-done _ _ _ (c .before .loop-test .left) _ _ _ ∙ c .before .before .loop .inv)
 
 pub read-side-vertices-spec : {M : Type 1} → statement M
 read-side-vertices-spec = tie.close (tie.spec Inv-loop μ-loop
-    (λ c κs. search needs) loop-holds (λ c κs. search needs) (λ c. search needs) (λ c. search needs) (λ c κs. search needs) returns
-    (λ c κs. search needs) add-least (λ c. search needs) (λ c. search needs) loop-again returns-2)
+    (λ c κs. search needs) loop-holds (λ c κs. search needs) (λ c. search needs) (λ c κs. search needs) returns
+    (λ c κs. search needs) add-least (λ c. search needs) (λ c. search needs) loop-again (λ c κs. search needs) returns-2)

@@ -6,7 +6,7 @@ use borrow.Author.Needs.{needs}
 use lib.ListN.{length}
 use Rattle.vertexset.specs.Set.{wordCount}
 use Rattle.construction.specs.Ears.{pathSpace}
-use Rattle.detours.proofs.Ways.{next-low}
+use Rattle.detours.proofs.NextMember.{next-low}
 use Rattle.detours.proofs.Filled.{filled-none}
 use Rattle.starting.proofs.Links.{link-added, six-sorted, six-start}
 use Rattle.starting.proofs.six_links.Statement.{statement}

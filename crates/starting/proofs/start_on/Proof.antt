@@ -6,11 +6,12 @@ use Rattle.starting.proofs.start_on.Tie as tie
 
 returns : tie.Need-returns
 returns c =
-    let t = c .before .before .before .before .before .before in
-    let y = t .before .before .before .before in
+    let t = c .before .before .before .before .before in
+    let i = t .before .before in
+    let y = i .before .before .before in
     let a = y .before .before .before .before .before .before .before .args in
     start-is (a .around .now) (a .third .now) (a .across .now) (y .before .before .number-at .ensures) (y .before .pair .ensures) (y .number-at2 .ensures)
-    (t .before .before .before .insert .ensures) (t .before .before .last-of .ensures) (t .before .insert2 .ensures) (t .table-of .ensures)
+    (i .before .before .insert .ensures) (i .before .last-of .ensures) (i .insert2 .ensures) (t .join-paths .ensures)
     (c .before .before .six-links .ensures)
 
 pub start-on-spec : {M : Type 1} → statement M

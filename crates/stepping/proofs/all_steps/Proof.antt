@@ -6,8 +6,7 @@ use borrow.Author.Needs.{needs}
 use Rattle.graph.specs.Limits.{maxEdges}
 use Rattle.search.specs.Code.{searchSpace}
 use Rattle.construction.specs.Steps.{steps}
-use Rattle.stepping.specs.Code.{stateIn, Works}
-use Rattle.detours.specs.Code.{Kept}
+use Rattle.stepping.specs.Code.{stateIn, Holds, Works}
 use Rattle.detours.proofs.Kept.{kept-length}
 use Rattle.stepping.proofs.Working.{none-works}
 use Rattle.stepping.proofs.Stepping.{steps-stopped, steps-none, steps-turn}
@@ -17,7 +16,7 @@ use Rattle.stepping.proofs.all_steps.Tie as tie
 abbrev Inv-loop : tie.InvT-loop
 Inv-loop rows space₀ full flat₀ s₀ left₀ space flat s left =
     (length space ≡ searchSpace)
-    × ((Kept flat (s .progress .len) × (steps rows full left (stateIn flat (s .progress)) ≡ steps rows full (maxEdges + 1) (stateIn flat₀ (s₀ .progress)))) × Works (stateIn flat (s .progress)) (s .work))
+    × ((Holds rows flat (s .progress) × (steps rows full left (stateIn flat (s .progress)) ≡ steps rows full (maxEdges + 1) (stateIn flat₀ (s₀ .progress)))) × Works (stateIn flat (s .progress)) (s .work))
 
 abbrev μ-loop : tie.MeasureT-loop
 μ-loop rows space₀ full flat₀ s₀ left₀ space flat s left = left
@@ -34,7 +33,7 @@ same-length-2 : tie.Need-same-length-2 Inv-loop μ-loop
 same-length-2 c =
     let l = c .before .before .before .before .loop in
     let s = c .before .before .before .before .before .before .before .before in
-    kept-length (l .flat) (l .s .progress .len) (l .inv .1 .0 .0) ∙ sym (kept-length (s .args .flat .now) (s .args .first .len) (s .pre .1))
+    kept-length (l .flat) (l .s .progress .len) (l .inv .1 .0 .0 .kept) ∙ sym (kept-length (s .args .flat .now) (s .args .first .len) (s .pre .1 .kept))
 
 returns : tie.Need-returns Inv-loop μ-loop
 returns c =
@@ -64,7 +63,7 @@ same-length-4 : tie.Need-same-length-4 Inv-loop μ-loop
 same-length-4 c =
     let l = c .before .before .loop in
     let s = c .before .before .before .before .before .before in
-    kept-length (l .flat) (l .s .progress .len) (l .inv .1 .0 .0) ∙ sym (kept-length (s .args .flat .now) (s .args .first .len) (s .pre .1))
+    kept-length (l .flat) (l .s .progress .len) (l .inv .1 .0 .0 .kept) ∙ sym (kept-length (s .args .flat .now) (s .args .first .len) (s .pre .1 .kept))
 
 returns-2 : tie.Need-returns-2 Inv-loop μ-loop
 returns-2 c =

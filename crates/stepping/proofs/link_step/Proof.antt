@@ -1,11 +1,9 @@
 -- `stepping::link_step` meets its contract. Assumes nothing.
-use mathlib.Core.Path.{_≡_}
 use native.Mathlib.Omega.{arith}
-use lib.ListN.{length, getD}
+use lib.ListN.{getD}
 use mir.Val.{Fits}
 use mir.Syntax.{w64}
 use borrow.Author.Needs.{needs}
-use Rattle.vertexset.specs.Set.{wordCount}
 use Rattle.construction.proofs.Basics.{Sized}
 use Rattle.detours.proofs.Kept.{kept-length}
 use Rattle.stepping.proofs.Working.{none-works}
@@ -16,12 +14,12 @@ use Rattle.stepping.proofs.link_step.Tie as tie
 part-list-end : tie.Need-part-list-end
 part-list-end c =
     let s = c .before .before .before .before .before .before in
-    omega (arith, kept-length (s .args .flat .now) (s .args .b .len) (s .pre .1 .0), s .pre .1 .0 .1)
+    omega (arith, kept-length (s .args .flat .now) (s .args .b .len) (s .pre .1 .0 .kept), s .pre .1 .0 .kept .1)
 
 off-link-requires : tie.Need-off-link-requires
 off-link-requires c κs =
     let s = c .before .before .before .before .before .before .before .before in
-    (s .pre .0, link-set (s .args .flat .now) (s .args .b) (s .args .w) (s .pre .1 .1 .1))
+    (s .pre .0, link-set (s .args .rows .now) (s .args .flat .now) (s .args .b) (s .args .w) (s .pre .1 .1 .1))
 
 returns : tie.Need-returns
 returns c =
@@ -54,16 +52,14 @@ returns-2 c =
     -- what is known of the two sets' words: too deep for the search to find it
     let gb = s .good .1 .1 .1 .0 .1 .1 .0 .1 .1 .0 in
     let gu = s .good .1 .1 .1 .0 .1 .1 .1 .0 .1 .1 .0 in
-    let n : length (a .b .branch .words) ≡ wordCount = search needs in
-    let m : length (a .b .built .words) ≡ wordCount = search needs in
-    let sb : Sized (a .b .branch) = record { size = n; words = λ i. let k : Fits w64 (getD (a .b .branch .words) i 0) = search needs in k .fits } in
-    let su : Sized (a .b .built) = record { size = m; words = λ i. let k : Fits w64 (getD (a .b .built .words) i 0) = search needs in k .fits } in (
+    let sb : Sized (a .b .branch) = record { size = search needs; words = λ i. let k : Fits w64 (getD (a .b .branch .words) i 0) = search needs in k .fits } in
+    let su : Sized (a .b .built) = record { size = search needs; words = λ i. let k : Fits w64 (getD (a .b .built .words) i 0) = search needs in k .fits } in (
       link-goes (a .rows .now) (a .flat .now) (a .b) (s .pre .1 .0) (a .w .first)
           (link-found (a .rows .now) (a .flat .now) (a .b) (s .pre .1 .0) (a .w .first) (s .pre .1 .1 .1 .run) (f .off-link .ensures))
           (t .before .is-cut .ensures) (t .if1 .left)
           (link-inner (a .rows .now) (a .flat .now) (a .b) (s .pre .1 .0) (a .w .first) (s .pre .1 .1 .1 .run) (s .pre .1 .1 .1 .link))
           (u .before .front .ensures) (u .up-to .ensures) (e .ensures),
-      link-works (a .flat .now) (a .b) (a .w) sb su (s .pre .1 .1 .0) (s .pre .1 .1 .1) (u .before .front .result .now) (u .up-to .ensures) (c .before .before .before .before .before .last-of .ensures) (c .before .before .before .before .work-left .result) (c .before .before .before .before .work-left .ensures) (e .ensures),
+      link-works (a .rows .now) (a .flat .now) (a .b) (a .w) sb su (s .pre .1 .1 .0) (s .pre .1 .1 .1) (u .before .front .result .now) (u .up-to .ensures) (c .before .before .before .before .before .last-of .ensures) (c .before .before .before .before .work-left .result) (c .before .before .before .before .work-left .ensures) (e .ensures),
     )
 
 pub link-step-spec : {M : Type 1} → statement M

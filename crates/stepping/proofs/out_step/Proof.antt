@@ -22,12 +22,12 @@ returns-2 c =
     let s = e .before .before .before .before .before in
     let a = s .args in
     out-stops (a .rows .now) (a .full) (a .flat .now) (a .b) (s .pre .1) (e .before .minus .ensures) (e .is-empty .ensures) (d .before .before .if1 .left)
-    (detour-told (a .space .now) (s .pre .0) (a .rows .now) (a .full) (a .b .built) (d .detour .ensures .1)) (c .before .before .is-cut .ensures) (c .before .if2 .taken) (c .stopped2 .ensures)
+    (detour-told (a .space .now) (s .pre .0) (a .rows .now) (a .b .near) (a .b .built) (d .detour .ensures .1)) (c .before .before .is-cut .ensures) (c .before .if2 .taken) (c .stopped2 .ensures)
 
 part-beside-end : tie.Need-part-beside-end
 part-beside-end c =
     let s = c .before .before .before .before .before .before .before .before .before .before .before .before .before .before .before .before .before in
-    omega (arith, kept-length (s .args .flat .now) (s .args .b .len) (s .pre .1), s .pre .1 .1)
+    omega (arith, kept-length (s .args .flat .now) (s .args .b .len) (s .pre .1 .kept), s .pre .1 .kept .1)
 
 reroute-requires : tie.Need-reroute-requires
 reroute-requires c κs =
@@ -35,7 +35,7 @@ reroute-requires c κs =
     let s = d .before .before .before .before .before .before .before .before in
     let a = s .args in (
       s .pre .1,
-      (c .before .if3 .taken, part-short (a .rows .now) (a .full) (a .b .built) (d .detour .result) (detour-told (a .space .now) (s .pre .0) (a .rows .now) (a .full) (a .b .built) (d .detour .ensures .1)) (c .before .before .before .before .before .before .before .front .ensures)),
+      (c .before .if3 .taken, part-short (a .rows .now) (a .b .near) (a .b .built) (d .detour .result) (detour-told (a .space .now) (s .pre .0) (a .rows .now) (a .b .near) (a .b .built) (d .detour .ensures .1)) (c .before .before .before .before .before .before .before .front .ensures)),
     )
 
 same-length-2 : tie.Need-same-length-2
@@ -50,7 +50,7 @@ returns-3 c =
     let s = e .before .before .before .before .before in
     let a = s .args in
     out-reroutes (a .rows .now) (a .full) (a .flat .now) (a .b) (s .pre .1) (e .before .minus .ensures) (e .is-empty .ensures) (d .before .before .if1 .left)
-    (detour-told (a .space .now) (s .pre .0) (a .rows .now) (a .full) (a .b .built) (d .detour .ensures .1)) (t .before .is-cut .ensures) (t .if2 .left) (k .before .before .before .before .before .front .ensures)
+    (detour-told (a .space .now) (s .pre .0) (a .rows .now) (a .b .near) (a .b .built) (d .detour .ensures .1)) (t .before .is-cut .ensures) (t .if2 .left) (k .before .before .before .before .before .front .ensures)
     (k .before .before .last-of .ensures) (k .before .number-at .ensures) (k .beside .ensures) (c .before .before .before .before .if3 .taken) (c .before .before .reroute .ensures)
 
 same-length-4 : tie.Need-same-length-4
@@ -65,7 +65,7 @@ returns-4 c =
     let s = e .before .before .before .before .before in
     let a = s .args in
     out-extends (a .rows .now) (a .full) (a .flat .now) (a .b) (s .pre .1) (e .before .minus .ensures) (e .is-empty .ensures) (d .before .before .if1 .left)
-    (detour-told (a .space .now) (s .pre .0) (a .rows .now) (a .full) (a .b .built) (d .detour .ensures .1)) (t .before .is-cut .ensures) (t .if2 .left) (k .before .before .before .before .before .front .ensures)
+    (detour-told (a .space .now) (s .pre .0) (a .rows .now) (a .b .near) (a .b .built) (d .detour .ensures .1)) (t .before .is-cut .ensures) (t .if2 .left) (k .before .before .before .before .before .front .ensures)
     (k .before .before .last-of .ensures) (k .before .number-at .ensures) (k .beside .ensures) (c .before .before .before .before .if3 .left) (c .before .before .extend .ensures)
 
 pub out-step-spec : {M : Type 1} → statement M

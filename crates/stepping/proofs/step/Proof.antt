@@ -10,7 +10,7 @@ use Rattle.stepping.proofs.step.Tie as tie
 part-at-work-end : tie.Need-part-at-work-end
 part-at-work-end c =
     let s = c .before .before .before .before .before .before .before in
-    omega (arith, kept-length (s .args .flat .now) (s .args .s .progress .len) (s .pre .1 .0), s .pre .1 .0 .1)
+    omega (arith, kept-length (s .args .flat .now) (s .args .s .progress .len) (s .pre .1 .0 .kept), s .pre .1 .0 .kept .1)
 
 at-work-requires : tie.Need-at-work-requires
 at-work-requires c κs =

@@ -1,12 +1,11 @@
--- `starting::table_of` meets its contract. Assumes nothing.
+-- `starting::join_paths` meets its contract. Assumes nothing.
 use mathlib.Core.Path.{_∙_}
 use native.Mathlib.Omega.{arith}
 use borrow.Author.Needs.{needs}
-use Rattle.graph.specs.Rows.{bareRows}
 use Rattle.detours.proofs.Filled.{filled-length}
 use Rattle.starting.proofs.Paths.{closed-filled, three-room, three-marked}
-use Rattle.starting.proofs.table_of.Statement.{statement}
-use Rattle.starting.proofs.table_of.Tie as tie
+use Rattle.starting.proofs.join_paths.Statement.{statement}
+use Rattle.starting.proofs.join_paths.Tie as tie
 
 part-add-path-end : tie.Need-part-add-path-end
 part-add-path-end c =
@@ -33,10 +32,10 @@ returns c =
     let s = k .before .before .before .before .before in
     let a = s .args in
     c .mark .ensures
-    ∙ three-marked (a .around .now) (a .third .now) (a .across .now) (s .pre) (k .put-all .ensures) (r .add-path .ensures) (q .add-path2 .ensures) (p .add-path3 .ensures) bareRows
+    ∙ three-marked (a .around .now) (a .third .now) (a .across .now) (s .pre) (k .put-all .ensures) (r .add-path .ensures) (q .add-path2 .ensures) (p .add-path3 .ensures) (a .table .now)
 
-pub table-of-spec : {M : Type 1} → statement M
-table-of-spec =
+pub join-paths-spec : {M : Type 1} → statement M
+join-paths-spec =
     tie.close
     (tie.spec
     (λ c. search needs) (λ c κs. search needs) (λ c. search needs) (λ c. search needs) (λ c. search needs) part-add-path-end
