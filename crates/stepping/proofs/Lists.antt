@@ -34,6 +34,14 @@ module _ (p : ℕ → Bool) (l : List ℕ) (i : ℕ) where
   unfolding placeOf
   place-end h = let q : placeOf p (drop i l) ≡ 0 = ap (placeOf p) (drop-of-length-le l h) in omega arith
 
+pub not-true : (b : Bool) → not b ≡ true → b ≡ false
+not-true true p = sym p
+not-true false p = refl
+
+pub not-false : (b : Bool) → not b ≡ false → b ≡ true
+not-false true p = refl
+not-false false p = sym p
+
 -- the test of the code: whether v is a member is what is asked for
 pub side-test : (s : VertexSet) (inside : Bool) (v : ℕ) {r b : Bool} → r ≡ has (s .words) v → Bool·beq r inside ≡ b → sideOf s inside v ≡ b
 side-test s inside v e h = go (has (s .words) v) inside ∙ rw e at h

@@ -2,29 +2,33 @@
 use Prim.Native.Nat.{ℕ, zero, suc, _+_, _-_, _≤_, _<_}
 use mathlib.Core.Path.{_≡_, refl, sym, ap, subst, _∙_}
 use mathlib.Core.Bool.{Bool, true, false, cond, not}
+use mathlib.Core.Logic.{_⊎_}
 use mathlib.Core.List.{List, []}
 use native.Mathlib.Omega.{arith}
 use lib.Dec.{ltb}
-use lib.ListN.{length, take, drop, getD, length-drop}
+use lib.ListN.{length, take, drop, getD}
 use lib.Seq.{take-all}
 use borrow.Author.Tests.{lt-ltb, le-ltb}
-use Rattle.vertexset.specs.Set.{has, emptySet}
+use Rattle.vertexset.specs.Set.{has}
 use Rattle.vertexset.specs.declared.VertexSet.{VertexSet}
 use Rattle.search.specs.Code.{pathRoom}
-use Rattle.construction.specs.Sets.{pair, withAll, setOf, minus, lastOf, placeOf, empty}
+use Rattle.construction.specs.Sets.{pair, setOf, minus, lastOf, placeOf, empty}
 use Rattle.construction.specs.Search.{explore}
 use Rattle.construction.specs.Ears as construction
 use Rattle.construction.specs.Ears.{noCut, isCut, answered, near, detour}
 use Rattle.construction.specs.Steps.{State, state, stopped, extended, segment, offLink, upTo, runEnd, linkStep, besidePlace, reroute, outTaken, outStep, innerPlace, step, steps}
-use Rattle.construction.proofs.Finding.{place-within}
+use Rattle.construction.proofs.Basics.{Sized}
 use Rattle.detours.specs.Code.{cutOf, cutIn, foundOf}
 use Rattle.detours.specs.declared.Cut.{Cut}
 use Rattle.detours.specs.declared.Found.{Found}
 use Rattle.detours.proofs.Kept.{front, front-take, kept-size, kept-shows}
 use Rattle.detours.proofs.Earing.{pathPart, part-is, detour-short}
-use Rattle.stepping.specs.Code.{sideOf, Shows, Holds, stateIn}
+use Rattle.stepping.specs.Code.{sideOf, Shows, Holds, stateIn, Spans, AtWork, Works, Left}
 use Rattle.stepping.specs.declared.Progress.{Progress}
+use Rattle.stepping.specs.declared.Work.{Work}
 use Rattle.stepping.proofs.States.{shows-holds, shows-state, same-shows}
+use Rattle.stepping.proofs.Lists.{not-true, not-false}
+use Rattle.stepping.proofs.Working.{span-low, goal-alone, left-works}
 
 -- ---- a step that stops
 
@@ -54,9 +58,6 @@ module _ (path : List ℕ) (set : VertexSet) {k : ℕ} (e : k ≡ 0 + placeOf (s
   pub up-to-all : length path ≤ k → path ≡ upTo set path
   up-to-all h = sym (take-all (placeOf (has (set .words)) path + 1) path (omega (arith, e)))
 
-pub set-made : (l : List ℕ) {none set : VertexSet} → none ≡ emptySet → set ≡ withAll none l → set ≡ setOf l
-set-made l n e = e ∙ ap (λ (s : VertexSet). withAll s l) n
-
 -- the way off the link that stands at the place i, and the vertices inside the link
 unfoldable pub linkWay : List ℕ → State → ℕ → construction.Found
 linkWay rows st i = offLink rows st i (runEnd (st .flat) (minus (st .built) (st .branch)) i)
@@ -71,19 +72,14 @@ link-taken rows st i = refl
 
 module _ (rows flat : List ℕ) (b : Progress) (held : Holds rows flat b) (i : ℕ) where
   -- j is the place behind the link's inner vertices
-  module _ {inside : VertexSet} {j : ℕ} (a : inside ≡ minus (b .built) (b .branch)) (e : j ≡ i + placeOf (sideOf inside false) (drop i (front flat (b .len)))) where
-    pub link-end : i ≤ b .len → (i ≤ j) × (j ≤ length (front flat (b .len)))
-    link-end h =
-        let n : length (front flat (b .len)) ≡ b .len = ap length (front-take flat (b .len)) ∙ kept-size flat (b .len) (held .kept) in
-        omega (arith, place-within (sideOf inside false) (drop i (front flat (b .len))), length-drop i (front flat (b .len)))
-
-    pub link-inner : {inner : VertexSet} → inner ≡ setOf (segment (front flat (b .len)) i j) → inner ≡ linkInner (stateIn flat b) i
+  module _ {j : ℕ} (e : j ≡ runEnd (take (b .len) flat) (minus (b .built) (b .branch)) i) where
+    pub link-inner : {inner : VertexSet} → inner ≡ setOf (segment (take (b .len) flat) i j) → inner ≡ linkInner (stateIn flat b) i
     unfolding linkInner
-    link-inner q = q ∙ rw (e, a, front-take flat (b .len))
+    link-inner q = q ∙ rw e
 
     pub link-found : {f : Found} → f ≡ foundOf (offLink rows (state (front flat (b .len)) (b .built) (b .built) 0) i j) → f ≡ foundOf (linkWay rows (stateIn flat b) i)
     unfolding linkWay
-    link-found q = q ∙ rw (e, a, front-take flat (b .len))
+    link-found q = q ∙ rw (e, front-take flat (b .len))
 
   module _ {f : Found} (e : f ≡ foundOf (linkWay rows (stateIn flat b) i)) where
     way-cut : f .cut ≡ cutOf (linkWay rows (stateIn flat b) i .cutBy)
@@ -101,6 +97,18 @@ module _ (rows flat : List ℕ) (b : Progress) (held : Holds rows flat b) (i : �
         let h : isCut (linkWay rows (stateIn flat b) i .cutBy) ≡ false = cut-test (linkWay rows (stateIn flat b) i .cutBy) way-cut c t in
         let w : extended (stateIn flat b) (upTo (linkInner (stateIn flat b) i) (linkWay rows (stateIn flat b) i .path)) i ≡ linkStep rows (stateIn flat b) i = rw (← link-taken rows (stateIn flat b) i, h) in
         subst (λ (st : State). Shows rows out r st) (ap (λ (l : List ℕ). extended (stateIn flat b) l i) (u ∙ (λ z. upTo (n z) ((q ∙ part-is f (linkWay rows (stateIn flat b) i) e) z))) ∙ w) s
+
+module _ (rows flat : List ℕ) (b : Progress) (w : Work) where
+  pub link-set : Spans (take (b .len) flat) (minus (b .built) (b .branch)) w → w .link ≡ setOf (segment (front flat (b .len)) (w .first) (w .end))
+  link-set s = s .link ∙ rw (front-take flat (b .len))
+
+  -- what is left of it is at work
+  pub link-works : Sized (b .branch) → Sized (b .built) → w .first < w .end → Spans (take (b .len) flat) (minus (b .built) (b .branch)) w → (path : List ℕ) {l : List ℕ} → l ≡ upTo (w .link) path
+      → {x : ℕ} → x ≡ lastOf l → (r : Work) → (r .end ≤ r .first) ⊎ Left (front flat (b .len)) (b .branch) w x r
+      → {out : List ℕ} {n : Progress} → Shows rows out n (extended (stateIn flat b) l (w .first)) → Works (stateIn out n) r
+  link-works sb su up s path {l} q {x} e r k {out} {n} t =
+      let m : (r .end ≤ r .first) ⊎ Left (take (b .len) flat) (b .branch) w (lastOf l) r = subst (λ (v : ℕ). (r .end ≤ r .first) ⊎ Left (take (b .len) flat) (b .branch) w v r) e (subst (λ (y : List ℕ). (r .end ≤ r .first) ⊎ Left y (b .branch) w x r) (front-take flat (b .len)) k) in
+      subst (λ (st : State). Works st r) (sym (shows-state rows out n (extended (stateIn flat b) l (w .first)) t)) (left-works (stateIn flat b) sb su w up s l (goal-alone (w .link) path q) r m)
 
 -- ---- (b) out and back
 
@@ -168,14 +176,6 @@ module _ (rows : List ℕ) (full : VertexSet) (flat : List ℕ) (b : Progress) (
 
 -- ---- one step, and all
 
-not-true : (b : Bool) → not b ≡ true → b ≡ false
-not-true true p = sym p
-not-true false p = refl
-
-not-false : (b : Bool) → not b ≡ false → b ≡ true
-not-false true p = refl
-not-false false p = sym p
-
 one-step : (rows : List ℕ) (full : VertexSet) (st : State) → step rows full st ≡ cond (ltb (innerPlace st) (length (st .flat))) (linkStep rows st (innerPlace st)) (outStep rows full st)
 unfolding step
 one-step rows full st = refl
@@ -188,20 +188,32 @@ steps-more : (rows : List ℕ) (full : VertexSet) (k : ℕ) (st : State) → ste
 unfolding steps
 steps-more rows full k st = refl
 
+-- the link at work, in the paths as the code hands them on
+module _ (flat : List ℕ) (b : Progress) {inner : VertexSet} (e : inner ≡ minus (b .built) (b .branch)) where
+  pub front-works : (w : Work) → AtWork (front flat (b .len)) inner (b .at) w → Works (stateIn flat b) w
+  front-works w h = subst (λ (l : List ℕ). AtWork l (minus (b .built) (b .branch)) (b .at) w) (front-take flat (b .len)) (subst (λ (s : VertexSet). AtWork (front flat (b .len)) s (b .at) w) e h)
+
+  pub works-front : (w : Work) → Works (stateIn flat b) w → AtWork (front flat (b .len)) inner (b .at) w
+  works-front w h = subst (λ (s : VertexSet). AtWork (front flat (b .len)) s (b .at) w) (sym e) (subst (λ (l : List ℕ). AtWork l (minus (b .built) (b .branch)) (b .at) w) (sym (front-take flat (b .len))) h)
+
+  pub front-over : length (front flat (b .len)) ≤ b .at + placeOf (has (inner .words)) (drop (b .at) (front flat (b .len))) → length (take (b .len) flat) ≤ innerPlace (stateIn flat b)
+  front-over h =
+      subst (λ (l : List ℕ). length l ≤ b .at + placeOf (has (minus (b .built) (b .branch) .words)) (drop (b .at) l)) (front-take flat (b .len))
+      (subst (λ (s : VertexSet). length (front flat (b .len)) ≤ b .at + placeOf (has (s .words)) (drop (b .at) (front flat (b .len)))) e h)
+
 module _ (rows : List ℕ) (full : VertexSet) (flat : List ℕ) (b : Progress) (held : Holds rows flat b) where
-  module _ {inner : VertexSet} {i : ℕ} (a : inner ≡ minus (b .built) (b .branch)) (e : i ≡ b .at + placeOf (sideOf inner true) (drop (b .at) (front flat (b .len)))) where
-    inner-is : i ≡ innerPlace (stateIn flat b)
-    inner-is = e ∙ rw (a, front-take flat (b .len))
-
-    pub step-link : i < b .len → {out : List ℕ} {r : Progress} → Shows rows out r (linkStep rows (stateIn flat b) i) → Shows rows out r (step rows full (stateIn flat b))
+  module _ {w : Work} (k : Works (stateIn flat b) w) where
+    pub step-link : w .first < w .end → {out : List ℕ} {r : Progress} → Shows rows out r (linkStep rows (stateIn flat b) (w .first)) → Shows rows out r (step rows full (stateIn flat b))
     step-link h {out} {r} s =
-        let w : linkStep rows (stateIn flat b) i ≡ step rows full (stateIn flat b) = rw (one-step rows full (stateIn flat b), ← inner-is, kept-size flat (b .len) (held .kept), lt-ltb i (b .len) h) in
-        subst (λ (st : State). Shows rows out r st) w s
+        let low : w .first < length (take (b .len) flat) = span-low (take (b .len) flat) (minus (b .built) (b .branch)) w h (k .spans h) .0 in
+        let e : w .first ≡ innerPlace (stateIn flat b) = k .place h in
+        let q : linkStep rows (stateIn flat b) (w .first) ≡ step rows full (stateIn flat b) = rw (one-step rows full (stateIn flat b), ← e, lt-ltb (w .first) (length (take (b .len) flat)) low) in
+        subst (λ (st : State). Shows rows out r st) q s
 
-    pub step-out : b .len ≤ i → {out : List ℕ} {r : Progress} → Shows rows out r (outStep rows full (stateIn flat b)) → Shows rows out r (step rows full (stateIn flat b))
-    step-out h {out} {r} s =
-        let w : outStep rows full (stateIn flat b) ≡ step rows full (stateIn flat b) = rw (one-step rows full (stateIn flat b), ← inner-is, kept-size flat (b .len) (held .kept), le-ltb i (b .len) h) in
-        subst (λ (st : State). Shows rows out r st) w s
+  pub step-out : length (take (b .len) flat) ≤ innerPlace (stateIn flat b) → {out : List ℕ} {r : Progress} → Shows rows out r (outStep rows full (stateIn flat b)) → Shows rows out r (step rows full (stateIn flat b))
+  step-out h {out} {r} s =
+      let q : outStep rows full (stateIn flat b) ≡ step rows full (stateIn flat b) = rw (one-step rows full (stateIn flat b), le-ltb (innerPlace (stateIn flat b)) (length (take (b .len) flat)) h) in
+      subst (λ (st : State). Shows rows out r st) q s
 
   stay : (k : ℕ) → b .going ≡ false → stateIn flat b ≡ steps rows full k (stateIn flat b)
   stay zero h = sym (steps-zero rows full (stateIn flat b))

@@ -1,15 +1,17 @@
 // The steps of a build: further paths until every vertex is a branch vertex, or a cut; then the edges that no path has.
 ghost use mathlib.Core.Path.{_≡_};
 ghost use mathlib.Core.Bool.{false};
+ghost use mathlib.Core.Logic.{_⊎_};
 ghost use mathlib.Core.List.{_++_};
 ghost use Prim.Native.Nat.{_+_, _-_, _≤_, _<_};
 ghost use lib.ListN.{length, take, drop};
+ghost use Rattle.vertexset.specs.Set.{has};
 ghost use Rattle.graph.specs.Limits.{maxEdges};
 ghost use Rattle.search.specs.Code.{pathOf, pathRoom, searchSpace};
-ghost use Rattle.construction.specs.Sets.{setOf, membersFrom, reversed, placeOf};
+ghost use Rattle.construction.specs.Sets.{minus, setOf, membersFrom, reversed, placeOf};
 ghost use Rattle.construction.specs.Steps.{state, extended, segment, offLink, upTo, linkStep, turned, pairPlace, besidePlace, reroute, outStep, step, steps, addEdges, finish};
 ghost use Rattle.detours.specs.Code.{foundOf, Kept, FlatShows};
-ghost use Rattle.stepping.specs.Code.{sideOf, hasPair, putBetween, putBetweenEnd, stateIn, Holds, Shows, builtIn};
+ghost use Rattle.stepping.specs.Code.{sideOf, hasPair, putBetween, putBetweenEnd, stateIn, Holds, Shows, builtIn, Spans, AtWork, Works, Left};
 use detours::Cut;
 use detours::Ears;
 use detours::Found;
@@ -36,6 +38,19 @@ struct Progress {
     at: usize,
     going: bool,
     cut: Cut,
+}
+
+// The link at work: its inner vertices, and the places from the first of them up to behind the last; none where `first` is not below `end`.
+struct Work {
+    first: usize,
+    end: usize,
+    link: VertexSet,
+}
+
+// What a step leaves.
+struct Stepped {
+    progress: Progress,
+    work: Work,
 }
 
 // The first place from here on with a member of the set, or with none.
@@ -142,29 +157,122 @@ fn extend<'a>(
     }
 }
 
+fn no_work() -> Work
+    ensures { λ r. ⌜ r .end ≤ r .first ⌝ }
+{
+    Work {
+        first: 0,
+        end: 0,
+        link: VertexSet::empty(),
+    }
+}
+
+// The place behind the members of a set from here on, and these members.
+fn span(list: &[u16], set: VertexSet, from: usize) -> Work
+    ensures { λ r. ⌜ (r .first ≡ from) × Spans (now (list .entry)) set r ⌝ }
+{
+    let mut link = VertexSet::empty();
+    let mut i = from;
+    while i < list.len() {
+        let v = list[i];
+        if !set.contains(v) {
+            return Work {
+                first: from,
+                end: i,
+                link,
+            };
+        }
+        link = link.insert(v);
+        i += 1;
+    }
+    Work {
+        first: from,
+        end: i,
+        link,
+    }
+}
+
+// The link at work; where none is, the first one with inner vertices from here on, if there is one.
+fn at_work(list: &[u16], inner: VertexSet, at: usize, w: Work) -> Work
+    requires { ⌜ AtWork (now list) inner at w ⌝ }
+    ensures { λ r. ⌜ AtWork (now (list .entry)) inner at r ⌝ }
+    ensures { λ r. ⌜ ((r .end ≤ r .first) → (length (now (list .entry)) ≤ at + placeOf (has (inner .words)) (drop at (now (list .entry))))) ⌝ }
+{
+    if w.first < w.end {
+        return w;
+    }
+    if inner.is_empty() {
+        return w;
+    }
+    span(list, inner, place_of(list, inner, true, at))
+}
+
+// What is left of the link at work when its inner vertex x becomes a branch vertex. Where x is neither its first nor its last one, none is at work.
+// Nor is one where a vertex stands twice in it, or no branch vertex behind it: a build has no such link, but that is nothing that the steps know.
+fn work_left(list: &[u16], branch: VertexSet, w: Work, x: u16) -> Work
+    requires { ⌜ w .first < w .end ⌝ }
+    ensures { λ r. ⌜ (r .end ≤ r .first) ⊎ Left (now (list .entry)) branch w x r ⌝ }
+{
+    let i = w.first;
+    let j = w.end;
+    let inner = w.link;
+    if list.len() <= j {
+        return no_work();
+    }
+    if !branch.contains(list[j]) {
+        return no_work();
+    }
+    if inner.size() as usize != j - i {
+        return no_work();
+    }
+    let link = inner.minus(detours::single(x));
+    if x == list[i] {
+        return Work {
+            first: i + 1,
+            end: j,
+            link,
+        };
+    }
+    if x == list[j - 1] {
+        return Work {
+            first: i,
+            end: j - 1,
+            link,
+        };
+    }
+    no_work()
+}
+
+// A path from inside the link at work.
 fn link_step<'a>(
     rows: &'a [u64; GraphTable::ROW_WORDS],
     space: &'a mut [u16],
     flat: &'a mut [u16],
     b: Progress,
-    i: usize,
-) -> Progress
-    requires { ⌜ (length (now space) ≡ searchSpace) × (Holds (now rows) (now flat) b × (i ≤ b .len)) ⌝ }
-    ensures { λ r. ⌜ Shows (now (rows .entry)) (now (flat .exit)) r (linkStep (now (rows .entry)) (stateIn (now (flat .entry)) b) i) ⌝ }
+    w: Work,
+) -> Stepped
+    requires { ⌜ (length (now space) ≡ searchSpace) × (Holds (now rows) (now flat) b × ((w .first < w .end) × Spans (take (b .len) (now flat)) (minus (b .built) (b .branch)) w)) ⌝ }
+    ensures { λ r. ⌜ Shows (now (rows .entry)) (now (flat .exit)) (r .progress) (linkStep (now (rows .entry)) (stateIn (now (flat .entry)) b) (w .first)) ⌝ }
+    ensures { λ r. ⌜ Works (stateIn (now (flat .exit)) (r .progress)) (r .work) ⌝ }
 {
     let len = b.len;
     let built = b.built;
     let branch = b.branch;
+    let inner = w.link;
+    let i = w.first;
     let list = &flat[0..len];
-    let j = place_of(list, built.minus(branch), false, i);
-    let inner = detours::with_all(VertexSet::empty(), &list[i..j]);
-    let f = off_link(rows, space, list, built, inner, i, j);
+    let f = off_link(rows, space, list, built, inner, i, w.end);
     let c = f.cut;
     if c.is_cut() {
-        return stopped(b, c);
+        return Stepped {
+            progress: stopped(b, c),
+            work: no_work(),
+        };
     }
-    let path = detours::front(&f.path.vertices, f.path.count);
-    extend(rows, flat, b, up_to(path, inner), i)
+    let path = up_to(detours::front(&f.path.vertices, f.path.count), inner);
+    let work = work_left(list, branch, w, detours::last_of(path));
+    let progress = extend(rows, flat, b, path, i);
+    Stepped { progress, work }
 }
 
 // Two vertices stand side by side somewhere in a list. No place ends the loop, so that the compiler takes several at once.
@@ -356,19 +464,23 @@ fn step<'a>(
     space: &'a mut [u16],
     full: VertexSet,
     flat: &'a mut [u16],
-    b: Progress,
-) -> Progress
-    requires { ⌜ (length (now space) ≡ searchSpace) × Holds (now rows) (now flat) b ⌝ }
-    ensures { λ r. ⌜ Shows (now (rows .entry)) (now (flat .exit)) r (step (now (rows .entry)) full (stateIn (now (flat .entry)) b)) ⌝ }
+    s: Stepped,
+) -> Stepped
+    requires { ⌜ (length (now space) ≡ searchSpace) × (Holds (now rows) (now flat) (s .progress) × Works (stateIn (now flat) (s .progress)) (s .work)) ⌝ }
+    ensures { λ r. ⌜ Shows (now (rows .entry)) (now (flat .exit)) (r .progress) (step (now (rows .entry)) full (stateIn (now (flat .entry)) (s .progress))) ⌝ }
+    ensures { λ r. ⌜ Works (stateIn (now (flat .exit)) (r .progress)) (r .work) ⌝ }
 {
+    let b = s.progress;
+    let w = s.work;
     let len = b.len;
     let built = b.built;
     let branch = b.branch;
-    let i = place_of(&flat[0..len], built.minus(branch), true, b.at);
-    if i < len {
-        return link_step(rows, space, flat, b, i);
+    let work = at_work(&flat[0..len], built.minus(branch), b.at, w);
+    if work.first < work.end {
+        return link_step(rows, space, flat, b, work);
     }
-    out_step(rows, space, full, flat, b)
+    let progress = out_step(rows, space, full, flat, b);
+    Stepped { progress, work }
 }
 
 // Steps until none is left.
@@ -382,16 +494,19 @@ fn all_steps<'a>(
     requires { ⌜ (length (now space) ≡ searchSpace) × Holds (now rows) (now flat) first ⌝ }
     ensures { λ r. ⌜ Shows (now (rows .entry)) (now (flat .exit)) r (steps (now (rows .entry)) full (maxEdges + 1) (stateIn (now (flat .entry)) first)) ⌝ }
 {
-    let mut b = first;
+    let mut s = Stepped {
+        progress: first,
+        work: no_work(),
+    };
     let mut left = GraphTable::MAX_EDGES + 1;
     while 0 < left {
-        if !b.going {
-            return b;
+        if !s.progress.going {
+            return s.progress;
         }
-        b = step(rows, space, full, flat, b);
+        s = step(rows, space, full, flat, s);
         left -= 1;
     }
-    b
+    s.progress
 }
 
 // (c) The edges from u to the members of a set above it, each as a path.

@@ -1,7 +1,6 @@
 -- `stepping::pair_from` meets its contract: the place from here on is the place from where it began. Assumes nothing.
 use Prim.Native.Nat.{_+_, _-_, _≤_}
 use mathlib.Core.Path.{_≡_, refl, _∙_}
-use native.Mathlib.Omega.{arith}
 use borrow.Author.Needs.{needs}
 use lib.ListN.{length, drop}
 use Rattle.construction.specs.Steps.{pairPlace}
