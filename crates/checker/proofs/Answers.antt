@@ -204,6 +204,10 @@ module _ (s : List ℕ) (h : PlanHead) (e : h ≡ headOf (leadingPlan s)) where
           )
       go (Refused q p) k d = let z : h .answer ≡ PlanFault q p = ap (λ (y : PlanHead). y .answer) d in let y : _≡_ {A = ℕ} 0 1 = cc in absurd (omega arith)
 
+  pub grade-given : {rows rest : List ℕ} {a : Answer} → rows ≡ rowsLeft bareRows s → Bytes s → h .answer ≡ Accepted → rest ≡ drop (h .next) s
+      → a ≡ rowsAnswer (rowsGraph (h .n) rows) (h .m) rest → _≡_ {A = Graded} (record { answer = a; n = h .n; m = h .m }) (gradeOf s)
+  grade-given left bytes f d k = rw (k, d) (grade-accepted left bytes f .2)
+
   pub grade-refused : NotAccepted (h .answer) → _≡_ {A = Graded} (record { answer = h .answer; n = 0; m = 0 }) (gradeOf s)
   unfolding gradeOf planRead
   grade-refused f = go (plan s 0) e

@@ -1,16 +1,12 @@
 -- `checker::grade` meets its contract: the certificate begins after the plan's last edge. Assumes nothing.
-use Prim.Native.Nat.{ℕ, _-_, _≤_}
-use mathlib.Core.List.{List}
-use mathlib.Core.Path.{_≡_, ap, _∙_}
+use Prim.Native.Nat.{_-_, _≤_}
+use mathlib.Core.Path.{_≡_}
 use borrow.Author.Needs.{needs}
 use native.Mathlib.Omega.{arith}
 use lib.ListN.{length, take, drop, length-drop}
 use lib.Seq.{take-all}
 use Rattle.record.specs.Read.{Bytes}
-use Rattle.record.specs.declared.Answer.{Answer}
-use Rattle.graph.specs.Rows.{rowsGraph}
-use Rattle.checker.specs.Code.{rowsAnswer}
-use Rattle.checker.proofs.Answers.{grade-accepted, grade-refused}
+use Rattle.checker.proofs.Answers.{grade-accepted, grade-given, grade-refused}
 use Rattle.checker.proofs.grade.Statement.{statement}
 use Rattle.checker.proofs.grade.Tie as tie
 
@@ -48,10 +44,8 @@ returns-3 c =
     let s = k .before .args .input .now in
     let x = r .read-leading-rows .result in
     let b : Bytes s = λ i. omega (arith, k .shared-slice-known .given i) in
-    let g = grade-accepted s x (r .read-leading-rows .ensures .0) (r .read-leading-rows .ensures .1) b (t .enum-told .given .1) in
     let z : take (length s - x .next) (drop (x .next) s) ≡ drop (x .next) s = take-all (length s - x .next) (drop (x .next) s) (simp length-drop (omega arith)) in
-    ap (λ (a : Answer). record { answer = a; n = x .n; m = x .m }) (c .check-certificate .ensures ∙ ap (λ (l : List ℕ). rowsAnswer (rowsGraph (x .n) _) (x .m) l) z)
-    ∙ g .2
+    grade-given s x (r .read-leading-rows .ensures .0) (r .read-leading-rows .ensures .1) b (t .enum-told .given .1) z (c .check-certificate .ensures)
 
 pub grade-spec : {M : Type 1} → statement M
 grade-spec = tie.close (tie.spec
