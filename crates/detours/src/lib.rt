@@ -114,17 +114,13 @@ pub fn no_path() -> VertexList
     }
 }
 
-fn push(p: VertexList, v: u16) -> VertexList
+fn push(mut p: VertexList, v: u16) -> VertexList
     ensures { λ r. ⌜ r ≡ pushed p v ⌝ }
 {
     let k = p.count;
     if k < VertexList::ROOM {
-        let mut vertices = p.vertices;
-        vertices[k] = v;
-        return VertexList {
-            vertices,
-            count: k + 1,
-        };
+        p.vertices[k] = v;
+        p.count = k + 1;
     }
     p
 }

@@ -307,17 +307,17 @@ fn pair_from(list: &[u16], x: u16, y: u16, from: usize) -> usize
     list.len()
 }
 
-// The first place at which two vertices stand side by side, or the length; 64 places without them are passed over at once.
+// The first place at which two vertices stand side by side, or the length; 32 places without them are passed over at once.
 fn pair_place(list: &[u16], x: u16, y: u16) -> usize
     ensures { λ r. ⌜ r ≡ pairPlace x y (now (list .entry)) ⌝ }
 {
     let mut i = 0;
-    while 64 < list.len() - i {
-        let end = i + 65;
+    while 32 < list.len() - i {
+        let end = i + 33;
         if has_pair(&list[i..end], x, y) {
             return pair_from(list, x, y, i);
         }
-        i += 64;
+        i += 32;
     }
     pair_from(list, x, y, i)
 }

@@ -6,10 +6,10 @@ use Rattle.detours.proofs.push.Statement.{statement}
 use Rattle.detours.proofs.push.Tie as tie
 
 returns : tie.Need-returns
-returns c = rw (lt-ltb (c .before .before .args .p .count) pathRoom (c .before .if1 .taken))
+returns c = rw (lt-ltb (c .before .args .t1 .count) pathRoom (c .if1 .taken))
 
 returns-2 : tie.Need-returns-2
-returns-2 c = rw (le-ltb (c .before .args .p .count) pathRoom (c .if1 .left))
+returns-2 c = rw (le-ltb (c .before .args .t1 .count) pathRoom (c .if1 .left))
 
 pub push-spec : {M : Type 1} → statement M
 push-spec = tie.close (tie.spec (λ c. search needs) (λ c. search needs) (λ c. search needs) returns returns-2)

@@ -20,7 +20,7 @@ loop-again c =
     let l = c .before .before .before .before .loop in
     let a = c .before .before .before .before .before .before .args in
     let h = c .before .before .before .loop-test .taken in
-    (omega (arith, h), pair-skip-from (a .x) (a .y) 64 (l .i) (a .list .now) h (sym (c .before .has-pair .ensures) ∙ c .if1 .left) ∙ l .inv .1)
+    (omega (arith, h), pair-skip-from (a .x) (a .y) 32 (l .i) (a .list .now) h (sym (c .before .has-pair .ensures) ∙ c .if1 .left) ∙ l .inv .1)
 
 returns : tie.Need-returns Inv-loop μ-loop
 returns c = c .pair-from .ensures ∙ c .before .before .before .before .before .loop .inv .1
