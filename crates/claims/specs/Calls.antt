@@ -6,26 +6,18 @@ use lib.ListN.{length, drop}
 use Rattle.connectivity.specs.Build.{furtherCount}
 use Rattle.record.specs.Read.{Read.Got, Bytes}
 use Rattle.record.specs.Number.{number}
+use Rattle.record.specs.declared.Answer.{Answer}
 use Rattle.record.specs.declared.Answer.the-variants.{Accepted, Grade}
 use Rattle.reading.specs.Plan.{Plan, planBytes}
 use Rattle.sessions.specs.declared.Session.{Session}
 use Rattle.sessions.specs.declared.Stepped.{Stepped}
 use Rattle.sessions.specs.Session.{opening, startStep, pathStep, closeStep, startRest, pathRest}
+use Rattle.claims.specs.Session.{State, Gives, started, pathed, closed}
 
 pub data Call : Type 0 where
   start : (part : List ℕ) → Call
   path : (part : List ℕ) → Call
   close : Call
-
-abbrev pub called : Session → Call → Stepped
-called s (start part) = startStep s part
-called s (path part) = pathStep s part
-called s close = closeStep s
-
--- the session after a list of calls, refused ones among them: each gets the session that the last one returned
-abbrev pub sessionAfter : Session → List Call → Session
-sessionAfter s [] = s
-sessionAfter s (c ∷ cs) = sessionAfter (called s c .session) cs
 
 -- what is handed in are bytes
 abbrev pub CallBytes : List Call → Type 0
@@ -33,6 +25,41 @@ CallBytes [] = Unit {0}
 CallBytes (start part ∷ cs) = Bytes part × CallBytes cs
 CallBytes (path part ∷ cs) = Bytes part × CallBytes cs
 CallBytes (close ∷ cs) = CallBytes cs
+
+-- the code's session, by the promises of its calls ..
+abbrev pub called : Session → Call → Stepped
+called s (start part) = startStep s part
+called s (path part) = pathStep s part
+called s close = closeStep s
+
+abbrev pub rest : Session → Call → List ℕ
+rest s (start part) = startRest s part
+rest s (path part) = pathRest s part
+rest s close = []
+
+-- .. and the session of document 01
+abbrev pub calledOn : State → Call → Gives
+calledOn z (start part) = started z part
+calledOn z (path part) = pathed z part
+calledOn z close = closed z
+
+-- the session after a list of calls, refused ones among them: each gets the session that the last one returned
+abbrev pub sessionAfter : Session → List Call → Session
+sessionAfter s [] = s
+sessionAfter s (c ∷ cs) = sessionAfter (called s c .session) cs
+
+-- what is heard of each call: its answer, and what of the part was not read
+pub record Heard : Type 0 where
+  pub answer : Answer
+  pub unread : List ℕ
+
+abbrev pub heard : Session → List Call → List Heard
+heard s [] = []
+heard s (c ∷ cs) = record { answer = called s c .answer; unread = rest s c } ∷ heard (called s c .session) cs
+
+abbrev pub heardOn : State → List Call → List Heard
+heardOn z [] = []
+heardOn z (c ∷ cs) = record { answer = calledOn z c .answer; unread = calledOn z c .unread } ∷ heardOn (calledOn z c .state) cs
 
 -- k paths, each accepted on the part that the last call handed back unread; closing then answers grade 3, and no byte is left
 abbrev pub Finishes : ℕ → Session → List ℕ → Type 0

@@ -1,5 +1,5 @@
--- THE DEMANDS of document 01, each as one statement; proofs/Demands.antt proves them. (Demand 1 is the promise of each public
--- call: docs/PROOFS.md has the table.) P, Q are plan records, C is a certificate record, k a grade.
+-- THE DEMANDS, each as a statement beside its words; proofs/Demands.antt proves them all. P, Q are plan records, C is a certificate record,
+-- k a grade. That every call ends and that none has a condition to be met beforehand is what the kit proves of each public function.
 use Prim.Native.Nat.{ℕ, _+_, _*_, _≤_, _<_}
 use mathlib.Core.List.{List, _++_}
 use mathlib.Core.Path.{_≡_}
@@ -7,46 +7,95 @@ use mathlib.Core.Logic.{_↔_}
 use lib.ListN.{length, drop}
 use Rattle.record.specs.Read.{Bytes}
 use Rattle.record.specs.Number.{numberBytes, listBytes}
-use Rattle.record.specs.declared.Answer.the-variants.{Accepted, Grade, PlanFault}
-use Rattle.connectivity.specs.Graph.{listed}
+use Rattle.record.specs.declared.Answer.{Answer}
+use Rattle.record.specs.declared.Answer.the-variants.{Accepted, Grade, PlanFault, CertificateFault}
+use Rattle.connectivity.specs.Graph.{listed, HasConnectivity}
 use Rattle.connectivity.specs.Connectivity.{connectivity}
-use Rattle.reading.specs.Plan.{Plan}
+use Rattle.reading.specs.Plan.{Plan, Allowed}
 use Rattle.reading.specs.Code.{wholePlan}
-use Rattle.sessions.specs.Session.{opening, closeStep}
-use Rattle.checker.specs.Check.{planGraph, checkOf}
+use Rattle.sessions.specs.declared.Session.{Session}
+use Rattle.sessions.specs.Session.{opening, startStep, pathStep, closeStep}
+use Rattle.checker.specs.Check.{planGraph, checkOf, gradeOf}
 use Rattle.construction.specs.Ears.{pathSpace}
 use Rattle.construction.specs.Construction.{certificate}
 use Rattle.certifier.specs.Made.{roomAsked, made, madeFrom, filledFrom}
-use Rattle.claims.specs.Certified.{IsPlan, Certified, IsGrade}
-use Rattle.claims.specs.Calls.{Call, CallBytes, sessionAfter}
+use Rattle.script.specs.declared.Part.the-variants.{Within}
+use Rattle.script.specs.Script.{partAt}
+use Rattle.script.specs.Replay.{answerWord, partOf, replayOf}
+use Rattle.fikzarn.specs.Words.{madeWord}
+use Rattle.claims.specs.Certified.{IsPlan, HasFigure, Certified}
+use Rattle.claims.specs.Session as of
+use Rattle.claims.specs.Calls.{Call, CallBytes, called, sessionAfter, heard, heardOn}
+use Rattle.claims.specs.Answers as listed
+use Rattle.claims.specs.Answers.{OneOf}
+use Rattle.claims.specs.Exports.{decoded, Fits, wordAt, scriptBytes, Short, callsFrom, scriptAnswers, Tells}
 
--- DEMAND 2. "A certificate is accepted, with its kind as the grade, exactly when every rule for its kind holds."
+-- DEMAND 1. "a faulty record or a call out of turn gets the number and place listed in document 01; a refused session is unchanged".
+-- From the opening on, whatever calls come, the session is document 01's (specs/Session): each answers what that one answers and leaves
+-- unread what that one leaves; and a call that is refused leaves the session's value as it was.
+pub record SessionIs (P : List ℕ) (calls : List Call) : Type 0 where
+  pub opens : opening P .answer ≡ of.opened P .answer
+  pub answers : heard (opening P .session) calls ≡ heardOn (of.opened P .state) calls
+  pub unchanged : (c : Call) (r p : ℕ) → called (sessionAfter (opening P .session) calls) c .answer ≡ CertificateFault r p
+      → called (sessionAfter (opening P .session) calls) c .session ≡ sessionAfter (opening P .session) calls
+
+abbrev pub Demand1Sessions : Type 0
+Demand1Sessions = (P : List ℕ) → Bytes P → (calls : List Call) → SessionIs P calls
+
+-- Every answer is one that document 01 lists for that call: a refusal has one of its numbers and a place within the record, and where a
+-- grade is due no answer is `Accepted`. Start, path and closing, on every value of a session.
+pub record Demand1Answers : Type 0 where
+  pub reading : (P : List ℕ) → OneOf listed.reading (length P) 0 (wholePlan P .answer)
+  pub checking : (P C : List ℕ) → OneOf listed.checking (length P) (length C) (checkOf P C)
+  pub checking-behind : (s : List ℕ) → OneOf listed.checkingBehind (length s) (length s) (gradeOf s .answer)
+  pub making : (P : List ℕ) → Bytes P → (buffer : List ℕ) → OneOf listed.making (length P) 0 (madeFrom P buffer .answer)
+  pub opening : (P : List ℕ) → OneOf listed.opening (length P) 0 (opening P .answer)
+  pub starting : (s : Session) (part : List ℕ) → OneOf listed.starting 0 (length part) (startStep s part .answer)
+  pub pathing : (s : Session) (part : List ℕ) → OneOf listed.pathing 0 (length part) (pathStep s part .answer)
+  pub closing : (s : Session) → OneOf listed.closing 0 0 (closeStep s .answer)
+
+-- "a refused maker writes no byte". A plan's fault comes first; below 1,536 bytes an accepted plan gets 30 at 0.
+pub record MakerRefuses (P buffer : List ℕ) : Type 0 where
+  pub kept : (r q : ℕ) → madeFrom P buffer .answer ≡ PlanFault r q → (filledFrom P buffer ≡ buffer) × (madeFrom P buffer .length ≡ 0)
+  pub fault : (r q : ℕ) → wholePlan P .answer ≡ PlanFault r q → madeFrom P buffer .answer ≡ PlanFault r q
+  pub too-short : wholePlan P .answer ≡ Accepted → length buffer < roomAsked → madeFrom P buffer .answer ≡ PlanFault 30 0
+
+abbrev pub RefusedKeeps : Type 0
+RefusedKeeps = (P buffer : List ℕ) → MakerRefuses P buffer
+
+-- DEMAND 2. "Beside an accepted plan, a certificate is accepted, with its kind as the grade, if every rule for that kind holds, and refused
+-- if one is broken."
 abbrev pub Demand2 : Type 0
 Demand2 = (P C : List ℕ) (k : ℕ) → Bytes P → Bytes C → (checkOf P C ≡ Grade k) ↔ Certified P C k
 
--- "It accepts a plan exactly when its record is written as Records says and no byte is left."
+-- "it accepts a plan exactly when its record is written as Records says and no byte is left"
 abbrev pub PlanAccepted : Type 0
 PlanAccepted = (P : List ℕ) → Bytes P → (wholePlan P .answer ≡ Accepted) ↔ ((p : Plan) × IsPlan P p)
 
 -- "A grade is accepted when the checker answers it for a plan and a certificate, the maker for a plan, or closing for the plan
--- its session was opened on": the last after any list of session calls.
+-- its session was opened on.": the last after any list of session calls.
 pub data AcceptedGrade (P : List ℕ) (k : ℕ) : Type 0 where
   checked : (C : List ℕ) → Bytes C → checkOf P C ≡ Grade k → AcceptedGrade P k
   made-for : (buffer : List ℕ) → madeFrom P buffer .answer ≡ Grade k → AcceptedGrade P k
   closed-on : (calls : List Call) → CallBytes calls → closeStep (sessionAfter (opening P .session) calls) .answer ≡ Grade k → AcceptedGrade P k
 
--- DEMAND 3. "Every accepted grade, from the checker, the maker or closing a session after any list of calls, is the plan's loss figure."
+-- DEMAND 3. "Every accepted grade is its plan's loss figure, be it from the checker, from the maker or from closing a session, after any list of
+-- session calls from its opening, refused ones among them."
 abbrev pub GradeIsFigure : Type 0
-GradeIsFigure = (P : List ℕ) → Bytes P → (k : ℕ) → AcceptedGrade P k → (p : Plan) × IsPlan P p × IsGrade p k
+GradeIsFigure = (P : List ℕ) → Bytes P → (k : ℕ) → AcceptedGrade P k → HasFigure P k
 
--- "Two plans' grades are equal exactly when their figures are."
+-- "For every two accepted plans, the same or different, and any accepted grade of each, whoever wrote the certificates, the two grades are
+-- equal exactly when the two plans have the same loss figure"
 abbrev pub SameGrades : Type 0
 SameGrades =
-    (P Q : List ℕ) → Bytes P → Bytes Q → (p q : Plan) → IsPlan P p → IsPlan Q q → (j k : ℕ) → AcceptedGrade P j → AcceptedGrade Q k
-    → (j ≡ k) ↔ (connectivity (planGraph p) ≡ connectivity (planGraph q))
+    (P Q : List ℕ) → Bytes P → Bytes Q → (j k : ℕ) → AcceptedGrade P j → AcceptedGrade Q k → (j ≡ k) ↔ ((f : ℕ) × HasFigure P f × HasFigure Q f)
 
--- "Every accepted plan has an accepted certificate, and the maker writes one into any buffer long enough": the answer is its grade
--- and its length, the buffer begins with it and keeps every byte behind it, and the checker accepts it beside the plan.
+-- The figure is one number, and it is computed by `connectivity`.
+abbrev pub FigureComputed : Type 0
+FigureComputed = (p : Plan) → Allowed p → (k : ℕ) → HasConnectivity (planGraph p) k ↔ (k ≡ connectivity (planGraph p))
+
+-- "Every accepted plan has an accepted certificate, and the maker, lent any buffer of at least the length that document 01 names, whatever is
+-- in it, always writes one for that plan and answers its grade and its length.": the buffer begins with it and keeps every byte behind it.
 pub record Writes (P buffer : List ℕ) : Type 0 where
   pub certificate : List ℕ
   pub grade : ℕ
@@ -68,11 +117,26 @@ CertificateOfPlan =
     (P buffer : List ℕ) (p : Plan) → IsPlan P p → (x : Writes P buffer)
     → x .certificate ≡ listBytes numberBytes (certificate pathSpace (2 * p .n + 1) (p .n) (listed (p .edges)))
 
--- A refused maker writes no byte. A plan's fault comes first; below 1,536 bytes an accepted plan gets 30 at 0.
-pub record MakerRefuses (P buffer : List ℕ) : Type 0 where
-  pub kept : (r q : ℕ) → madeFrom P buffer .answer ≡ PlanFault r q → (filledFrom P buffer ≡ buffer) × (madeFrom P buffer .length ≡ 0)
-  pub fault : (r q : ℕ) → wholePlan P .answer ≡ PlanFault r q → madeFrom P buffer .answer ≡ PlanFault r q
-  pub too-short : wholePlan P .answer ≡ Accepted → length buffer < roomAsked → madeFrom P buffer .answer ≡ PlanFault 30 0
+-- THE EXPORTS. A word stands for its answer;
+abbrev pub WordsDecode : Type 0
+WordsDecode = (a : Answer) → Fits a → decoded (answerWord a) ≡ a
 
-abbrev pub RefusedKeeps : Type 0
-RefusedKeeps = (P buffer : List ℕ) → MakerRefuses P buffer
+-- every plan record and list of calls has a script, from which they are read back;
+pub record ScriptOf (P : List ℕ) (calls : List Call) : Type 0 where
+  pub plan-at : partAt (scriptBytes P calls) 0 ≡ Within 2 (2 + length P)
+  pub plan : partOf (scriptBytes P calls) 2 (2 + length P) ≡ P
+  pub calls-behind : callsFrom (length (scriptBytes P calls)) (scriptBytes P calls) (2 + length P) ≡ calls
+
+abbrev pub ScriptsEncode : Type 0
+ScriptsEncode = (P : List ℕ) (calls : List Call) → length P < 65536 → Short calls → ScriptOf P calls
+
+-- a replay tells the answers of the script's calls, from the opening on;
+abbrev pub ScriptsReplay : Type 0
+ScriptsReplay = (s buffer : List ℕ) (a e : ℕ) → partAt s 0 ≡ Within a e → Tells s buffer (scriptAnswers s a e)
+
+-- and a grade in a word is the figure of the plan.
+pub record GradesInWords : Type 0 where
+  pub of-check : (P C : List ℕ) → Bytes P → Bytes C → (k : ℕ) → decoded (answerWord (checkOf P C)) ≡ Grade k → HasFigure P k
+  pub of-certify : (P buffer : List ℕ) → Bytes P → (k : ℕ) → decoded (madeWord (madeFrom P buffer)) ≡ Grade k → HasFigure P k
+  pub of-session : (s buffer : List ℕ) → Bytes s → (a e : ℕ) → partAt s 0 ≡ Within a e → (i k : ℕ) → i < replayOf s buffer .count
+      → decoded (wordAt (replayOf s buffer .buffer) i) ≡ Grade k → HasFigure (partOf s a e) k

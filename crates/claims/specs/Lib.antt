@@ -1,4 +1,7 @@
 pub mod Starred
 pub mod Certified
+pub mod Session
 pub mod Calls
+pub mod Answers
+pub mod Exports
 pub mod Demands
