@@ -1,4 +1,5 @@
 -- Mistakes that the rules rule out: for each a weakened rule, and a certificate that keeps it on a graph of another connectivity.
+-- For one of them (4) also the plan on which document 01 names it.
 use mathlib.Core.Path.{_≡_, refl, _∙_}
 use mathlib.Core.Logic.{inl, inr}
 use mathlib.Core.List.{List, [], _∷_, _++_}
@@ -93,8 +94,8 @@ pub removed-as-rest : Against RemovedAsRest (graph complete4) 2 3
 removed-as-rest = against RemovedAsRest 4 (complete4 .edges) 2 3 (λ g. earRulesBy _ _ g _ _ _ _ _ (ears g) (looseSeparation g)) refl refl refl refl
 
 -- 4. A further path both of whose ends are on one link. The complete graph on five vertices: 0 4 1 is taken beside the link 0 1,
--- then 4 2 and 4 3. All else is kept, and the grade is even right, but two links join 0 and 1: the topological graph is no longer
--- simple, so this is no Barnette-Grünbaum sequence, and the rule refuses the path.
+-- then 4 2 and 4 3. Every other rule is kept, and yet two links then join 0 and 1: the topological graph is not simple, so this is
+-- no Barnette-Grünbaum sequence, and the rule refuses the path.
 abbrev pub complete5 : List (ℕ × ℕ)
 complete5 = (0, 1) ∷ ((0, 2) ∷ ((0, 3) ∷ ((0, 4) ∷ ((1, 2) ∷ ((1, 3) ∷ ((1, 4) ∷ ((2, 3) ∷ ((2, 4) ∷ ((3, 4) ∷ [])))))))))
 
@@ -111,8 +112,8 @@ parallel-not-simple s = s .once .0 (inl refl)
 pub parallel-refused : ¬ BGPath (Adj (fromEdges 5 complete5)) (sixPaths []) (link 0 (4 ∷ []) 1)
 parallel-refused f = f .apart (link 0 [] 1) (inl refl) (inl refl) (inr (inl refl))
 
--- On two complete graphs on four vertices that share the edge 01 the grade is wrong too: 0 4 1 is taken beside the link 0 1, and
--- so is 0 5 1; then 4 5.
+-- The same on two complete graphs on four vertices that share the edge 01, where the weakened rule even gives a wrong grade: 0 4 1
+-- is taken beside the link 0 1, and so is 0 5 1; then 4 5.
 abbrev pub sharedEdge : List (ℕ × ℕ)
 sharedEdge = (0, 1) ∷ ((0, 2) ∷ ((0, 3) ∷ ((0, 4) ∷ ((0, 5) ∷ ((1, 2) ∷ ((1, 3) ∷ ((1, 4) ∷ ((1, 5) ∷ ((2, 3) ∷ ((4, 5) ∷ []))))))))))
 

@@ -1,5 +1,5 @@
 -- The rules of kind 3 and Barnette-Grünbaum sequences in path form are the same, step by step and on the whole.
-use mathlib.Core.Path.{_≡_, refl, subst}
+use mathlib.Core.Path.{_≡_, refl, sym, subst}
 use mathlib.Core.Logic.{_≢_, inl, inr, ⊎-elim}
 use mathlib.Core.List.{List, [], _∷_, _++_}
 use Prim.Native.Nat.{ℕ, suc, _+_, _<_}
@@ -8,11 +8,11 @@ use lib.ListN.{length}
 use Rattle.connectivity.specs.Lists.{In}
 use Rattle.connectivity.specs.Graph.{Graph, Adj, Simple, edgeCount}
 use Rattle.connectivity.specs.Path.{Path, vertices, End, edge}
-use Rattle.connectivity.specs.Build.{IsBranch, StartRules, BGPath, takeBefore, takeAfter, frontPart, backPart, splitAt, taken, Steps, final}
+use Rattle.connectivity.specs.Build.{IsBranch, StartRules, BGPath, takeBefore, takeAfter, frontPart, backPart, splitAt, taken, Steps, final, linkEnds}
 use Rattle.connectivity.specs.Certificate.{BuildRules}
 use Rattle.connectivity.specs.TopologicalGraph.{IsSimple, Addition, topological, Offered, Adds, Additions, IsSequence}
 use Rattle.connectivity.proofs.Lists.{in-left, in-append, in-single, nodup-snoc, below-in}
-use Rattle.connectivity.proofs.Paths.{end-of, nodup-inner, both-ends, edge-comm, SamePair}
+use Rattle.connectivity.proofs.Paths.{end-of, nodup-inner, both-ends, same-edge}
 use Rattle.connectivity.proofs.Split.{split-vertices}
 use Rattle.connectivity.proofs.Start.{start-subdivision}
 use Rattle.connectivity.proofs.EdgeUse.{Tally, tally-step, tally, build-count}
@@ -30,7 +30,7 @@ rule-adds E esym links k t P f =
     let b = place links (P .t) (f .upto) in
     record { first = a; last = b; added = added E esym links k t P f a b; simple = simple-again E esym links k t P f }
 
--- A link with x and y on it, split at x: a piece ends in x and has y on it, and ends in y if the link does.
+-- A link with x and y on it, split at x: a piece ends in x and has y on it; and if the link ends in y, then so does a piece.
 split-on : (x y : ℕ) (ls : List Path) (L : Path) → In L ls → In x (vertices L) → In y (vertices L) → (p : Path) × In p (splitAt x ls) × End x p × In y (vertices p)
 split-on x y ls L h hx hy = go (kept x ls L h)
   where
@@ -47,7 +47,8 @@ split-ends x y ls L h hx hy = go hy (kept x ls L h)
     go (inl e) (inr r) = (frontPart x L, r .1, inr refl, inl e)
     go (inr e) (inr r) = (backPart x L, r .2, inl refl, inr e)
 
--- AN ADDITION TO A SIMPLE GRAPH GIVES THE RULE. If one link held both ends, then a piece of it, split at both, would join them too.
+-- AN ADDITION TO A SIMPLE GRAPH GIVES THE RULE. That the graph then is simple is all it takes: if one link held both ends, then a
+-- piece of it, split at both, would join them beside P.
 pub adds-rule : (E : ℕ → ℕ → Type 0) (links : List Path) (k : ℕ) → Tally E links k → (P : Path) → Offered E links P
     → Addition (topological links) (topological (taken links P)) → IsSimple (topological (taken links P)) → BGPath E links P
 adds-rule E links k t P o a i = record { is-path = record { along = o .along; nodup = (first, nodup-snoc (P .inner) (P .t) (o .inner-once) (λ h. o .new (P .t) h (o .upto))) }; from = o .from; upto = o .upto; new = o .new; apart = apart }
@@ -60,16 +61,11 @@ adds-rule E links k t P o a i = record { is-path = record { along = o .along; no
 
     apart : (L : Path) → In L links → In (P .s) (vertices L) → ¬ In (P .t) (vertices L)
     apart L h hs ht =
+        let rest = splitAt (P .s) (splitAt (P .t) links) in
         let m = split-on (P .t) (P .s) links L h ht hs in
         let q = split-ends (P .s) (P .t) (splitAt (P .t) links) (m .0) (m .1) (m .3) (m .2) in
-        twice (q .0) (q .1) (both-ends (q .0) (P .s) (P .t) differ (q .2) (q .3))
-      where
-        twice : (p : Path) → In p (splitAt (P .s) (splitAt (P .t) links)) → SamePair (P .s) (P .t) (p .s) (p .t) → ⊥
-        twice p h e = i .once .0 (rw (same e) (link-edge (splitAt (P .s) (splitAt (P .t) links)) p h))
-          where
-            same : SamePair (P .s) (P .t) (p .s) (p .t) → edge (P .s) (P .t) ≡ edge (p .s) (p .t)
-            same (inl e) = rw (e .0, e .1)
-            same (inr e) = rw (e .0, e .1) (edge-comm (p .t) (p .s))
+        let e = same-edge (P .s) (P .t) (q .0 .s) (q .0 .t) (both-ends (q .0) (P .s) (P .t) differ (q .2) (q .3)) in
+        i .once .0 (subst (λ (d : ℕ × ℕ). In d (linkEnds rest)) (sym e) (link-edge rest (q .0) (q .1)))
 
 -- a build that steps can give
 pub build-tally : (g : Graph) → Simple g → (p q r s : ℕ) (start further : List Path) → StartRules g p q r s start → Steps (Adj g) start further → Tally (Adj g) (final start further) (length further)
