@@ -1,4 +1,4 @@
--- Taking a path in makes one of the three additions of the topological graph; a finished build is a Barnette-Grünbaum sequence.
+-- Taking a path in makes one of the three additions of the topological graph; the graph of a finished build; sequences of additions.
 use mathlib.Core.Path.{_≡_, refl, sym, _∙_, ap, subst}
 use mathlib.Core.Logic.{_≢_, _⊎_, inl, inr, ⊎-elim}
 use mathlib.Core.List.{List, [], _∷_}
@@ -8,18 +8,18 @@ use native.Mathlib.Omega.{arith}
 use lib.ListN.{length}
 use Rattle.connectivity.specs.Lists.{In, member}
 use Rattle.connectivity.specs.Graph.{Graph, Adj, Simple, edges}
-use Rattle.connectivity.specs.Path.{Path, vertices, End, IsPath, edge, edgesAlong, pathEdges}
-use Rattle.connectivity.specs.Build.{InBuild, IsBranch, endPairs, linkEnds, BGPath, frontPart, backPart, splitAt, taken, Steps, final}
+use Rattle.connectivity.specs.Path.{Path, vertices, End, IsPath, edge, edgesAlong, pathEdges, usedEdges}
+use Rattle.connectivity.specs.Build.{InBuild, IsBranch, endPairs, linkEnds, BGPath, frontPart, backPart, splitAt, taken, final}
 use Rattle.connectivity.specs.Certificate.{BuildRules}
-use Rattle.connectivity.specs.TopologicalGraph.{TGraph, Adjacent, IsSimple, SameGraph, subdivide, VertexVertex, EdgeVertex, EdgeEdge, Addition, vertex-vertex, edge-vertex, edge-edge, BGSequence, none, then, complete, listedGraph, endsOf, topological, Place, branch, inner, Added}
+use Rattle.connectivity.specs.TopologicalGraph.{TGraph, Adjacent, IsSimple, SameGraph, subdivide, VertexVertex, EdgeVertex, EdgeEdge, Addition, vertex-vertex, edge-vertex, edge-edge, complete, listedGraph, endsOf, topological, Place, branch, inner, Added, Additions, IsSequence}
 use Rattle.connectivity.proofs.Lists.{member-in, member-out, in-single, in-below, below-in}
-use Rattle.connectivity.proofs.Paths.{inner-in, end-vertex, end-t, end-or-inner, ends-differ, inner-not-end, edge-same, SamePair, in-inner, in-used, used-in, along-edge}
-use Rattle.connectivity.proofs.Edges.{edges-nodup, edges-in}
+use Rattle.connectivity.proofs.Paths.{inner-in, end-vertex, end-t, end-or-inner, ends-differ, inner-not-end, edge-same, SamePair, in-inner, in-used, used-in}
+use Rattle.connectivity.proofs.Edges.{edges-nodup, edges-in, edge-high, path-low}
 use Rattle.connectivity.proofs.Split.{Piece, whole, front, back, piece-of, piece-inner, piece-end, split-path, split-skip}
 use Rattle.connectivity.proofs.Invariant.{Invariant, add-path, split-invariant}
 use Rattle.connectivity.proofs.Start.{Subdivision, start-subdivision}
-use Rattle.connectivity.proofs.EdgeUse.{InnerOnce, split-inner, Tally, tally-start, tally-step, tally, tally-simple, build-simple, used-edge, used-final, build-once}
-use Rattle.connectivity.proofs.TopologicalGraph.{same-refl, same-trans, same-turn, without-in, in-without, same-subdivide, branch-vertex, vertex-branch, link-edge, edge-link, ordered, edge-ends, link-added, start-complete, sequence-same}
+use Rattle.connectivity.proofs.EdgeUse.{InnerOnce, split-inner, Tally, tally-step, tally, tally-simple, used-edge, used-final, build-once}
+use Rattle.connectivity.proofs.TopologicalGraph.{same-refl, same-sym, same-trans, same-turn, without-in, in-without, same-subdivide, branch-vertex, vertex-branch, link-edge, edge-link, ordered, edge-ends, link-added, addition-same}
 
 -- two links that share two different vertices are one
 abbrev ShareOne : List Path → Type 0
@@ -48,14 +48,14 @@ topological-simple E links k t = record { ends = ends; once = tally-simple E lin
         rw (r .2) (q .0, q .1, ordered (L .s) (L .t) (ends-differ L (t .invariant .is-path L (r .1) .nodup)))
 
 -- What becomes of a link that is split at x: it stays, or it stands there in two parts.
-abbrev Kept : ℕ → Path → List Path → Type 0
+abbrev pub Kept : ℕ → Path → List Path → Type 0
 Kept x L ks = ((¬ In x (L .inner)) × In L ks) ⊎ (In x (L .inner) × In (frontPart x L) ks × In (backPart x L) ks)
 
 kept-wider : (x : ℕ) (L M : Path) (ks : List Path) → Kept x L ks → Kept x L (M ∷ ks)
 kept-wider x L M ks (inl r) = inl (r .0, inr (r .1))
 kept-wider x L M ks (inr r) = inr (r .0, inr (r .1), inr (r .2))
 
-kept : (x : ℕ) (ls : List Path) (L : Path) → In L ls → Kept x L (splitAt x ls)
+pub kept : (x : ℕ) (ls : List Path) (L : Path) → In L ls → Kept x L (splitAt x ls)
 kept x [] L h = absurd h
 kept x (M ∷ ls) L h = go (member x (M .inner)) refl h (kept x ls L)
   where
@@ -133,6 +133,13 @@ place links x (L, h, k) = ⊎-elim (λ e. branch (L, h, e)) (λ i. inner L h i) 
 
 pub inner-no-branch : (E : ℕ → ℕ → Type 0) (links : List Path) (k : ℕ) → Tally E links k → (L : Path) → In L links → (x : ℕ) → In x (L .inner) → ¬ IsBranch x links
 inner-no-branch E links k t L h x m = tally-simple E links k t .inner-only x (in-inner L links x h m)
+
+-- Whatever the places of the two ends are, what they give is one of the three additions.
+pub added-addition : {links : List Path} {s t : ℕ} (a : Place s links) (b : Place t links) (H : TGraph) → Added a b H → Addition (topological links) H
+added-addition {links} {s} {t} (branch h) (branch k) H x = vertex-vertex s t x
+added-addition {links} {s} {t} (inner L h i) (branch k) H x = edge-vertex (L .s) (L .t) s t x
+added-addition {links} {s} {t} (branch h) (inner M k j) H x = edge-vertex (M .s) (M .t) t s x
+added-addition {links} {s} {t} (inner L h i) (inner M k j) H x = edge-edge (M .s) (M .t) (L .s) (L .t) t s x
 
 module _ (E : ℕ → ℕ → Type 0) (esym : (u v : ℕ) → E u v → E v u) (links : List Path) (k : ℕ) (t : Tally E links k) (P : Path) (f : BGPath E links P) where
   pr : Proper E links
@@ -257,31 +264,31 @@ module _ (E : ℕ → ℕ → Type 0) (esym : (u v : ℕ) → E u v → E v u) (
   added (inner L h i) (inner M k j) = both-inner L M h i k j
 
   pub addition : Addition (topological links) (topological (taken links P))
-  addition = go (place links (P .s) (f .from)) (place links (P .t) (f .upto))
-    where
-      go : Place (P .s) links → Place (P .t) links → Addition G H
-      go (branch h) (branch k) = vertex-vertex (P .s) (P .t) (both-branch h k)
-      go (inner L h i) (branch k) = edge-vertex (L .s) (L .t) (P .s) (P .t) (first-inner L h i k)
-      go (branch h) (inner M k j) = edge-vertex (M .s) (M .t) (P .t) (P .s) (second-inner h M k j)
-      go (inner L h i) (inner M k j) = edge-edge (M .s) (M .t) (L .s) (L .t) (P .t) (P .s) (both-inner L M h i k j)
+  addition = let a = place links (P .s) (f .from) in let b = place links (P .t) (f .upto) in added-addition a b H (added a b)
 
   pub simple-again : IsSimple (topological (taken links P))
   simple-again = topological-simple E (taken links P) (suc k) (tally-step E esym links k t P f)
 
--- Each further path is an addition.
-pub steps-sequence : (E : ℕ → ℕ → Type 0) → ((u v : ℕ) → E u v → E v u) → (F : TGraph) (links ps : List Path) (k : ℕ) → Tally E links k → Steps E links ps → BGSequence F (topological links) → BGSequence F (topological (final links ps))
-steps-sequence E esym F links [] k t s b = b
-steps-sequence E esym F links (P ∷ ps) k t s b =
-    steps-sequence E esym F (taken links P) ps (suc k) (tally-step E esym links k t P (s .0)) (s .1) (then b (addition E esym links k t P (s .0)) (simple-again E esym links k t P (s .0)))
+-- A BUILD WITH EVERY VERTEX AS A BRANCH VERTEX: each link is a single edge, so the edges used are the ends of the links.
+module _ (g : Graph) (p : Simple g) (links : List Path) (k : ℕ) (t : Tally (Adj g) links k) (all-branch : (z : ℕ) → z < g .n → IsBranch z links) where
+  bare : (L : Path) → In L links → L .inner ≡ []
+  bare L h = empty (L .inner) (λ w i. inner-no-branch (Adj g) links k t L h w i (all-branch w (path-low g p L (t .invariant .is-path L h) w (inner-in w L i))))
+    where
+      empty : (l : List ℕ) → ((w : ℕ) → ¬ In w l) → l ≡ []
+      empty [] f = refl
+      empty (x ∷ l) f = absurd (f x (inl refl))
+
+  path-edges : (L : Path) → In L links → pathEdges L ≡ edge (L .s) (L .t) ∷ []
+  path-edges L h = ap (λ (l : List ℕ). edgesAlong (L .s) l (L .t)) (bare L h)
+
+  pub link-used : (e : ℕ × ℕ) → In e (linkEnds links) → In e (usedEdges links)
+  link-used e h = let r = edge-link links e h in in-used links e (r .0) (r .1) (rw (path-edges (r .0) (r .1)) (inl (r .2)))
+
+  pub used-link : (e : ℕ × ℕ) → In e (usedEdges links) → In e (linkEnds links)
+  used-link e h = let r = used-in links e h in rw (in-single e (edge (r .0 .s) (r .0 .t)) (rw (path-edges (r .0) (r .1)) at (r .2))) (link-edge links (r .0) (r .1))
 
 -- A FINISHED BUILD.
 module _ (g : Graph) (p : Simple g) where
-  pub listed-simple : IsSimple (listedGraph g)
-  listed-simple = record {
-    ends = λ e h. let r = edges-in g e h in (below-in (g .n) (e .0) (p .low (e .0) (e .1) (r .1)), below-in (g .n) (e .1) (p .low (e .1) (e .0) (p .symmetric (e .0) (e .1) (r .1))), r .0);
-    once = edges-nodup g;
-  }
-
   module _ {a b c d : ℕ} {start further : List Path} (t : BuildRules g a b c d start further) where
     sub : Subdivision (Adj g) start
     sub = start-subdivision g a b c d start (t .first)
@@ -289,39 +296,47 @@ module _ (g : Graph) (p : Simple g) where
     done : Tally (Adj g) (final start further) (length further)
     done = tally (Adj g) (p .symmetric) start further sub (t .steps)
 
-    low : (w : ℕ) → InBuild w (final start further) → w < g .n
-    low w r = let m = along-edge (Adj g) (p .symmetric) (r .0 .s) (r .0 .inner) (r .0 .t) (done .invariant .is-path (r .0) (r .1) .along) w (r .2) in p .low w (m .0) (m .1)
-
-    -- every link is a single edge
-    bare : (L : Path) → In L (final start further) → L .inner ≡ []
-    bare L h = empty (L .inner) (λ w k. build-simple g p start further sub (t .steps) .inner-only w (in-inner L (final start further) w h k) (t .all-branch w (low w (L, h, inner-in w L k))))
-      where
-        empty : (l : List ℕ) → ((w : ℕ) → ¬ In w l) → l ≡ []
-        empty [] f = refl
-        empty (x ∷ l) f = absurd (f x (inl refl))
-
-    path-edges : (L : Path) → In L (final start further) → pathEdges L ≡ edge (L .s) (L .t) ∷ []
-    path-edges L h = ap (λ (l : List ℕ). edgesAlong (L .s) l (L .t)) (bare L h)
-
     to-edge : (e : ℕ × ℕ) → In e (linkEnds (final start further)) → In e (edges g)
-    to-edge e h = let r = edge-link (final start further) e h in used-edge g p start further sub (t .steps) e (in-used (final start further) e (r .0) (r .1) (rw (path-edges (r .0) (r .1)) (inl (r .2))))
+    to-edge e h = used-edge g p start further sub (t .steps) e (link-used g p (final start further) (length further) done (t .all-branch) e h)
 
     from-edge : (e : ℕ × ℕ) → In e (edges g) → In e (linkEnds (final start further))
     from-edge e h =
         let once = build-once g p start further sub (t .steps) (t .all-branch) (omega (arith, t .enough, t .count)) in
-        let r = used-in (final start further) e (used-final start further e (once .used e h)) in
-        rw (in-single e (edge (r .0 .s) (r .0 .t)) (rw (path-edges (r .0) (r .1)) at (r .2))) (link-edge (final start further) (r .0) (r .1))
+        used-link g p (final start further) (length further) done (t .all-branch) e (used-final start further e (once .used e h))
+
+    low : (z : ℕ) → IsBranch z (final start further) → z < g .n
+    low z r = path-low g p (r .0) (done .invariant .is-path (r .0) (r .1)) z (end-vertex z (r .0) (r .2))
 
     -- ITS TOPOLOGICAL GRAPH IS THE GRAPH: all vertices below n, and exactly the edges.
     pub finished-graph : SameGraph (topological (final start further)) (listedGraph g)
     finished-graph = record {
-      vertices = ((λ z h. let r = vertex-branch (final start further) z h in below-in (g .n) z (low z (r .0, r .1, end-vertex z (r .0) (r .2)))), (λ z h. branch-vertex (final start further) z (t .all-branch z (in-below (g .n) z h))));
+      vertices = ((λ z h. below-in (g .n) z (low z (vertex-branch (final start further) z h))), (λ z h. branch-vertex (final start further) z (t .all-branch z (in-below (g .n) z h))));
       edges = (to-edge, from-edge);
     }
 
-    -- THE RULES OF KIND 3 GIVE A BARNETTE-GRÜNBAUM SEQUENCE, from the complete graph on the four branch vertices to the graph.
-    pub bg-sequence : BGSequence (complete a b c d) (listedGraph g)
-    bg-sequence =
-        let k = tally-start (Adj g) (p .symmetric) start sub in
-        sequence-same (steps-sequence (Adj g) (p .symmetric) (complete a b c d) start further 0 k (t .steps)
-        (none (topological-simple (Adj g) start 0 k) (start-complete start a b c d (t .first .shape)))) finished-graph listed-simple
+-- BG-SEQUENCE: "a sequence of BG-operations that constructs" a graph, here from F; every graph on the way is simple.
+pub data BGSequence (F : TGraph) : TGraph → Type 0 where
+  none : {G : TGraph} → IsSimple G → SameGraph F G → BGSequence F G
+  then : {G H : TGraph} → BGSequence F G → Addition G H → IsSimple H → BGSequence F H
+
+-- the last graph of a sequence may be listed in another order
+sequence-same : {F G H : TGraph} → BGSequence F G → SameGraph G H → IsSimple H → BGSequence F H
+sequence-same (none s e) k h = none h (same-trans e k)
+sequence-same (then b a s) k h = then b (addition-same a k) h
+
+additions-sequence : (E : ℕ → ℕ → Type 0) (F : TGraph) (links ps : List Path) → Additions E links ps → BGSequence F (topological links) → BGSequence F (topological (final links ps))
+additions-sequence E F links [] a b = b
+additions-sequence E F links (P ∷ ps) (o, a, later) b =
+    additions-sequence E F (taken links P) ps later (then b (added-addition (a .first) (a .last) (topological (taken links P)) (a .added)) (a .simple))
+
+module _ (g : Graph) (p : Simple g) where
+  pub listed-simple : IsSimple (listedGraph g)
+  listed-simple = record {
+    ends = λ e h. let r = edges-in g e h in (below-in (g .n) (e .0) (p .low (e .0) (e .1) (r .1)), below-in (g .n) (e .1) (edge-high g p (e .0) (e .1) (r .1)), r .0);
+    once = edges-nodup g;
+  }
+
+  -- A SEQUENCE IN PATH FORM IS ONE OF ADDITIONS, from the complete graph on its four branch vertices to the graph.
+  pub bg-sequence : {a b c d : ℕ} {start further : List Path} → IsSequence g a b c d start further → BGSequence (complete a b c d) (listedGraph g)
+  bg-sequence {a} {b} {c} {d} {start} {further} q =
+      sequence-same (additions-sequence (Adj g) (complete a b c d) start further (q .additions) (none (q .simple) (same-sym (q .complete-four)))) (q .whole) listed-simple

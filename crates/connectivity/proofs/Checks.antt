@@ -8,12 +8,12 @@ use lib.Dec.{eqb, ltb, leb}
 use lib.ListN.{length}
 use borrow.Author.Tests.{eqb-true, ltb-true, leb-true, not-true}
 use Rattle.connectivity.specs.Lists.{In, NoDup, Ascending, below, member}
-use Rattle.connectivity.specs.Graph.{Graph, Adj, EdgeList, AscendingEdges}
+use Rattle.connectivity.specs.Graph.{Graph, Adj}
 use Rattle.connectivity.specs.Path.{Path, vertices, End, Along, IsPath}
 use Rattle.connectivity.specs.Build.{InBuild, IsBranch, four, sixPairs, endPairs, Starts, StartRules}
 use Rattle.connectivity.specs.Certificate.{Separation, Tree, TreeRules, Cycle, Ears}
 use Rattle.connectivity.proofs.Lists.{clash, and-true, or-true, member-in, member-out, in-below, below-in}
-use Rattle.connectivity.proofs.Edges.{ascending-nodup}
+use Rattle.connectivity.proofs.Edges.{EdgeList, AscendingEdges, ascending-nodup}
 
 pub record Check (A : Type 0) : Type 0 where
   pub test : Bool

@@ -1,5 +1,7 @@
 -- Mistakes that the rules rule out: for each a weakened rule, and a certificate that keeps it on a graph of another connectivity.
+-- For one of them (4) also the plan on which document 01 names it.
 use mathlib.Core.Path.{_≡_, refl, _∙_}
+use mathlib.Core.Logic.{inl, inr}
 use mathlib.Core.List.{List, [], _∷_, _++_}
 use mathlib.Core.Bool.{true, false}
 use Prim.Native.Nat.{ℕ, _≤_, _<_}
@@ -9,9 +11,10 @@ use borrow.Author.Tests.{eqb-false}
 use Rattle.connectivity.specs.Lists.{In, NoDup, Ascending}
 use Rattle.connectivity.specs.Graph.{Graph, Adj, Simple, Remaining, HasConnectivity, fromEdges}
 use Rattle.connectivity.specs.Path.{Path, link, vertices, Along}
-use Rattle.connectivity.specs.Build.{InBuild, IsBranch}
+use Rattle.connectivity.specs.Build.{InBuild, IsBranch, BGPath, taken}
 use Rattle.connectivity.specs.Connectivity.{connectivity}
 use Rattle.connectivity.specs.Certificate.{Rest, Separation, Ears}
+use Rattle.connectivity.specs.TopologicalGraph.{IsSimple, topological}
 use Rattle.connectivity.proofs.Edges.{fromEdges-simple}
 use Rattle.connectivity.proofs.Closure.{has-connectivity}
 use Rattle.connectivity.proofs.Checks.{Check, proved, both, giving, holds, less, notIn, distinct, ascending, along, noEdges, remaining, someOf, someBelow, separation, onEars, ears, edgeList, inBuild, isBranch}
@@ -90,23 +93,35 @@ RemovedAsRest g = EarRulesBy Ears LooseSeparation g 0 1 (link 0 (1 ∷ []) 2) (l
 pub removed-as-rest : Against RemovedAsRest (graph complete4) 2 3
 removed-as-rest = against RemovedAsRest 4 (complete4 .edges) 2 3 (λ g. earRulesBy _ _ g _ _ _ _ _ (ears g) (looseSeparation g)) refl refl refl refl
 
--- 4. A further path both of whose ends are on one link. Two complete graphs on four vertices that share the edge 01: the path
--- 0 4 1 is taken beside the link 0 1, and so is 0 5 1; then 4 5.
-abbrev pub sharedEdge : List (ℕ × ℕ)
-sharedEdge = (0, 1) ∷ ((0, 2) ∷ ((0, 3) ∷ ((0, 4) ∷ ((0, 5) ∷ ((1, 2) ∷ ((1, 3) ∷ ((1, 4) ∷ ((1, 5) ∷ ((2, 3) ∷ ((4, 5) ∷ []))))))))))
+-- 4. A further path both of whose ends are on one link. The complete graph on five vertices: 0 4 1 is taken beside the link 0 1,
+-- then 4 2 and 4 3. Every other rule is kept, and yet two links then join 0 and 1: the topological graph is not simple, so this is
+-- no Barnette-Grünbaum sequence, and the rule refuses the path.
+abbrev pub complete5 : List (ℕ × ℕ)
+complete5 = (0, 1) ∷ ((0, 2) ∷ ((0, 3) ∷ ((0, 4) ∷ ((1, 2) ∷ ((1, 3) ∷ ((1, 4) ∷ ((2, 3) ∷ ((2, 4) ∷ ((3, 4) ∷ [])))))))))
 
 -- six paths on 0, 1, 2, 3, the first over the given vertices, the others single edges
 abbrev pub sixPaths : List ℕ → List Path
 sixPaths l = link 0 l 1 ∷ (link 0 [] 2 ∷ (link 0 [] 3 ∷ (link 1 [] 2 ∷ (link 1 [] 3 ∷ (link 2 [] 3 ∷ [])))))
 
-abbrev pub beside : List Path
-beside = link 0 (4 ∷ []) 1 ∷ (link 0 (5 ∷ []) 1 ∷ (link 4 [] 5 ∷ []))
+pub parallel-link : BuildRulesBy LoosePath IsBranch (fromEdges 5 complete5) 0 1 2 3 (sixPaths []) (link 0 (4 ∷ []) 1 ∷ (link 4 [] 2 ∷ (link 4 [] 3 ∷ [])))
+parallel-link = let g = fromEdges 5 complete5 in proved (buildRulesBy _ _ g _ _ _ _ _ _ (loosePath g) isBranch) refl
+
+pub parallel-not-simple : ¬ IsSimple (topological (taken (sixPaths []) (link 0 (4 ∷ []) 1)))
+parallel-not-simple s = s .once .0 (inl refl)
+
+pub parallel-refused : ¬ BGPath (Adj (fromEdges 5 complete5)) (sixPaths []) (link 0 (4 ∷ []) 1)
+parallel-refused f = f .apart (link 0 [] 1) (inl refl) (inl refl) (inr (inl refl))
+
+-- The same on two complete graphs on four vertices that share the edge 01, where the weakened rule even gives a wrong grade: 0 4 1
+-- is taken beside the link 0 1, and so is 0 5 1; then 4 5.
+abbrev pub sharedEdge : List (ℕ × ℕ)
+sharedEdge = (0, 1) ∷ ((0, 2) ∷ ((0, 3) ∷ ((0, 4) ∷ ((0, 5) ∷ ((1, 2) ∷ ((1, 3) ∷ ((1, 4) ∷ ((1, 5) ∷ ((2, 3) ∷ ((4, 5) ∷ []))))))))))
 
 abbrev pub ParallelLink : Graph → Type 0
-ParallelLink g = BuildRulesBy LoosePath IsBranch g 0 1 2 3 (sixPaths []) beside
+ParallelLink g = BuildRulesBy LoosePath IsBranch g 0 1 2 3 (sixPaths []) (link 0 (4 ∷ []) 1 ∷ (link 0 (5 ∷ []) 1 ∷ (link 4 [] 5 ∷ [])))
 
-pub parallel-link : Against ParallelLink (fromEdges 6 sharedEdge) 3 2
-parallel-link = against ParallelLink 6 sharedEdge 3 2 (λ g. buildRulesBy _ _ g _ _ _ _ _ _ (loosePath g) isBranch) refl refl refl refl
+pub parallel-graded : Against ParallelLink (fromEdges 6 sharedEdge) 3 2
+parallel-graded = against ParallelLink 6 sharedEdge 3 2 (λ g. buildRulesBy _ _ g _ _ _ _ _ _ (loosePath g) isBranch) refl refl refl refl
 
 -- 5. A build called done once every vertex is in it. Vertex 4 is still inside the link 0 4 1, and has two neighbours only.
 abbrev pub subdivided : List (ℕ × ℕ)

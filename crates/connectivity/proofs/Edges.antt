@@ -3,14 +3,14 @@ use mathlib.Core.Path.{_≡_, ap, sym, refl}
 use mathlib.Core.Logic.{inl, inr, ⊎-elim, _≢_, _⊎_, ⊎-map, ⊎-swap}
 use mathlib.Core.List.{List, [], _∷_, _++_}
 use mathlib.Core.Bool.{true, _||_}
-use Prim.Native.Nat.{ℕ, _<_, zero, suc, min}
+use Prim.Native.Nat.{ℕ, _≤_, _<_, zero, suc, min}
 use native.Mathlib.Omega.{arith}
 use native.Mathlib.Decide.{ℕ-discrete}
 use lib.Dec.{eqb}
 use lib.ListN.{length}
 use borrow.Author.Tests.{eqb-true, eq-eqb}
 use Rattle.connectivity.specs.Lists.{In, NoDup, select, below}
-use Rattle.connectivity.specs.Graph.{withHigher, Graph, edgesBelow, Adj, edges, Simple, isPair, listed, EdgeBefore, AscendingEdges, EdgeList, fromEdges, edgeCount}
+use Rattle.connectivity.specs.Graph.{withHigher, Graph, edgesBelow, Adj, edges, Simple, isPair, listed, fromEdges, edgeCount}
 use Rattle.connectivity.specs.Path.{Along, Path, IsPath, vertices, edge}
 use Rattle.connectivity.proofs.Lists.{in-append, select-in, in-below, in-right, either, in-left, in-select, below-in, nodup-append, select-nodup, nodup-below, and-true, clash, or-true, true-or, fewer}
 use Rattle.connectivity.proofs.Paths.{along-edge, edge-sorted, edge-comm}
@@ -107,6 +107,21 @@ in-listed (e ∷ es) u v (inl (inl i)) = rw (pair-is e u v i)
 in-listed (e ∷ es) u v (inl (inr i)) = true-or (isPair e u v) (isPair e v u || listed es u v) (true-or (isPair e v u) (listed es u v) (in-listed es u v (inl i)))
 in-listed (e ∷ es) u v (inr (inl i)) = true-or (isPair e u v) (isPair e v u || listed es u v) (rw (pair-is e v u i))
 in-listed (e ∷ es) u v (inr (inr i)) = true-or (isPair e u v) (isPair e v u || listed es u v) (true-or (isPair e v u) (listed es u v) (in-listed es u v (inr i)))
+
+-- Each edge stands in the list once, its lower end first.
+pub record EdgeList (n : ℕ) (es : List (ℕ × ℕ)) : Type 0 where
+  pub big : 4 ≤ n
+  pub each : (e : ℕ × ℕ) → In e es → (e .0 < e .1) × (e .1 < n)
+  pub once : NoDup es
+
+-- The order of a plan record: strictly ascending by lower end and then by higher.
+abbrev pub EdgeBefore : ℕ × ℕ → ℕ × ℕ → Type 0
+EdgeBefore e f = (e .0 < f .0) ⊎ ((e .0 ≡ f .0) × (e .1 < f .1))
+
+abbrev pub AscendingEdges : List (ℕ × ℕ) → Type 0
+AscendingEdges [] = Unit {0}
+AscendingEdges (e ∷ []) = Unit {0}
+AscendingEdges (e ∷ (f ∷ es)) = EdgeBefore e f × AscendingEdges (f ∷ es)
 
 -- A LIST THAT ASCENDS HAS NO EDGE TWICE.
 before-trans : (a b c : ℕ × ℕ) → EdgeBefore a b → EdgeBefore b c → EdgeBefore a c

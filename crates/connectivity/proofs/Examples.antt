@@ -4,14 +4,15 @@ use mathlib.Core.Logic.{inl, inr}
 use mathlib.Core.List.{List, [], _∷_}
 use Prim.Native.Nat.{ℕ}
 use Rattle.connectivity.specs.Lists.{In}
-use Rattle.connectivity.specs.Graph.{Graph, Simple, HasConnectivity, fromEdges, EdgeList}
+use Rattle.connectivity.specs.Graph.{Graph, Simple, HasConnectivity, fromEdges}
 use Rattle.connectivity.specs.Path.{link}
 use Rattle.connectivity.specs.Connectivity.{connectivity}
 use Rattle.connectivity.specs.Certificate.{Certificate, separation, tree, ears, build, grade, Rules}
-use Rattle.connectivity.specs.TopologicalGraph.{BGSequence, complete, listedGraph}
-use Rattle.connectivity.proofs.Edges.{fromEdges-simple}
+use Rattle.connectivity.specs.TopologicalGraph.{complete, listedGraph}
+use Rattle.connectivity.proofs.Edges.{EdgeList, fromEdges-simple}
 use Rattle.connectivity.proofs.Soundness.{rules-connectivity, grade-connectivity}
-use Rattle.connectivity.proofs.Additions.{bg-sequence}
+use Rattle.connectivity.proofs.Additions.{BGSequence, bg-sequence}
+use Rattle.connectivity.proofs.Sequence.{rules-sequence}
 use Rattle.connectivity.proofs.Checks.{proved, both, each, edgeList}
 use Rattle.connectivity.proofs.RuleVariants.{rules}
 
@@ -98,4 +99,4 @@ all-grades = refl
 
 -- A Barnette-Grünbaum sequence: the prism is the complete graph on four vertices with one edge-edge-addition.
 pub prism-sequence : BGSequence (complete 0 1 2 3) (listedGraph (graph prism6))
-prism-sequence = let p = all-shown prism6 (inr (inr (inr (inr (inr (inr (inl refl))))))) in bg-sequence (graph prism6) (p .simple) (p .kept)
+prism-sequence = let p = all-shown prism6 (inr (inr (inr (inr (inr (inr (inl refl))))))) in bg-sequence (graph prism6) (p .simple) (rules-sequence (graph prism6) (p .simple) _ _ _ _ _ _ (p .kept))

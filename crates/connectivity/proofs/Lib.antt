@@ -22,6 +22,7 @@ pub mod Main
 pub mod Counts
 pub mod TopologicalGraph
 pub mod Additions
+pub mod Sequence
 pub mod Checks
 pub mod RuleVariants
 pub mod Examples

@@ -206,6 +206,10 @@ edge-same u v x y e = go (ap (λ (p : ℕ × ℕ). p .0) e) (ap (λ (p : ℕ × 
     go p q (yes k) = inl (k, omega arith)
     go p q (no k) = inr (omega arith, omega arith)
 
+pub same-edge : (u v x y : ℕ) → SamePair u v x y → edge u v ≡ edge x y
+same-edge u v x y (inl e) = rw (e .0, e .1)
+same-edge u v x y (inr e) = rw (e .0, e .1) (edge-comm y x)
+
 pub same-trans : (x y p q s t : ℕ) → SamePair x y p q → SamePair x y s t → SamePair p q s t
 same-trans x y p q s t (inl e) (inl k) = inl (sym (e .0) ∙ k .0, sym (e .1) ∙ k .1)
 same-trans x y p q s t (inl e) (inr k) = inr (sym (e .0) ∙ k .0, sym (e .1) ∙ k .1)

@@ -12,7 +12,7 @@ use Rattle.connectivity.specs.Lists.{In}
 use Rattle.connectivity.specs.Graph.{edges, isPair}
 use Rattle.connectivity.specs.Path.{Path, vertices, edge}
 use Rattle.connectivity.specs.Build.{IsBranch, four, sixPairs, endPairs, linkEnds}
-use Rattle.connectivity.specs.TopologicalGraph.{TGraph, IsSimple, SameMembers, SameGraph, addEdge, without, subdivide, VertexVertex, EdgeVertex, EdgeEdge, Addition, vertex-vertex, edge-vertex, edge-edge, BGSequence, none, then, complete, endsOf, topological}
+use Rattle.connectivity.specs.TopologicalGraph.{TGraph, SameMembers, SameGraph, addEdge, without, subdivide, VertexVertex, EdgeVertex, EdgeEdge, Addition, vertex-vertex, edge-vertex, edge-edge, complete, endsOf, topological}
 use Rattle.connectivity.proofs.Lists.{clash, and-true}
 use Rattle.connectivity.proofs.Paths.{edge-comm}
 
@@ -195,12 +195,8 @@ one-kind (edge-edge a b c d v w k) (vertex-vertex x y l) = absurd (a-not-c l k)
 one-kind (edge-edge a b c d v w k) (edge-vertex e f x y l) = absurd (b-not-c l k)
 one-kind (edge-edge a b c d v w k) (edge-edge e f p q x y l) = refl
 
--- The last graph of a sequence may be listed in another order.
-addition-same : {G H I : TGraph} → Addition G H → SameGraph H I → Addition G I
+-- The graph that an addition makes may be listed in another order.
+pub addition-same : {G H I : TGraph} → Addition G H → SameGraph H I → Addition G I
 addition-same (vertex-vertex v w x) e = vertex-vertex v w (record { first = x .first; second = x .second; distinct = x .distinct; non-adjacent = x .non-adjacent; result = same-trans (same-sym e) (x .result) })
 addition-same (edge-vertex a b v w x) e = edge-vertex a b v w (record { is-edge = x .is-edge; distinct = x .distinct; new = x .new; vertex = x .vertex; not-a = x .not-a; not-b = x .not-b; result = same-trans (same-sym e) (x .result) })
 addition-same (edge-edge a b c d v w x) e = edge-edge a b c d v w (record { first = x .first; second = x .second; distinct = x .distinct; new-v = x .new-v; new-w = x .new-w; differ = x .differ; result = same-trans (same-sym e) (x .result) })
-
-pub sequence-same : {F G H : TGraph} → BGSequence F G → SameGraph G H → IsSimple H → BGSequence F H
-sequence-same (none s e) k h = none h (same-trans e k)
-sequence-same (then b a s) k h = then b (addition-same a k) h

@@ -4,9 +4,9 @@ use mathlib.Core.List.{List, [], _∷_}
 use mathlib.Core.Bool.{cond}
 use Prim.Native.Nat.{ℕ, _<_}
 use Rattle.connectivity.specs.Lists.{In, NoDup, below}
-use Rattle.connectivity.specs.Graph.{Graph, edges, isPair}
-use Rattle.connectivity.specs.Path.{Path, edge}
-use Rattle.connectivity.specs.Build.{IsBranch, four, endPairs, linkEnds}
+use Rattle.connectivity.specs.Graph.{Graph, Adj, edges, isPair}
+use Rattle.connectivity.specs.Path.{Path, edge, Along}
+use Rattle.connectivity.specs.Build.{IsBranch, InBuild, four, endPairs, linkEnds, taken, final, StartRules}
 
 -- A graph by its vertices and its edges, the edge between u and v being `edge u v`, its lower end first.
 pub record TGraph : Type 0 where
@@ -76,11 +76,6 @@ pub data Addition (G H : TGraph) : Type 0 where
   edge-vertex : (a b v w : ℕ) → EdgeVertex G H a b v w → Addition G H
   edge-edge : (a b c d v w : ℕ) → EdgeEdge G H a b c d v w → Addition G H
 
--- BG-sequence: "a sequence of BG-operations that constructs" a graph, here from F; every graph on the way is simple.
-pub data BGSequence (F : TGraph) : TGraph → Type 0 where
-  none : {G : TGraph} → IsSimple G → SameGraph F G → BGSequence F G
-  then : {G H : TGraph} → BGSequence F G → Addition G H → IsSimple H → BGSequence F H
-
 -- the complete graph on four vertices
 abbrev pub complete : ℕ → ℕ → ℕ → ℕ → TGraph
 complete p q r s = record { vertices = four p q r s; edges = edge p q ∷ (edge p r ∷ (edge p s ∷ (edge q r ∷ (edge q s ∷ (edge r s ∷ []))))) }
@@ -108,3 +103,32 @@ Added {links} {s} {t} (branch h) (branch k) H = VertexVertex (topological links)
 Added {links} {s} {t} (inner L h i) (branch k) H = EdgeVertex (topological links) H (L .s) (L .t) s t
 Added {links} {s} {t} (branch h) (inner M k j) H = EdgeVertex (topological links) H (M .s) (M .t) t s
 Added {links} {s} {t} (inner L h i) (inner M k j) H = EdgeEdge (topological links) H (M .s) (M .t) (L .s) (L .t) t s
+
+-- A path that is offered to a build: along edges, both ends in the build, the inner vertices new and each once.
+pub record Offered (E : ℕ → ℕ → Type 0) (links : List Path) (P : Path) : Type 0 where
+  pub along : Along E (P .s) (P .inner) (P .t)
+  pub inner-once : NoDup (P .inner)
+  pub from : InBuild (P .s) links
+  pub upto : InBuild (P .t) links
+  pub new : (w : ℕ) → In w (P .inner) → ¬ InBuild w links
+
+-- Taking P in is one of the three additions, the one that the places of its ends give, and the graph then is simple.
+pub record Adds (links : List Path) (P : Path) : Type 0 where
+  pub first : Place (P .s) links
+  pub last : Place (P .t) links
+  pub added : Added first last (topological (taken links P))
+  pub simple : IsSimple (topological (taken links P))
+
+-- Further paths, each offered to the build when its turn comes, and each an addition.
+abbrev pub Additions : (E : ℕ → ℕ → Type 0) → List Path → List Path → Type 0
+Additions E links [] = Unit {0}
+Additions E links (P ∷ ps) = Offered E links P × Adds links P × Additions E (taken links P) ps
+
+-- A BARNETTE-GRÜNBAUM SEQUENCE IN PATH FORM, of the graph g: it starts as the complete graph on p, q, r, s, subdivided, in g; each
+-- further path is an addition, from a simple graph to a simple one; the last topological graph is g.
+pub record IsSequence (g : Graph) (p q r s : ℕ) (start further : List Path) : Type 0 where
+  pub subdivided : StartRules g p q r s start
+  pub complete-four : SameGraph (topological start) (complete p q r s)
+  pub simple : IsSimple (topological start)
+  pub additions : Additions (Adj g) start further
+  pub whole : SameGraph (topological (final start further)) (listedGraph g)

@@ -12,8 +12,8 @@ use Rattle.record.specs.Read.{Each, folded}
 use Rattle.vertexset.specs.Set.{has, withBit, capacity}
 use Rattle.vertexset.proofs.Laws.{has-insert, has-empty}
 use Rattle.connectivity.specs.Lists.{In}
-use Rattle.connectivity.specs.Graph.{isPair, listed, fromEdges, EdgeList, AscendingEdges, Simple, edgeCount}
-use Rattle.connectivity.proofs.Edges.{listed-in, ascending-nodup, fromEdges-simple, fromEdges-count}
+use Rattle.connectivity.specs.Graph.{isPair, listed, fromEdges, Simple, edgeCount}
+use Rattle.connectivity.proofs.Edges.{EdgeList, AscendingEdges, listed-in, ascending-nodup, fromEdges-simple, fromEdges-count}
 use Rattle.reading.specs.Plan.{Plan, Allowed, EdgeAllowed}
 use Rattle.graph.specs.Rows.{rowWords, adjacentIn, joined, bareRows, rowsGraph}
 use Rattle.reading.specs.Code.{graphOf}
