@@ -40,6 +40,7 @@ use Rattle.refinement.proofs.Start.{start-same, shows-start}
 use Rattle.refinement.proofs.Reading.{shows-path, shows-read}
 use Rattle.checker.specs.Check.{planGraph}
 use Rattle.claims.specs.Certified.{HasFigure}
+use Rattle.claims.specs.Session.{due}
 use Rattle.claims.specs.Calls.{Call, Call.start, Call.path, Call.close, called, sessionAfter, CallBytes}
 use Rattle.claims.proofs.Checking.{plan-simple, plan-few}
 use Rattle.vertexset.specs.Set.{capacity}
@@ -99,12 +100,9 @@ refused-opening P r q e = on (opens (ended plan P 0))
     on (refused n at f) = rw f
     on (accepted p next g enough f) = let z : _≡_ {A = ℕ} 0 1 = cc (ap (λ (x : Opened). x .answer) f) in absurd (omega arith)
 
--- the plan's graph has as many edges as its record; how many paths come after the start
+-- the plan's graph has as many edges as its record
 pub plan-count : (p : Plan) → Allowed p → edgeCount (planGraph p) ≡ length (p .edges)
 plan-count p al = fromEdges-count (p .n) (p .edges) (edge-list p al)
-
-abbrev pub due : Plan → ℕ
-due p = furtherCount (length (p .edges)) (p .n)
 
 -- a session that was started on a plan, its build showing these links
 pub record Building (p : Plan) (s : Session) (links : List Path) : Type 0 where
