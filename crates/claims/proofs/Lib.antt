@@ -4,3 +4,5 @@ pub mod Checking
 pub mod Program
 pub mod Sessions
 pub mod Replay
+pub mod Scripts
+pub mod Exports
