@@ -1,7 +1,7 @@
 -- The starred barns and plans of document 01, in one list, by computing the checker's definition. Assumes nothing.
 use mathlib.Core.Path.{_≡_, refl}
 use mathlib.Core.List.{_++_}
-use Rattle.record.specs.Read.{_▸_, _▹_, into, many, check, ended, folded}
+use Rattle.record.specs.Read.{_needs⟨_⟩_, _▸_, _▹_, into, many, check, ended, folded}
 use Rattle.record.specs.Number.{number, numberIn, higherGroups}
 use Rattle.reading.specs.Plan.{edge, plan}
 use Rattle.certificates.specs.Tests.{someBelow, allBelow, anyLink, each, along, distinct}
