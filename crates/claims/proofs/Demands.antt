@@ -30,9 +30,10 @@ use Rattle.checker.specs.Check.{planGraph, checkOf}
 use Rattle.certifier.specs.declared.Made.{Made}
 use Rattle.certifier.specs.Made.{roomAsked, made, madeBy, madeFrom, filledBy, filledFrom, certificateOf, gradeMade}
 use Rattle.claims.specs.Certified.{IsPlan, HasFigure, Certified}
-use Rattle.claims.specs.Demands.{Demand2, RulesAreAdditions, Demand2Sequence, EdgesOnce, FigureComputed, PlanAccepted, AcceptedGrade.checked, AcceptedGrade.made-for, AcceptedGrade.closed-on, GradeIsFigure, SameGrades, Writes, MakerWrites, SameCertificate, CertificateOfPlan, RefusedKeeps}
+use Rattle.claims.specs.Demands.{Demand2, RulesAreAdditions, Demand2Sequence, EdgesOnce, AcceptedByCalls, FigureComputed, PlanAccepted, AcceptedGrade.checked, AcceptedGrade.made-for, AcceptedGrade.closed-on, GradeIsFigure, SameGrades, Writes, MakerWrites, SameCertificate, CertificateOfPlan, RefusedKeeps}
 use Rattle.claims.proofs.Checking.{plan-simple, demand-2, grade-certified, certified-grade, certified-sound, grade-sound, certified-sequenced, sequenced-certified, sequenced-once}
 use Rattle.claims.proofs.Sessions.{closing-sound}
+use Rattle.claims.proofs.Replay.{kind3-calls}
 
 -- DEMAND 2
 pub demand2 : Demand2
@@ -52,6 +53,9 @@ demand2-sequence P C bp bc =
 
 pub edges-used-once : EdgesOnce
 edges-used-once P C c = sequenced-once c
+
+pub accepted-by-calls : AcceptedByCalls
+accepted-by-calls = kind3-calls
 
 pub plan-accepted : PlanAccepted
 plan-accepted P bp = (λ e. let r = accepted P bp e in (r .0, record { allowed = r .1; bytes = r .2 }), λ q. rw (q .1 .bytes) (ap (λ (x : PlanRead). x .answer) (accepts (q .0) (q .1 .allowed))))

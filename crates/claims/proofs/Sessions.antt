@@ -74,7 +74,7 @@ never-accepts (start part) = refl
 never-accepts (path part) = refl
 never-accepts close = refl
 
-pub never-opened : (calls : List Call) → sessionAfter noSession calls ≡ noSession
+never-opened : (calls : List Call) → sessionAfter noSession calls ≡ noSession
 never-opened [] = refl
 never-opened (c ∷ cs) = rw (never-accepts c) (never-opened cs)
 
@@ -91,14 +91,6 @@ opens (Got p next) = test (ltb (length (p .edges)) (p .n + 2)) refl
     test : (b : Bool) → ltb (length (p .edges)) (p .n + 2) ≡ b → Opens (Got p next)
     test true e = refused 29 0 (rw e)
     test false e = accepted p next refl (ltb-false _ _ e) (rw e)
-
-pub refused-opening : (P : List ℕ) (r q : ℕ) → opening P .answer ≡ PlanFault r q → opening P .session ≡ noSession
-unfolding opening
-refused-opening P r q e = on (opens (ended plan P 0))
-  where
-    on : Opens (ended plan P 0) → onOpening (ended plan P 0) .session ≡ noSession
-    on (refused n at f) = rw f
-    on (accepted p next g enough f) = let z : _≡_ {A = ℕ} 0 1 = cc (ap (λ (x : Opened). x .answer) f) in absurd (omega arith)
 
 -- the plan's graph has as many edges as its record
 pub plan-count : (p : Plan) → Allowed p → edgeCount (planGraph p) ≡ length (p .edges)
@@ -229,7 +221,7 @@ module _ (p : Plan) (al : Allowed p) where
             building = rw z (path-building (b .building) part P next g);
           })
 
-  pub given : (calls : List Call) → CallBytes calls → (s : Session) → Given p s → Given p (sessionAfter s calls)
+  given : (calls : List Call) → CallBytes calls → (s : Session) → Given p s → Given p (sessionAfter s calls)
   given [] bytes s g = g
   given (start part ∷ cs) bytes s g = given cs (bytes .1) (startStep s part .session) (given-start s part (bytes .0) g)
   given (path part ∷ cs) bytes s g = given cs (bytes .1) (pathStep s part .session) (given-path s part (bytes .0) g)

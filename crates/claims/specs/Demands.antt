@@ -14,7 +14,7 @@ use Rattle.connectivity.specs.Path.{Path}
 use Rattle.connectivity.specs.Build.{StartRules, BGPath, Steps, taken, final, EachEdgeOnce}
 use Rattle.connectivity.specs.TopologicalGraph.{Addition, IsSimple, topological, Offered, Adds}
 use Rattle.connectivity.specs.Connectivity.{connectivity}
-use Rattle.reading.specs.Plan.{Plan, Allowed}
+use Rattle.reading.specs.Plan.{Plan, Allowed, planBytes}
 use Rattle.reading.specs.Code.{wholePlan}
 use Rattle.sessions.specs.declared.Session.{Session}
 use Rattle.sessions.specs.Session.{opening, startStep, pathStep, closeStep}
@@ -28,7 +28,7 @@ use Rattle.script.specs.Replay.{answerWord, partOf, replayOf}
 use Rattle.fikzarn.specs.Words.{madeWord}
 use Rattle.claims.specs.Certified.{IsPlan, HasFigure, Certified, Sequenced}
 use Rattle.claims.specs.Session as of
-use Rattle.claims.specs.Calls.{Call, CallBytes, called, sessionAfter, heard, heardOn}
+use Rattle.claims.specs.Calls.{Call, CallBytes, called, sessionAfter, heard, heardOn, Replayed}
 use Rattle.claims.specs.Answers as listed
 use Rattle.claims.specs.Answers.{OneOf}
 use Rattle.claims.specs.Exports.{decoded, Fits, wordAt, scriptBytes, Short, callsFrom, scriptAnswers, Tells}
@@ -92,6 +92,10 @@ Demand2Sequence = (P C : List ℕ) → Bytes P → Bytes C → (checkOf P C ≡ 
 -- "It follows, and is to be shown, that every cable is then used just once."
 abbrev pub EdgesOnce : Type 0
 EdgesOnce = (P C : List ℕ) (c : Sequenced P C) → EachEdgeOnce (planGraph (c .plan)) (c .start ++ c .further)
+
+-- "A certificate of kind 3 is accepted exactly when these calls accept it and no byte is left."
+abbrev pub AcceptedByCalls : Type 0
+AcceptedByCalls = (p : Plan) → Allowed p → (C : List ℕ) → Bytes C → (checkOf (planBytes p) C ≡ Grade 3) ↔ Replayed p C
 
 -- "it accepts a plan exactly when its record is written as Records says and no byte is left"
 abbrev pub PlanAccepted : Type 0
