@@ -1,27 +1,27 @@
 -- DEMAND 2, both ways, and that every grade the checker accepts is the plan's connectivity. Assumes nothing.
 use Prim.Native.Nat.{ℕ, _<_}
-use mathlib.Core.List.{List}
-use mathlib.Core.Path.{_≡_, refl, sym, _∙_}
+use mathlib.Core.List.{List, _++_}
+use mathlib.Core.Path.{_≡_, refl, sym, _∙_, subst}
 use mathlib.Core.Logic.{_↔_}
 use native.Mathlib.Omega.{arith}
 use Rattle.record.specs.Read.{Read, Read.Got, Read.Refused, Bytes, ended}
 use Rattle.record.specs.declared.Answer.the-variants.{Grade}
 use Rattle.record.proofs.Laws.{ended-there, ended-back}
-use Rattle.connectivity.specs.Graph.{Simple}
-use Rattle.connectivity.specs.Connectivity.{connectivity}
-use Rattle.connectivity.specs.Certificate.{Certificate, Certificate.separation, Certificate.tree, Certificate.ears, Certificate.build, kind, grade, Rules}
+use Rattle.connectivity.specs.Graph.{Simple, HasConnectivity}
+use Rattle.connectivity.specs.Build.{EachEdgeOnce}
+use Rattle.connectivity.specs.Certificate.{Certificate, Certificate.separation, Certificate.tree, Certificate.ears, Certificate.build, kind, grade, Rules, BuildRules}
 use Rattle.connectivity.proofs.Edges.{fromEdges-simple}
-use Rattle.connectivity.proofs.Closure.{connectivity-is}
-use Rattle.connectivity.proofs.Soundness.{grade-connectivity, grade-kind}
+use Rattle.connectivity.proofs.Soundness.{rules-connectivity, grade-kind}
 use Rattle.connectivity.proofs.Main.{edges-once}
-use Rattle.connectivity.proofs.Additions.{bg-sequence}
+use Rattle.connectivity.proofs.Sequence.{rules-sequence, sequence-rules}
 use Rattle.reading.specs.Plan.{Plan, Allowed, plan, planBytes}
 use Rattle.reading.proofs.Plans.{plan-law}
 use Rattle.reading.proofs.Adjacency.{edge-list}
 use Rattle.certificates.specs.Records.{certificate}
+use Rattle.certificates.specs.Encoding.{certificateBytes}
 use Rattle.certificates.proofs.Accepted.{accepted-there, accepted-back}
 use Rattle.checker.specs.Check.{planGraph, onCertificate, certificateAnswer, onPlan, checkOf}
-use Rattle.claims.specs.Certified.{IsPlan, Certified, IsGrade, IsSequence}
+use Rattle.claims.specs.Certified.{IsPlan, HasFigure, Certified, Sequenced}
 use Rattle.record.specs.Number.{numberLimit}
 
 -- the graph of an allowed plan is simple, and small enough for numbers
@@ -71,39 +71,50 @@ pub demand-2 : (P C : List ℕ) (k : ℕ) → Bytes P → Bytes C → (checkOf P
 demand-2 P C k bp bc = (grade-certified P C k bp bc, certified-grade P C k)
 
 -- SOUNDNESS: an accepted grade is the plan's connectivity, whoever wrote the certificate.
-pub is-grade : (p : Plan) → Allowed p → (k : ℕ) → k ≡ connectivity (planGraph p) → IsGrade p k
-is-grade p a k e = record { figure = connectivity-is (planGraph p) (plan-simple p a) k e; computed = e }
-
-pub answer-sound : (p : Plan) → Allowed p → (c : List ℕ) (k : ℕ) → Bytes c → certificateAnswer p c ≡ Grade k → IsGrade p k
-unfolding certificateAnswer
-answer-sound p a c k bytes e =
-    let x = on-certificate (ended (certificate (planGraph p)) c 0) e in
-    let r = accepted-there (planGraph p) (plan-simple p a) (plan-few p a) c (x .0) (x .1) bytes (x .2) in
-    is-grade p a k (sym (x .3) ∙ grade-connectivity (planGraph p) (plan-simple p a) (x .0) (r .1))
-
-pub certified-sound : {P C : List ℕ} {k : ℕ} (c : Certified P C k) → IsGrade (c .plan) k
+pub certified-sound : {P C : List ℕ} {k : ℕ} → Certified P C k → HasFigure P k
 certified-sound {k = k} c =
-    let a = c .is-plan .allowed in
-    is-grade (c .plan) a k (sym (grade-kind (c .certificate) ∙ c .same-kind) ∙ grade-connectivity (planGraph (c .plan)) (plan-simple (c .plan) a) (c .certificate) (c .rules))
-
-pub grade-sound : (P C : List ℕ) (k : ℕ) → Bytes P → Bytes C → checkOf P C ≡ Grade k → (p : Plan) × IsPlan P p × IsGrade p k
-grade-sound P C k bp bc e = let c = grade-certified P C k bp bc e in (c .plan, c .is-plan, certified-sound c)
-
--- KIND 3: an accepted certificate uses every edge just once, and is a Barnette-Grünbaum sequence.
-pub grade-3-sequence : (P C : List ℕ) → Bytes P → Bytes C → checkOf P C ≡ Grade 3 → (p : Plan) × IsPlan P p × IsSequence p
-grade-3-sequence P C bp bc e = let c = grade-certified P C 3 bp bc e in (c .plan, c .is-plan, go (c .plan) (c .is-plan .allowed) (c .certificate) (c .same-kind) (c .rules))
-  where
-    go : (p : Plan) → Allowed p → (x : Certificate) → kind x ≡ 3 → Rules (planGraph p) x → IsSequence p
-    go p a (separation S) k r = absurd (omega arith)
-    go p a (tree c f ps S) k r = absurd (omega arith)
-    go p a (ears c d P es S) k r = absurd (omega arith)
-    go p a (build b c d e start further) k r = record {
-      a = b;
-      b = c;
-      c = d;
-      d = e;
-      start = start;
-      further = further;
-      once = edges-once (planGraph p) (plan-simple p a) b c d e start further r;
-      sequence = bg-sequence (planGraph p) (plan-simple p a) r;
+    let p = c .plan in
+    record {
+      plan = p;
+      is-plan = c .is-plan;
+      figure = subst (λ (j : ℕ). HasConnectivity (planGraph p) j) (grade-kind (c .certificate) ∙ c .same-kind)
+          (rules-connectivity (planGraph p) (plan-simple p (c .is-plan .allowed)) (c .certificate) (c .rules));
     }
+
+pub grade-sound : (P C : List ℕ) (k : ℕ) → Bytes P → Bytes C → checkOf P C ≡ Grade k → HasFigure P k
+grade-sound P C k bp bc e = certified-sound (grade-certified P C k bp bc e)
+
+-- KIND 3: a certificate is accepted exactly when it is a Barnette-Grünbaum sequence in path form, from a four-box start to the plan's graph.
+pub certified-sequenced : {P C : List ℕ} → Certified P C 3 → Sequenced P C
+certified-sequenced {P} {C} c = go (c .certificate) (c .bytes) (c .same-kind) (c .rules)
+  where
+    go : (x : Certificate) → C ≡ certificateBytes x → kind x ≡ 3 → Rules (planGraph (c .plan)) x → Sequenced P C
+    go (separation S) e k r = absurd (omega arith)
+    go (tree c f ps S) e k r = absurd (omega arith)
+    go (ears c d P es S) e k r = absurd (omega arith)
+    go (build p q r s start further) e k t =
+        let g = planGraph (c .plan) in
+        let a = plan-simple (c .plan) (c .is-plan .allowed) in
+        record {
+          plan = c .plan;
+          is-plan = c .is-plan;
+          p = p;
+          q = q;
+          r = r;
+          s = s;
+          start = start;
+          further = further;
+          bytes = e;
+          sequence = rules-sequence g a p q r s start further t;
+        }
+
+pub sequenced-rules : {P C : List ℕ} (c : Sequenced P C) → BuildRules (planGraph (c .plan)) (c .p) (c .q) (c .r) (c .s) (c .start) (c .further)
+sequenced-rules c = sequence-rules (planGraph (c .plan)) (plan-simple (c .plan) (c .is-plan .allowed)) (c .p) (c .q) (c .r) (c .s) (c .start) (c .further) (c .sequence)
+
+pub sequenced-certified : {P C : List ℕ} → Sequenced P C → Certified P C 3
+sequenced-certified c =
+    record { plan = c .plan; is-plan = c .is-plan; certificate = build (c .p) (c .q) (c .r) (c .s) (c .start) (c .further); bytes = c .bytes; same-kind = refl; rules = sequenced-rules c }
+
+-- and it uses every edge just once
+pub sequenced-once : {P C : List ℕ} (c : Sequenced P C) → EachEdgeOnce (planGraph (c .plan)) (c .start ++ c .further)
+sequenced-once c = edges-once (planGraph (c .plan)) (plan-simple (c .plan) (c .is-plan .allowed)) (c .p) (c .q) (c .r) (c .s) (c .start) (c .further) (sequenced-rules c)

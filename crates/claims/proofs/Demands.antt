@@ -12,8 +12,10 @@ use Rattle.record.specs.Number.{numberBytes, listBytes}
 use Rattle.record.specs.Write.{overwritten}
 use Rattle.record.specs.declared.Answer.the-variants.{Accepted, Grade, PlanFault}
 use Rattle.record.proofs.Laws.{ended-there}
-use Rattle.connectivity.specs.Graph.{Graph}
-use Rattle.connectivity.specs.Connectivity.{connectivity}
+use Rattle.connectivity.specs.Graph.{Graph, HasConnectivity, Adj}
+use Rattle.connectivity.proofs.Separators.{connectivity-unique}
+use Rattle.connectivity.proofs.Main.{connectivity-exactly}
+use Rattle.connectivity.proofs.Sequence.{build-tally, rule-adds, adds-rule}
 use Rattle.connectivity.specs.Certificate.{Rules}
 use Rattle.reading.specs.Plan.{Plan, Allowed, plan, planBytes}
 use Rattle.reading.specs.Code.{graphOf, wholePlan, planRead}
@@ -27,14 +29,29 @@ use Rattle.construction.proofs.AnyWords.{plan-any-steps}
 use Rattle.checker.specs.Check.{planGraph, checkOf}
 use Rattle.certifier.specs.declared.Made.{Made}
 use Rattle.certifier.specs.Made.{roomAsked, made, madeBy, madeFrom, filledBy, filledFrom, certificateOf, gradeMade}
-use Rattle.claims.specs.Certified.{IsPlan, IsGrade}
-use Rattle.claims.specs.Demands.{Demand2, PlanAccepted, AcceptedGrade, AcceptedGrade.checked, AcceptedGrade.made-for, AcceptedGrade.closed-on, GradeIsFigure, SameGrades, Writes, MakerWrites, SameCertificate, CertificateOfPlan, RefusedKeeps}
-use Rattle.claims.proofs.Checking.{demand-2, certified-grade, certified-sound, grade-sound}
+use Rattle.claims.specs.Certified.{IsPlan, HasFigure, Certified}
+use Rattle.claims.specs.Demands.{Demand2, RulesAreAdditions, Demand2Sequence, EdgesOnce, FigureComputed, PlanAccepted, AcceptedGrade, AcceptedGrade.checked, AcceptedGrade.made-for, AcceptedGrade.closed-on, GradeIsFigure, SameGrades, Writes, MakerWrites, SameCertificate, CertificateOfPlan, RefusedKeeps}
+use Rattle.claims.proofs.Checking.{plan-simple, demand-2, grade-certified, certified-grade, certified-sound, grade-sound, certified-sequenced, sequenced-certified, sequenced-once}
 use Rattle.claims.proofs.Sessions.{closing-sound}
 
 -- DEMAND 2
 pub demand2 : Demand2
 demand2 = demand-2
+
+pub rules-are-additions : RulesAreAdditions
+rules-are-additions g simple p q r s start further first steps P offered =
+    let t = build-tally g simple p q r s start further first steps in
+    record {
+      there = rule-adds (Adj g) (simple .symmetric) _ (length further) t P;
+      back = adds-rule (Adj g) _ (length further) t P offered;
+    }
+
+pub demand2-sequence : Demand2Sequence
+demand2-sequence P C bp bc =
+    (λ e. certified-sequenced (grade-certified P C 3 bp bc e), λ c. certified-grade P C 3 (sequenced-certified c))
+
+pub edges-used-once : EdgesOnce
+edges-used-once P C c = sequenced-once c
 
 pub plan-accepted : PlanAccepted
 plan-accepted P bp = (λ e. let r = accepted P bp e in (r .0, record { allowed = r .1; bytes = r .2 }), λ q. rw (q .1 .bytes) (ap (λ (x : PlanRead). x .answer) (accepts (q .0) (q .1 .allowed))))
@@ -47,13 +64,12 @@ module _ (p : Plan) (a : Allowed p) where
   its-rules : Rules (planGraph p) (its .certificate)
   its-rules = subst (λ (g : Graph). Rules g (its .certificate)) (graph-listed p a) (its .rules)
 
-  pub made-accepted : checkOf (planBytes p) (certificateOf (graphOf p)) ≡ Grade (gradeMade (graphOf p))
-  made-accepted = certified-grade (planBytes p) (certificateOf (graphOf p)) (gradeMade (graphOf p))
-      (record { plan = p; is-plan = record { allowed = a; bytes = refl }; certificate = its .certificate; bytes = its .bytes; same-kind = sym (its .grade); rules = its-rules })
+  pub made-certified : Certified (planBytes p) (certificateOf (graphOf p)) (gradeMade (graphOf p))
+  made-certified =
+      record { plan = p; is-plan = record { allowed = a; bytes = refl }; certificate = its .certificate; bytes = its .bytes; same-kind = sym (its .grade); rules = its-rules }
 
-  pub made-figure : IsGrade p (gradeMade (graphOf p))
-  made-figure = certified-sound {P = planBytes p} {C = certificateOf (graphOf p)} {k = gradeMade (graphOf p)}
-      (record { plan = p; is-plan = record { allowed = a; bytes = refl }; certificate = its .certificate; bytes = its .bytes; same-kind = sym (its .grade); rules = its-rules })
+  pub made-accepted : checkOf (planBytes p) (certificateOf (graphOf p)) ≡ Grade (gradeMade (graphOf p))
+  made-accepted = certified-grade (planBytes p) (certificateOf (graphOf p)) (gradeMade (graphOf p)) made-certified
 
   pub made-short : length (certificateOf (graphOf p)) ≤ roomAsked
   made-short = its .short
@@ -66,20 +82,20 @@ filled-on : (P buffer : List ℕ) (x : Read Plan) → ended plan P 0 ≡ x → f
 filled-on P buffer x e = ap (λ (r : Read Plan). filledBy buffer (planRead r .answer) (planRead r .graph)) e
 
 -- a grade that the maker answers is the kind of that certificate
-made-grade : (P : List ℕ) → Bytes P → (buffer : List ℕ) (k : ℕ) → madeFrom P buffer .answer ≡ Grade k → (p : Plan) × IsPlan P p × IsGrade p k
+made-grade : (P : List ℕ) → Bytes P → (buffer : List ℕ) (k : ℕ) → madeFrom P buffer .answer ≡ Grade k → HasFigure P k
 unfolding madeBy planRead
 made-grade P bp buffer k e = go (ended plan P 0) refl (ap (λ (m : Made). m .answer) (sym (made-on P buffer (ended plan P 0) refl)) ∙ e)
   where
-    go : (x : Read Plan) → ended plan P 0 ≡ x → madeBy buffer (planRead x .answer) (planRead x .graph) .answer ≡ Grade k → (p : Plan) × IsPlan P p × IsGrade p k
+    go : (x : Read Plan) → ended plan P 0 ≡ x → madeBy buffer (planRead x .answer) (planRead x .graph) .answer ≡ Grade k → HasFigure P k
     go (Refused r q) f h = let z : _≡_ {A = ℕ} 0 1 = cc in absurd (omega arith)
     go (Got p next) f h = test (ltb (length buffer) roomAsked) h
       where
-        test : (b : Bool) → cond b (made (PlanFault 30 0) 0) (made (Grade (gradeMade (graphOf p))) (length (certificateOf (graphOf p)))) .answer ≡ Grade k → (p : Plan) × IsPlan P p × IsGrade p k
+        test : (b : Bool) → cond b (made (PlanFault 30 0) 0) (made (Grade (gradeMade (graphOf p))) (length (certificateOf (graphOf p)))) .answer ≡ Grade k → HasFigure P k
         test true h = let z : _≡_ {A = ℕ} 0 1 = cc in absurd (omega arith)
         test false h =
             let r = ended-there plan-law bp f in
             let same : gradeMade (graphOf p) ≡ k = cc in
-            (p, record { allowed = r .1; bytes = r .0 }, subst (λ (j : ℕ). IsGrade p j) same (made-figure p (r .1)))
+            rw (r .0, ← same) (certified-sound (made-certified p (r .1)))
 
 -- DEMAND 3: every accepted grade is the plan's figure
 pub grade-is-figure : GradeIsFigure
@@ -91,14 +107,20 @@ grade-is-figure P bp k (closed-on calls bc e) = closing-sound P bp calls bc k e
 one-plan : {P : List ℕ} (p q : Plan) → IsPlan P p → IsPlan P q → p ≡ q
 one-plan p q a b = injective p q (a .allowed) (b .allowed) (sym (a .bytes) ∙ b .bytes)
 
-figure-of : (P : List ℕ) → Bytes P → (p : Plan) → IsPlan P p → (k : ℕ) → AcceptedGrade P k → k ≡ connectivity (planGraph p)
-figure-of P bp p a k g = let r = grade-is-figure P bp k g in r .2 .computed ∙ ap (λ (q : Plan). connectivity (planGraph q)) (one-plan (r .0) p (r .1) a)
+-- so a record has one figure
+one-figure : {P : List ℕ} {j k : ℕ} → HasFigure P j → HasFigure P k → j ≡ k
+one-figure {k = k} x y =
+    connectivity-unique (planGraph (x .plan)) _ _ (x .figure)
+    (subst (λ (p : Plan). HasConnectivity (planGraph p) k) (one-plan (y .plan) (x .plan) (y .is-plan) (x .is-plan)) (y .figure))
 
 pub same-grades : SameGrades
-same-grades P Q bp bq p q a b j k g h =
-    let e = figure-of P bp p a j g in
-    let f = figure-of Q bq q b k h in
-    (λ i. sym e ∙ i ∙ f, λ i. e ∙ i ∙ sym f)
+same-grades P Q bp bq j k g h =
+    let x = grade-is-figure P bp j g in
+    let y = grade-is-figure Q bq k h in
+    (λ e. (j, x, rw e y), λ f. one-figure x (f .1) ∙ sym (one-figure y (f .2)))
+
+pub figure-computed : FigureComputed
+figure-computed p a k = connectivity-exactly (planGraph p) (plan-simple p a) k
 
 -- and the maker always writes one
 made-at : (p : Plan) → Allowed p → (buffer : List ℕ) → roomAsked ≤ length buffer → madeFrom (planBytes p) buffer ≡ made (Grade (gradeMade (graphOf p))) (length (certificateOf (graphOf p)))

@@ -4,3 +4,4 @@ pub mod Checking
 pub mod Program
 pub mod Sessions
 pub mod Replay
+pub mod Demand1

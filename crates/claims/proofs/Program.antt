@@ -13,8 +13,8 @@ use Rattle.reading.specs.Plan.{Plan, Allowed, plan, planBytes}
 use Rattle.reading.proofs.Plans.{plan-law}
 use Rattle.checker.specs.Check.{checkOf, onLeading, gradeOf}
 use Rattle.checker.specs.declared.Graded.{Graded}
-use Rattle.claims.specs.Certified.{IsGrade}
-use Rattle.claims.proofs.Checking.{answer-sound}
+use Rattle.claims.specs.Certified.{HasFigure}
+use Rattle.claims.proofs.Checking.{answer-there, certified-sound}
 
 -- the program answers what the checker answers to the two records apart, with the plan's counts
 pub program-checks : (p : Plan) → Allowed p → (C : List ℕ) → _≡_ {A = Graded} (gradeOf (planBytes p ++ C)) (record { answer = checkOf (planBytes p) C; n = p .n; m = length (p .edges) })
@@ -29,7 +29,7 @@ pub record Printed (s : List ℕ) (k : ℕ) : Type 0 where
   pub input : s ≡ planBytes plan ++ certificate
   pub vertices : gradeOf s .n ≡ plan .n
   pub edges : gradeOf s .m ≡ length (plan .edges)
-  pub grade : IsGrade plan k
+  pub grade : HasFigure (planBytes plan) k
 
 pub program-sound : (s : List ℕ) → Bytes s → (k : ℕ) → gradeOf s .answer ≡ Grade k → Printed s k
 unfolding gradeOf
@@ -47,6 +47,6 @@ program-sound s bytes k e = go (plan s 0) refl e
           input = l .0;
           vertices = ap (λ (x : Graded). x .n) t;
           edges = ap (λ (x : Graded). x .m) t;
-          grade = answer-sound p (l .2) (drop next s) k b e;
+          grade = certified-sound (answer-there p (l .2) (drop next s) k b e);
         }
     go (Refused r q) f e = let z : _≡_ {A = ℕ} 0 1 = cc in absurd (omega arith)

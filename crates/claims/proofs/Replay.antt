@@ -27,9 +27,10 @@ use Rattle.sessions.specs.declared.Opened.{Opened}
 use Rattle.sessions.specs.declared.Stepped.{Stepped}
 use Rattle.sessions.specs.Session.{openedOn, onOpening, opening, onStart, startStep, onPath, pathStep}
 use Rattle.checker.specs.Check.{planGraph, onCertificate, onPlan, checkOf, certificateAnswer}
+use Rattle.claims.specs.Session.{due}
 use Rattle.claims.specs.Calls.{Finishes, sessionOn, Replayed}
 use Rattle.claims.proofs.Checking.{plan-simple, plan-few, on-certificate}
-use Rattle.claims.proofs.Sessions.{Opens, Opens.refused, Opens.accepted, opens, plan-count, due, Building, start-step, start-building, path-step, path-building, closing-is, closed}
+use Rattle.claims.proofs.Sessions.{Opens, Opens.refused, Opens.accepted, opens, plan-count, Building, start-step, start-building, path-step, path-building, closing-is, closed}
 
 -- a step that was accepted had something to read
 accepted-got : {A : Type 0} (on : Read A → Stepped) → ((n at : ℕ) → on (Refused n at) .answer ≡ CertificateFault n at) → (x : Read A) → on x .answer ≡ Accepted → (a : A) × (next : ℕ) × (x ≡ Got a next)

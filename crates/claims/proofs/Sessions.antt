@@ -3,7 +3,7 @@
 use Prim.Native.Nat.{ℕ, _+_, _-_, _≤_}
 use mathlib.Core.List.{List, [], _∷_, _++_}
 use mathlib.Core.Bool.{Bool, true, false, cond, _&&_}
-use mathlib.Core.Path.{_≡_, refl, sym, ap, _∙_, fun-ext}
+use mathlib.Core.Path.{_≡_, refl, sym, ap, _∙_, subst, fun-ext}
 use native.Mathlib.Omega.{arith}
 use lib.Dec.{ltb, eqb}
 use lib.ListN.{length, length-append}
@@ -11,14 +11,13 @@ use borrow.Author.Tests.{ltb-true, ltb-false, eqb-true, le-leb}
 use Rattle.record.specs.Read.{Read, Read.Got, Read.Refused, Reader, Bytes, ended}
 use Rattle.record.specs.declared.Answer.the-variants.{Accepted, Grade, PlanFault, CertificateFault}
 use Rattle.record.proofs.Laws.{ended-there}
-use Rattle.connectivity.specs.Graph.{Graph, Adj, edgeCount}
-use Rattle.connectivity.specs.Connectivity.{connectivity}
+use Rattle.connectivity.specs.Graph.{Graph, Adj, edgeCount, HasConnectivity}
 use Rattle.connectivity.specs.Path.{Path}
 use Rattle.connectivity.specs.Build.{StartRules, Steps, taken, final, furtherCount}
 use Rattle.connectivity.specs.Certificate.{Certificate.build}
 use Rattle.connectivity.proofs.Edges.{fromEdges-count}
 use Rattle.connectivity.proofs.Steps.{final-append, steps-append}
-use Rattle.connectivity.proofs.Soundness.{grade-connectivity}
+use Rattle.connectivity.proofs.Soundness.{rules-connectivity}
 use Rattle.reading.specs.Plan.{Plan, Allowed, plan}
 use Rattle.reading.specs.Code.{graphOf}
 use Rattle.graph.specs.declared.GraphTable.{GraphTable}
@@ -40,9 +39,10 @@ use Rattle.refinement.proofs.Shows.{Shows}
 use Rattle.refinement.proofs.Start.{start-same, shows-start}
 use Rattle.refinement.proofs.Reading.{shows-path, shows-read}
 use Rattle.checker.specs.Check.{planGraph}
-use Rattle.claims.specs.Certified.{IsPlan, IsGrade}
+use Rattle.claims.specs.Certified.{HasFigure}
+use Rattle.claims.specs.Session.{due}
 use Rattle.claims.specs.Calls.{Call, Call.start, Call.path, Call.close, called, sessionAfter, CallBytes}
-use Rattle.claims.proofs.Checking.{plan-simple, plan-few, is-grade}
+use Rattle.claims.proofs.Checking.{plan-simple, plan-few}
 use Rattle.vertexset.specs.Set.{capacity}
 
 -- EVERY SESSION VALUE: closing leaves it as it is, and so does a call that is refused, which reads nothing.
@@ -100,12 +100,9 @@ refused-opening P r q e = on (opens (ended plan P 0))
     on (refused n at f) = rw f
     on (accepted p next g enough f) = let z : _≡_ {A = ℕ} 0 1 = cc (ap (λ (x : Opened). x .answer) f) in absurd (omega arith)
 
--- the plan's graph has as many edges as its record; how many paths come after the start
+-- the plan's graph has as many edges as its record
 pub plan-count : (p : Plan) → Allowed p → edgeCount (planGraph p) ≡ length (p .edges)
 plan-count p al = fromEdges-count (p .n) (p .edges) (edge-list p al)
-
-abbrev pub due : Plan → ℕ
-due p = furtherCount (length (p .edges)) (p .n)
 
 -- a session that was started on a plan, its build showing these links
 pub record Building (p : Plan) (s : Session) (links : List Path) : Type 0 where
@@ -239,36 +236,36 @@ module _ (p : Plan) (al : Allowed p) where
   given (close ∷ cs) bytes s g = given cs bytes (closeStep s .session) (rw (close-same s) g)
 
   -- a closing that is accepted answers the plan's connectivity
-  given-close : p .n + 2 ≤ length (p .edges) → (s : Session) → Given p s → (k : ℕ) → closeStep s .answer ≡ Grade k → k ≡ connectivity (planGraph p)
+  given-close : p .n + 2 ≤ length (p .edges) → (s : Session) → Given p s → (k : ℕ) → closeStep s .answer ≡ Grade k → HasConnectivity (planGraph p) k
   unfolding closeStep
   given-close enough s (waiting e) k f = let z : _≡_ {A = ℕ} 0 1 = cc (rw e at f) in absurd (omega arith)
   given-close enough s (begun b) k f =
       let r = closed (b .building) f in
       let m = plan-count p al in
-      sym (r .2) ∙ grade-connectivity (planGraph p) (plan-simple p al) (build (b .a) (b .b) (b .c) (b .d) (b .six) (b .further))
+      subst (λ (j : ℕ). HasConnectivity (planGraph p) j) (r .2) (rules-connectivity (planGraph p) (plan-simple p al) (build (b .a) (b .b) (b .c) (b .d) (b .six) (b .further))
       (record {
         first = b .rules;
         enough = omega (arith, m);
         count = omega (arith, m, b .count, r .0);
         steps = b .steps;
         all-branch = decide-all (decide-branch (final (b .six) (b .further))) (p .n) .holds (r .1);
-      })
+      }))
 
 -- CLOSING: take any opening and, from the session it gives, any list of calls; a closing that is accepted then answers the connectivity
 -- of the plan that the session was opened on.
 pub closing-sound : (P : List ℕ) → Bytes P → (calls : List Call) → CallBytes calls → (k : ℕ) → closeStep (sessionAfter (opening P .session) calls) .answer ≡ Grade k
-    → (p : Plan) × IsPlan P p × IsGrade p k
+    → HasFigure P k
 unfolding opening
 closing-sound P bp calls bytes k e = on (opens (ended plan P 0))
   where
     never : closeStep (sessionAfter noSession calls) .answer ≡ CertificateFault 31 0
     never = rw (never-opened calls, never-accepts close)
 
-    on : Opens (ended plan P 0) → (p : Plan) × IsPlan P p × IsGrade p k
+    on : Opens (ended plan P 0) → HasFigure P k
     on (refused r q f) =
         let z : _≡_ {A = ℕ} 0 1 = cc (ap (λ (x : Opened). closeStep (sessionAfter (x .session) calls) .answer) f, never) in
         absurd (omega arith)
     on (accepted p next g enough f) =
         let r = ended-there plan-law bp g in
         let s : onOpening (ended plan P 0) .session ≡ openedOn (graphOf p) = ap (λ (x : Opened). x .session) f in
-        (p, record { allowed = r .1; bytes = r .0 }, is-grade p (r .1) k (given-close p (r .1) enough _ (given p (r .1) calls bytes _ (waiting s)) k e))
+        record { plan = p; is-plan = record { allowed = r .1; bytes = r .0 }; figure = given-close p (r .1) enough _ (given p (r .1) calls bytes _ (waiting s)) k e }

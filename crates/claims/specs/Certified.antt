@@ -3,7 +3,9 @@ use Prim.Native.Nat.{ℕ}
 use mathlib.Core.List.{List}
 use mathlib.Core.Path.{_≡_}
 use Rattle.connectivity.specs.Graph.{HasConnectivity}
-use Rattle.connectivity.specs.Certificate.{Certificate, kind, Rules}
+use Rattle.connectivity.specs.Path.{Path}
+use Rattle.connectivity.specs.TopologicalGraph.{IsSequence}
+use Rattle.connectivity.specs.Certificate.{Certificate, Certificate.build, kind, Rules}
 use Rattle.certificates.specs.Encoding.{certificateBytes}
 use Rattle.reading.specs.Plan.{Plan, Allowed, planBytes}
 use Rattle.checker.specs.Check.{planGraph}
@@ -27,3 +29,17 @@ pub record Certified (P C : List ℕ) (k : ℕ) : Type 0 where
   pub bytes : C ≡ certificateBytes certificate
   pub same-kind : kind certificate ≡ k
   pub rules : Rules (planGraph plan) certificate
+
+-- beside a plan's record P, C is the record of a certificate of kind 3, and its own start and further paths are a Barnette-Grünbaum
+-- sequence in path form, from the complete graph on its own p, q, r, s to the plan's graph
+pub record Sequenced (P C : List ℕ) : Type 0 where
+  pub plan : Plan
+  pub is-plan : IsPlan P plan
+  pub p : ℕ
+  pub q : ℕ
+  pub r : ℕ
+  pub s : ℕ
+  pub start : List Path
+  pub further : List Path
+  pub bytes : C ≡ certificateBytes (build p q r s start further)
+  pub sequence : IsSequence (planGraph plan) p q r s start further

@@ -9,7 +9,10 @@ use Rattle.record.specs.Read.{Bytes}
 use Rattle.record.specs.Number.{numberBytes, listBytes}
 use Rattle.record.specs.declared.Answer.{Answer}
 use Rattle.record.specs.declared.Answer.the-variants.{Accepted, Grade, PlanFault, CertificateFault}
-use Rattle.connectivity.specs.Graph.{listed, HasConnectivity}
+use Rattle.connectivity.specs.Graph.{Graph, Adj, Simple, listed, HasConnectivity}
+use Rattle.connectivity.specs.Path.{Path}
+use Rattle.connectivity.specs.Build.{StartRules, BGPath, Steps, taken, final, EachEdgeOnce}
+use Rattle.connectivity.specs.TopologicalGraph.{Addition, IsSimple, topological, Offered, Adds}
 use Rattle.connectivity.specs.Connectivity.{connectivity}
 use Rattle.reading.specs.Plan.{Plan, Allowed}
 use Rattle.reading.specs.Code.{wholePlan}
@@ -23,7 +26,7 @@ use Rattle.script.specs.declared.Part.the-variants.{Within}
 use Rattle.script.specs.Script.{partAt}
 use Rattle.script.specs.Replay.{answerWord, partOf, replayOf}
 use Rattle.fikzarn.specs.Words.{madeWord}
-use Rattle.claims.specs.Certified.{IsPlan, HasFigure, Certified}
+use Rattle.claims.specs.Certified.{IsPlan, HasFigure, Certified, Sequenced}
 use Rattle.claims.specs.Session as of
 use Rattle.claims.specs.Calls.{Call, CallBytes, called, sessionAfter, heard, heardOn}
 use Rattle.claims.specs.Answers as listed
@@ -67,6 +70,28 @@ RefusedKeeps = (P buffer : List ℕ) → MakerRefuses P buffer
 -- if one is broken."
 abbrev pub Demand2 : Type 0
 Demand2 = (P C : List ℕ) (k : ℕ) → Bytes P → Bytes C → (checkOf P C ≡ Grade k) ↔ Certified P C k
+
+-- "For grade 3 the rules are the three Barnette-Grünbaum additions on simple graphs, from a four-box start to the whole plan." On a build that
+-- a start and further paths give, and for a path along edges whose ends are in and whose inner vertices are new, the rule for a further
+-- path gives the addition (a), (b) or (c) by the places of its ends, from the topological graph to that of the build then, which is
+-- simple; and wherever taking the path is any such addition, and the graph then is simple, the rule holds.
+pub record RuleIsAddition (E : ℕ → ℕ → Type 0) (links : List Path) (P : Path) : Type 0 where
+  pub there : BGPath E links P → Adds links P
+  pub back : Addition (topological links) (topological (taken links P)) → IsSimple (topological (taken links P)) → BGPath E links P
+
+abbrev pub RulesAreAdditions : Type 0
+RulesAreAdditions =
+    (g : Graph) → Simple g → (p q r s : ℕ) (start further : List Path) → StartRules g p q r s start → Steps (Adj g) start further
+    → (P : Path) → Offered (Adj g) (final start further) P → RuleIsAddition (Adj g) (final start further) P
+
+-- So a certificate of kind 3 is accepted exactly when its start is a subdivided complete graph on four vertices, each further path is such
+-- an addition, and the last graph is the plan's;
+abbrev pub Demand2Sequence : Type 0
+Demand2Sequence = (P C : List ℕ) → Bytes P → Bytes C → (checkOf P C ≡ Grade 3) ↔ Sequenced P C
+
+-- "It follows, and is to be shown, that every cable is then used just once."
+abbrev pub EdgesOnce : Type 0
+EdgesOnce = (P C : List ℕ) (c : Sequenced P C) → EachEdgeOnce (planGraph (c .plan)) (c .start ++ c .further)
 
 -- "it accepts a plan exactly when its record is written as Records says and no byte is left"
 abbrev pub PlanAccepted : Type 0

@@ -1,0 +1,127 @@
+-- DEMAND 1, SESSIONS: the code's session is document 01's, whatever calls come. Assumes nothing.
+use Prim.Native.Nat.{ℕ, suc, _+_}
+use mathlib.Core.List.{List, [], _∷_}
+use mathlib.Core.Bool.{Bool, true, false, cond}
+use mathlib.Core.Path.{_≡_, refl, sym, ap, _∙_}
+use native.Mathlib.Omega.{arith}
+use lib.Dec.{ltb, eqb}
+use lib.ListN.{length, drop}
+use Rattle.record.specs.Read.{Read, Read.Got, Read.Refused, Bytes, ended}
+use Rattle.record.specs.declared.Answer.{Answer}
+use Rattle.record.specs.declared.Answer.the-variants.{Accepted, Grade, PlanFault, CertificateFault}
+use Rattle.record.proofs.Laws.{ended-there}
+use Rattle.connectivity.specs.Path.{Path}
+use Rattle.connectivity.specs.Build.{taken}
+use Rattle.reading.specs.Plan.{Plan, Allowed, plan}
+use Rattle.reading.specs.Code.{graphOf}
+use Rattle.reading.proofs.Plans.{plan-law}
+use Rattle.certificates.specs.Tests.{allBelow, isBranch}
+use Rattle.certificates.specs.Records.{start as readStart, furtherPath}
+use Rattle.sessions.specs.declared.Session.{Session}
+use Rattle.sessions.specs.declared.Opened.{Opened}
+use Rattle.sessions.specs.declared.Stepped.{Stepped}
+use Rattle.sessions.specs.Session.{noSession, openedOn, onOpening, opening, refusedStep, onStart, startStep, onPath, pathStep, closeStep}
+use Rattle.checker.specs.Check.{planGraph}
+use Rattle.claims.specs.Session as of
+use Rattle.claims.specs.Session.{State, State.never, State.waiting, State.building, Gives, due}
+use Rattle.claims.specs.Calls.{Call, Call.start, Call.path, Call.close, called, rest, calledOn, Heard, heard, heardOn}
+use Rattle.claims.specs.Demands.{SessionIs, Demand1Sessions}
+use Rattle.claims.proofs.Sessions.{Building, never-accepts, refused-same, start-step, start-building, early-path, second-start, path-step, path-building, closing-is}
+
+-- the code's session is at this state of document 01's
+abbrev At : Session → State → Type 0
+At s never = s ≡ noSession
+At s (waiting p) = Allowed p × (s ≡ openedOn (graphOf p))
+At s (building p links k) = Allowed p × Building p s links × (s .taken ≡ k)
+
+-- a step of the code and what document 01's session gives agree on all that is heard, and lead to the same
+record Agree (x : Stepped) (part : List ℕ) (y : Gives) : Type 0 where
+  answer : x .answer ≡ y .answer
+  unread : drop (x .read) part ≡ y .unread
+  next : At (x .session) (y .state)
+
+-- refused alike: each stays where it was
+both-refuse : {s : Session} (z : State) → At s z → (part : List ℕ) (r q : ℕ) → Agree (refusedStep s r q) part (of.refuses z part r q)
+both-refuse z h part r q = record { answer = refl; unread = refl; next = h }
+
+module _ (p : Plan) (al : Allowed p) where
+  both-start : (part : List ℕ) → Agree (startStep (openedOn (graphOf p)) part) part (of.started (waiting p) part)
+  both-start part = rw (start-step p al part) (go (readStart (planGraph p) part 0) refl)
+    where
+      go : (x : Read ((ℕ × (ℕ × (ℕ × ℕ))) × List Path)) → readStart (planGraph p) part 0 ≡ x → Agree (onStart (openedOn (graphOf p)) x) part (of.onStarted p part x)
+      go (Refused r q) e = both-refuse (waiting p) (al, refl) part r q
+      go (Got x next) e = record { answer = refl; unread = refl; next = (al, start-building p al part x next e, refl) }
+
+  module _ {s : Session} {links : List Path} (h : Building p s links) where
+    both-path : (part : List ℕ) → Agree (pathStep s part) part (of.pathed (building p links (s .taken)) part)
+    both-path part = rw (path-step p al h part) (test (ltb (s .taken) (due p)) (furtherPath (planGraph p) links part 0) refl)
+      where
+        test : (b : Bool) (x : Read Path) → furtherPath (planGraph p) links part 0 ≡ x
+            → Agree (cond b (onPath s x) (refusedStep s 31 0)) part (cond b (of.onPath p links (s .taken) part x) (of.refuses (building p links (s .taken)) part 31 0))
+        test false x e = both-refuse (building p links (s .taken)) (al, h, refl) part 31 0
+        test true (Refused r q) e = both-refuse (building p links (s .taken)) (al, h, refl) part r q
+        test true (Got P next) e = record { answer = refl; unread = refl; next = (al, path-building p al h part P next e, omega arith) }
+
+    both-close : Agree (closeStep s) [] (of.closed (building p links (s .taken)))
+    unfolding closeStep
+    both-close = record { answer = closing-is p al h; unread = refl; next = (al, h, refl) }
+
+-- the part that a call hands in
+abbrev handed : Call → List ℕ
+handed (start part) = part
+handed (path part) = part
+handed close = []
+
+-- EACH CALL agrees,
+agree : (s : Session) (z : State) → At s z → (c : Call) → Agree (called s c) (handed c) (calledOn z c)
+unfolding closeStep
+agree s never h (start part) = rw (h, never-accepts (start part)) (both-refuse never refl part 31 0)
+agree s never h (path part) = rw (h, never-accepts (path part)) (both-refuse never refl part 31 0)
+agree s never h close = rw (h, never-accepts close) (both-refuse never refl [] 31 0)
+agree s (waiting p) h (start part) = rw (h .1) (both-start p (h .0) part)
+agree s (waiting p) h (path part) = rw (h .1, early-path p (h .0) part) (both-refuse (waiting p) (h .0, refl) part 31 0)
+agree s (waiting p) h close = rw (h .1) (both-refuse (waiting p) (h .0, refl) [] 31 0)
+agree s (building p links k) h (start part) = rw (second-start p (h .0) (h .1) part) (both-refuse (building p links k) h part 31 0)
+agree s (building p links k) h (path part) = rw (sym (h .2)) (both-path p (h .0) (h .1) part)
+agree s (building p links k) h close = rw (sym (h .2)) (both-close p (h .0) (h .1))
+
+-- what is left of the part, call by call
+rest-handed : (s : Session) (c : Call) → rest s c ≡ drop (called s c .read) (handed c)
+unfolding closeStep
+rest-handed s (start part) = refl
+rest-handed s (path part) = refl
+rest-handed s close = refl
+
+-- so every list of calls does
+agree-all : (calls : List Call) (s : Session) (z : State) → At s z → heard s calls ≡ heardOn z calls
+agree-all [] s z h = refl
+agree-all (c ∷ cs) s z h =
+    let a = agree s z h c in
+    let first : _≡_ {A = Heard} (record { answer = called s c .answer; unread = rest s c }) (record { answer = calledOn z c .answer; unread = calledOn z c .unread }) =
+        rw (a .answer, rest-handed s c, a .unread) in
+    let later = agree-all cs (called s c .session) (calledOn z c .state) (a .next) in
+    λ i. first i ∷ later i
+
+-- OPENING
+record OpensAt (x : Opened) (y : Gives) : Type 0 where
+  answer : x .answer ≡ y .answer
+  state : At (x .session) (y .state)
+
+opens-at : (P : List ℕ) → Bytes P → OpensAt (opening P) (of.opened P)
+unfolding opening graphOf
+opens-at P bytes = go (ended plan P 0) refl
+  where
+    go : (x : Read Plan) → ended plan P 0 ≡ x → OpensAt (onOpening x) (of.onOpened x)
+    go (Refused r q) e = record { answer = refl; state = refl }
+    go (Got p next) e = test (ltb (length (p .edges)) (p .n + 2))
+      where
+        test : (b : Bool)
+            → OpensAt (cond b (record { answer = PlanFault 29 0; session = noSession }) (record { answer = Accepted; session = openedOn (graphOf p) }))
+            (cond b (of.gives (PlanFault 29 0) never []) (of.gives Accepted (waiting p) []))
+        test true = record { answer = refl; state = refl }
+        test false = record { answer = refl; state = (ended-there plan-law bytes e .1, refl) }
+
+pub demand1-sessions : Demand1Sessions
+demand1-sessions P bytes calls =
+    let o = opens-at P bytes in
+    record { opens = o .answer; answers = agree-all calls (opening P .session) (of.opened P .state) (o .state); unchanged = λ c r q e. refused-same _ c r q e .0 }
