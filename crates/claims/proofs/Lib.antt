@@ -5,3 +5,4 @@ pub mod Program
 pub mod Sessions
 pub mod Replay
 pub mod Demand1
+pub mod Answers

@@ -125,3 +125,11 @@ module _ {N : ℕ → Type 0} {S A : Type 0} {item : S → Reader A} (after : S 
 pub check-listed : {N : ℕ → Type 0} (r : ℕ) (ok : Bool) → N r → Listed N (check r ok)
 unfolding check
 check-listed {N} r ok n = record { ends = λ s at i. ends-test N s ok (Got tt at) (Refused r at) i (n, i) }
+
+-- a longer list
+pub wider-listed : {N M : ℕ → Type 0} {A : Type 0} {R : Reader A} → ((r : ℕ) → N r → M r) → Listed N R → Listed M R
+wider-listed {N} {M} {A} {R} w h = record { ends = λ s at i. go s (R s at) (h .ends s at i) }
+  where
+    go : (s : List ℕ) (x : Read A) → Ends N s x → Ends M s x
+    go s (Got v next) p = p
+    go s (Refused r q) p = (w r (p .0), p .1)
