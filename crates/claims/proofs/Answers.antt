@@ -1,6 +1,6 @@
 -- THE ANSWERS of every call are those that document 01 lists for it. Assumes nothing.
 use Prim.Native.Nat.{ℕ, zero, suc, _+_, _≤_}
-use mathlib.Core.List.{List, [], _∷_}
+use mathlib.Core.List.{List, _∷_}
 use mathlib.Core.Bool.{Bool, true, false, cond, _&&_}
 use mathlib.Core.Path.{_≡_, refl, subst}
 use mathlib.Core.Logic.{inl, inr}
@@ -88,7 +88,8 @@ number-of = number-listed refl refl
 vertex-of : (n : ℕ) → By inCertificate (vertex n)
 vertex-of n = vertex-by number-of refl n
 
-tests-of : {A : Type 0} {R : Reader A} → By inCertificate R → (along ends new : A → Bool) → By inCertificate (R needs⟨ 24 ⟩ along needs⟨ 25 ⟩ ends needs⟨ 26 ⟩ new)
+tests-of : {A : Type 0} {R : Reader A} → By inCertificate R → (along ends new : A → Bool)
+    → By inCertificate (R needs⟨ 24 ⟩ along needs⟨ 25 ⟩ ends needs⟨ 26 ⟩ new)
 tests-of h along ends new = tests-by h refl refl refl along ends new
 
 module _ (g : Graph) where
@@ -199,7 +200,10 @@ behind s = go (plan s 0) (from-0 (in-list inPlan plan-by) s)
 
 -- a grade that the maker answers is the checker's for what it made
 grade-made : (p : Plan) → Allowed p → In (gradeMade (graphOf p)) allGrades
-grade-made p a = subst (λ (x : Answer). OneOf listed.checking (length (planBytes p)) (length (certificateOf (graphOf p))) x) (made-accepted p a) (checking (planBytes p) (certificateOf (graphOf p)))
+grade-made p a =
+    let P = planBytes p in
+    let C = certificateOf (graphOf p) in
+    subst (λ (x : Answer). OneOf listed.checking (length P) (length C) x) (made-accepted p a) (checking P C)
 
 making : (P : List ℕ) → Bytes P → (buffer : List ℕ) → OneOf listed.making (length P) 0 (madeFrom P buffer .answer)
 unfolding planRead madeBy
@@ -210,7 +214,8 @@ making P bp buffer = go (ended plan P 0) refl (from-0 (whole-by (λ r h. inr (in
     go (Refused r q) e h = h
     go (Got p next) e h = test (ltb (length buffer) roomAsked)
       where
-        test : (b : Bool) → OneOf listed.making (length P) 0 (cond b (made (PlanFault 30 0) 0) (made (Grade (gradeMade (graphOf p))) (length (certificateOf (graphOf p)))) .answer)
+        test : (b : Bool) → OneOf listed.making (length P) 0
+            (cond b (made (PlanFault 30 0) 0) (made (Grade (gradeMade (graphOf p))) (length (certificateOf (graphOf p)))) .answer)
         test true = (inr (inl refl), omega arith)
         test false = grade-made p (ended-there plan-law bp e .1)
 
@@ -230,7 +235,8 @@ opens P = go (ended plan P 0) (from-0 (whole-by (λ r h. inr (inr h)) (inl refl)
     go (Refused r q) h = h
     go (Got p next) h = test (ltb (graphOf p .m) (p .n + 2))
       where
-        test : (b : Bool) → OneOf listed.opening (length P) 0 (cond {A = Opened} b (record { answer = PlanFault 29 0; session = noSession }) (record { answer = Accepted; session = openedOn (graphOf p) }) .answer)
+        test : (b : Bool) → OneOf listed.opening (length P) 0
+            (cond {A = Opened} b (record { answer = PlanFault 29 0; session = noSession }) (record { answer = Accepted; session = openedOn (graphOf p) }) .answer)
         test true = (inr (inl refl), omega arith)
         test false = refl
 
