@@ -15,11 +15,10 @@ use Rattle.connectivity.proofs.Paths.{linkOf, link-vertices, two-vertices}
 use Rattle.certificates.specs.Records.{vertex, tailLink, path}
 use Rattle.paths.specs.Items.{itemRead}
 use Rattle.paths.specs.Paths.{verticesAt}
-use Rattle.paths.specs.Code.{valuesFrom}
 use Rattle.paths.specs.declared.Item.{Item}
 use Rattle.paths.specs.declared.PathRead.{PathRead}
 use Rattle.paths.proofs.Walk.{tail-vertices}
-use Rattle.paths.proofs.Reading.{vertex-low, values-next, path-values, vertices-again}
+use Rattle.paths.proofs.Reading.{vertex-low, values-next, path-values, vertices-again, valuesFrom}
 use Rattle.links.specs.Tables.{pointedBoth, pointAlong, mated, lastFrom, matedEnds}
 use Rattle.build.specs.declared.Sets.{Sets}
 use Rattle.build.specs.State.{entered}

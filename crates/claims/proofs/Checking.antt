@@ -21,7 +21,7 @@ use Rattle.certificates.specs.Records.{certificate}
 use Rattle.certificates.specs.Encoding.{certificateBytes}
 use Rattle.certificates.proofs.Accepted.{accepted-there, accepted-back}
 use Rattle.checker.specs.Check.{planGraph, onCertificate, certificateAnswer, onPlan, checkOf}
-use Rattle.claims.specs.Certified.{IsPlan, HasFigure, Certified, Sequenced}
+use Rattle.claims.specs.Certified.{HasFigure, Certified, Sequenced}
 use Rattle.record.specs.Number.{numberLimit}
 
 -- the graph of an allowed plan is simple, and small enough for numbers

@@ -1,21 +1,19 @@
 -- DEMAND 1, SESSIONS: the code's session is document 01's, whatever calls come. Assumes nothing.
-use Prim.Native.Nat.{ℕ, suc, _+_}
+use Prim.Native.Nat.{ℕ, _+_}
 use mathlib.Core.List.{List, [], _∷_}
 use mathlib.Core.Bool.{Bool, true, false, cond}
-use mathlib.Core.Path.{_≡_, refl, sym, ap, _∙_}
+use mathlib.Core.Path.{_≡_, refl, sym}
 use native.Mathlib.Omega.{arith}
-use lib.Dec.{ltb, eqb}
+use lib.Dec.{ltb}
 use lib.ListN.{length, drop}
 use Rattle.record.specs.Read.{Read, Read.Got, Read.Refused, Bytes, ended}
-use Rattle.record.specs.declared.Answer.{Answer}
-use Rattle.record.specs.declared.Answer.the-variants.{Accepted, Grade, PlanFault, CertificateFault}
+use Rattle.record.specs.declared.Answer.the-variants.{Accepted, PlanFault}
 use Rattle.record.proofs.Laws.{ended-there}
 use Rattle.connectivity.specs.Path.{Path}
 use Rattle.connectivity.specs.Build.{taken}
 use Rattle.reading.specs.Plan.{Plan, Allowed, plan}
 use Rattle.reading.specs.Code.{graphOf}
 use Rattle.reading.proofs.Plans.{plan-law}
-use Rattle.certificates.specs.Tests.{allBelow, isBranch}
 use Rattle.certificates.specs.Records.{start as readStart, furtherPath}
 use Rattle.sessions.specs.declared.Session.{Session}
 use Rattle.sessions.specs.declared.Opened.{Opened}
@@ -25,7 +23,7 @@ use Rattle.checker.specs.Check.{planGraph}
 use Rattle.claims.specs.Session as of
 use Rattle.claims.specs.Session.{State, State.never, State.waiting, State.building, Gives, due}
 use Rattle.claims.specs.Calls.{Call, Call.start, Call.path, Call.close, called, rest, calledOn, Heard, heard, heardOn}
-use Rattle.claims.specs.Demands.{SessionIs, Demand1Sessions}
+use Rattle.claims.specs.Demands.{Demand1Sessions}
 use Rattle.claims.proofs.Sessions.{Building, never-accepts, refused-same, start-step, start-building, early-path, second-start, path-step, path-building, closing-is}
 
 -- the code's session is at this state of document 01's

@@ -30,7 +30,7 @@ use Rattle.checker.specs.Check.{planGraph, checkOf}
 use Rattle.certifier.specs.declared.Made.{Made}
 use Rattle.certifier.specs.Made.{roomAsked, made, madeBy, madeFrom, filledBy, filledFrom, certificateOf, gradeMade}
 use Rattle.claims.specs.Certified.{IsPlan, HasFigure, Certified}
-use Rattle.claims.specs.Demands.{Demand2, RulesAreAdditions, Demand2Sequence, EdgesOnce, FigureComputed, PlanAccepted, AcceptedGrade, AcceptedGrade.checked, AcceptedGrade.made-for, AcceptedGrade.closed-on, GradeIsFigure, SameGrades, Writes, MakerWrites, SameCertificate, CertificateOfPlan, RefusedKeeps}
+use Rattle.claims.specs.Demands.{Demand2, RulesAreAdditions, Demand2Sequence, EdgesOnce, FigureComputed, PlanAccepted, AcceptedGrade.checked, AcceptedGrade.made-for, AcceptedGrade.closed-on, GradeIsFigure, SameGrades, Writes, MakerWrites, SameCertificate, CertificateOfPlan, RefusedKeeps}
 use Rattle.claims.proofs.Checking.{plan-simple, demand-2, grade-certified, certified-grade, certified-sound, grade-sound, certified-sequenced, sequenced-certified, sequenced-once}
 use Rattle.claims.proofs.Sessions.{closing-sound}
 

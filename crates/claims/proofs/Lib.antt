@@ -1,8 +1,10 @@
 pub mod Starred
 pub mod Demands
+pub mod Demand1
+pub mod Answers
 pub mod Checking
 pub mod Program
 pub mod Sessions
 pub mod Replay
-pub mod Demand1
-pub mod Answers
+pub mod Scripts
+pub mod Exports

@@ -1,6 +1,6 @@
 -- WHICH ANSWERS document 01 lists for each call: its cases, the numbers of its refusals, and that a place lies within the record.
 use Prim.Native.Nat.{ℕ, _≤_}
-use mathlib.Core.List.{List, [], _∷_, _++_}
+use mathlib.Core.List.{List, [], _∷_}
 use mathlib.Core.Bool.{Bool, true, false}
 use mathlib.Core.Path.{_≡_}
 use Rattle.record.specs.declared.Answer.{Answer}

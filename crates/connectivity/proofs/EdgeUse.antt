@@ -9,13 +9,19 @@ use lib.ListN.{length, length-append}
 use Rattle.connectivity.specs.Lists.{member, In, NoDup}
 use Rattle.connectivity.specs.Graph.{Graph, Simple, Adj, edges, edgeCount}
 use Rattle.connectivity.specs.Path.{edgesAlong, edge, Path, usedEdges, pathEdges, vertices, IsPath, End}
-use Rattle.connectivity.specs.Build.{splitAt, frontPart, backPart, takeBefore, takeAfter, taken, InBuild, BGPath, innerVertices, endPairs, Steps, final, SimpleBuild, linkEnds, IsBranch, EachEdgeOnce}
+use Rattle.connectivity.specs.Build.{splitAt, frontPart, backPart, takeBefore, takeAfter, taken, InBuild, BGPath, endPairs, Steps, final, linkEnds, IsBranch, EachEdgeOnce}
 use Rattle.connectivity.proofs.Lists.{member-in, in-right, in-left, in-append, nodup-left, nodup-append, nodup-apart, nodup-right, in-swap, fewer, at-most, at-least, nodup-count, pair?, filled}
-use Rattle.connectivity.proofs.Paths.{path-consecutive, consecutive-left, consecutive-right, edge-same, consecutive-differ, SamePair, inner-in, end-or-inner, in-inner, built-in, inner-built, branch-built, length-used, length-ends, in-ends, nodup-path, used-in, nodup-inner, length-path, all-vertices, both-ends, end-of, in-used, ends-differ, end-s, end-t, inner-on, inner-not-end, end-vertex, consecutive-edge}
+use Rattle.connectivity.proofs.Paths.{path-consecutive, consecutive-left, consecutive-right, edge-same, consecutive-differ, SamePair, inner-in, end-or-inner, in-inner, built-in, inner-built, branch-built, length-used, length-ends, in-ends, nodup-path, used-in, nodup-inner, length-path, all-vertices, both-ends, end-of, in-used, ends-differ, end-s, end-t, inner-on, inner-not-end, end-vertex, consecutive-edge, innerVertices}
 use Rattle.connectivity.proofs.Edges.{in-edges, path-low, edges-nodup}
 use Rattle.connectivity.proofs.Split.{split-list, split-kept, kept-split, piece-of, Piece, piece-inner, piece-in, piece-meet, piece-clear, split-path}
 use Rattle.connectivity.proofs.Invariant.{Invariant, taken-invariant}
 use Rattle.connectivity.proofs.Start.{Subdivision, theFour, start-invariant, end-start, four-branch, start-ends, clear-start, inner-sole, start-path}
+
+-- The built graph is simple: no two links have the same two ends, and an inner vertex is inside one link, once, and no end.
+pub record SimpleBuild (links : List Path) : Type 0 where
+  pub ends-once : NoDup (linkEnds links)
+  pub inner-once : NoDup (innerVertices links)
+  pub inner-only : (w : ℕ) → In w (innerVertices links) → ¬ IsBranch w links
 
 -- splitting keeps the edges, in order
 pub edges-cut : (s : ℕ) (p : List ℕ) (x : ℕ) (q : List ℕ) (t : ℕ) → edgesAlong s (p ++ (x ∷ q)) t ≡ edgesAlong s p x ++ edgesAlong x q t

@@ -15,9 +15,9 @@ use lib.Bits.{differ}
 use Rattle.connectivity.specs.Lists.{In, NoDup, member, below, select, Ascending}
 use Rattle.connectivity.specs.Graph.{Graph, Simple, Adj}
 use Rattle.connectivity.specs.Path.{Path, link, Along, IsPath, vertices}
-use Rattle.connectivity.specs.Build.{four, endPairs, sixPairs, innerVertices}
+use Rattle.connectivity.specs.Build.{four, endPairs, sixPairs}
 use Rattle.connectivity.proofs.Lists.{rev, rev-in, nodup-append, four-differ, nodup-rev, nodup-left, beside, ascending-below, member-in, select-in, fewer, select-nodup, nodup-below, in-select, below-in, in-member, nodup-count, in-append, in-left, in-right, nodup-right, nodup-apart, nodup-under, nodup-swap, in-swap, in-split, in?, length-below, isYes, no-false, true-yes, yes-true, in-below, scan, either, and-not?, true?, length-rev, in-rev, in-single}
-use Rattle.connectivity.proofs.Paths.{SamePair, inner-on, along-rev, in-ends, nodup-inner, same-trans, end-vertex, along-cut, in-inner, end-t, inner-in, along-join, end-s, ends-differ, end-or-inner}
+use Rattle.connectivity.proofs.Paths.{SamePair, inner-on, along-rev, in-ends, nodup-inner, same-trans, end-vertex, along-cut, in-inner, end-t, inner-in, along-join, end-s, ends-differ, end-or-inner, innerVertices}
 use Rattle.connectivity.proofs.Edges.{along-low, edge-differ, edge-high}
 use Rattle.connectivity.proofs.Start.{StartPaths, Subdivision, six-nodup, clear-start, six-order, start-path, inner-sole, start-joined, start-differ}
 use Rattle.connectivity.proofs.Search.{Searched, search, Found}

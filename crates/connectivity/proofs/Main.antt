@@ -9,7 +9,7 @@ use Rattle.connectivity.specs.Lists.{NoDup, In}
 use Rattle.connectivity.specs.Graph.{Graph, HasConnectivity, Simple, Separator, Adj, edges, edgeCount}
 use Rattle.connectivity.specs.Connectivity.{connectivity}
 use Rattle.connectivity.specs.Path.{Path, vertices, usedEdges}
-use Rattle.connectivity.specs.Build.{StartRules, Steps, IsBranch, final, SimpleBuild, EachEdgeOnce, furtherCount}
+use Rattle.connectivity.specs.Build.{StartRules, Steps, IsBranch, final, EachEdgeOnce, furtherCount}
 use Rattle.connectivity.specs.Certificate.{Separation, Tree, Cycle, Ears, inside, BuildRules, Certificate, Rules, grade}
 use Rattle.connectivity.proofs.Lists.{either, below?}
 use Rattle.connectivity.proofs.Separators.{connectivity-unique}
@@ -17,7 +17,7 @@ use Rattle.connectivity.proofs.Closure.{has-connectivity, connectivity-
 use Rattle.connectivity.proofs.Steps.{append-steps}
 use Rattle.connectivity.proofs.Start.{start-subdivision}
 use Rattle.connectivity.proofs.Soundness.{separation-separates, tree-none, ears-none, build-has-3, rules-connectivity, grade-connectivity}
-use Rattle.connectivity.proofs.EdgeUse.{build-simple, build-count, used-final, build-once}
+use Rattle.connectivity.proofs.EdgeUse.{build-simple, build-count, used-final, build-once, SimpleBuild}
 use Rattle.connectivity.proofs.Completeness.{certificate-exists}
 
 -- CONNECTIVITY IS ONE NUMBER (Separators).

@@ -9,9 +9,14 @@ use native.Mathlib.Decide.{ℕ-discrete}
 use lib.ListN.{length, length-append}
 use Rattle.connectivity.specs.Lists.{In, NoDup}
 use Rattle.connectivity.specs.Path.{Path, link, vertices, End, Along, IsPath, edge, pathEdges, edgesAlong, usedEdges}
-use Rattle.connectivity.specs.Build.{innerVertices, InBuild, IsBranch, endPairs}
+use Rattle.connectivity.specs.Build.{InBuild, IsBranch, endPairs}
 use Rattle.connectivity.proofs.Lists.{in-right, in-left, in-single, in-append, nodup-apart, nodup-left, rev}
 use Rattle.connectivity.proofs.Order.{Separates}
+
+-- the inner vertices of all links
+abbrev pub innerVertices : List Path → List ℕ
+innerVertices [] = []
+innerVertices (L ∷ ls) = L .inner ++ innerVertices ls
 
 -- a path from the list of its vertices, of which there are at least two
 abbrev pub lastOf : ℕ → List ℕ → ℕ

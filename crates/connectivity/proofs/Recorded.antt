@@ -8,10 +8,10 @@ use native.Mathlib.Omega.{arith}
 use lib.ListN.{length, length-append}
 use Rattle.connectivity.specs.Lists.{In, NoDup}
 use Rattle.connectivity.specs.Path.{Path, IsPath, vertices, End, link, Along, usedEdges, pathEdges}
-use Rattle.connectivity.specs.Build.{innerVertices, InBuild, endPairs}
+use Rattle.connectivity.specs.Build.{InBuild, endPairs}
 use Rattle.connectivity.proofs.Lists.{beside, nodup-left, nodup-right, nodup-apart, in-left, in-right, in-append, nodup-append}
 use Rattle.connectivity.proofs.Order.{Separates, Between, in-insert, insert-in, between-insert, nodup-insert}
-use Rattle.connectivity.proofs.Paths.{builtVertices, branchVertices, built-in, in-inner, end-or-inner, inner-of, in-built, inner-in, end-s, end-t, nodup-inner, inner-built, branch-built, lastOf, headOf, along-join, Consecutive, length-path}
+use Rattle.connectivity.proofs.Paths.{builtVertices, branchVertices, built-in, in-inner, end-or-inner, inner-of, in-built, inner-in, end-s, end-t, nodup-inner, inner-built, branch-built, lastOf, headOf, along-join, Consecutive, length-path, innerVertices}
 use Rattle.connectivity.proofs.Start.{Subdivision, start-path, theFour, subdivision-differ, four-branch, clear-start, end-start}
 
 -- s and t are not both on one link of l: a branch vertex stands between them

@@ -8,9 +8,9 @@ use native.Mathlib.Decide.{ℕ-discrete}
 use Rattle.connectivity.specs.Lists.{In, NoDup}
 use Rattle.connectivity.specs.Graph.{Graph, Adj}
 use Rattle.connectivity.specs.Path.{Path, Along, IsPath, End, vertices}
-use Rattle.connectivity.specs.Build.{endPairs, innerVertices, four, Starts, StartRules, sixPairs}
+use Rattle.connectivity.specs.Build.{endPairs, four, Starts, StartRules, sixPairs}
 use Rattle.connectivity.proofs.Lists.{in-append, in-left, in-right, nodup-append, nodup-swap, nodup-apart, four-differ, nodup-right, nodup-left, nodup-snoc, in-single, beside, either}
-use Rattle.connectivity.proofs.Paths.{nodup-inner, in-inner, in-ends, SamePair, ends-in, end-or-inner, branchVertices, in-branch, same-trans, both-ends}
+use Rattle.connectivity.proofs.Paths.{nodup-inner, in-inner, in-ends, SamePair, ends-in, end-or-inner, branchVertices, in-branch, same-trans, both-ends, innerVertices}
 use Rattle.connectivity.proofs.Walks.{AllFree, Connected, along-connected, connected-back, Free, Removed, removed-free, all-free?, connected-trans, one-free, here}
 use Rattle.connectivity.proofs.Edges.{ascending-nodup}
 use Rattle.connectivity.proofs.Invariant.{Invariant}

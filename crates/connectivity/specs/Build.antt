@@ -86,19 +86,10 @@ final links (P ∷ ps) = final (taken links P) ps
 abbrev pub furtherCount : ℕ → ℕ → ℕ
 furtherCount m n = m - n - 2
 
--- The built graph is simple: no two links have the same two ends, and an inner vertex is inside one link, once, and no end.
+-- The ends of each link, as an edge between them.
 abbrev pub linkEnds : List Path → List (ℕ × ℕ)
 linkEnds [] = []
 linkEnds (L ∷ ls) = edge (L .s) (L .t) ∷ linkEnds ls
-
-abbrev pub innerVertices : List Path → List ℕ
-innerVertices [] = []
-innerVertices (L ∷ ls) = L .inner ++ innerVertices ls
-
-pub record SimpleBuild (links : List Path) : Type 0 where
-  pub ends-once : NoDup (linkEnds links)
-  pub inner-once : NoDup (innerVertices links)
-  pub inner-only : (w : ℕ) → In w (innerVertices links) → ¬ IsBranch w links
 
 -- Every edge of the graph is used by the paths just once, and nothing else is.
 pub record EachEdgeOnce (g : Graph) (paths : List Path) : Type 0 where

@@ -1,4 +1,4 @@
--- Two bounds side by side, each above every vertex: "none" is another number on each side, and all else is the same.
+-- Two bounds side by side, each above every vertex: none is another number on each side, and all else is the same.
 use Prim.Native.Nat.{ℕ, zero, suc, _+_, _-_, _<_, _≤_}
 use mathlib.Core.Path.{_≡_, refl, sym, ap, subst, fun-ext, _∙_}
 use mathlib.Core.Bool.{Bool, true, false, cond, not, _&&_, _||_, or-false}

@@ -17,7 +17,7 @@ use Rattle.connectivity.proofs.Lists.{in-below, below-in}
 use Rattle.construction.specs.Ears.{pathSpace}
 use Rattle.construction.specs.Certificate as by-rows
 use Rattle.construction.specs.Certificate.{pairsFrom}
-use Rattle.construction.specs.Construction.{Bounds, codeBounds, VertexSet, Reach, Cut, Eared, State, emptySet, isCut, begin, build, fullSet, treeNumbers, cutNumbers, cutCertificate, buildCertificate, begunCertificate, treeCertificate, certificateNumbers, certificate}
+use Rattle.construction.specs.Construction.{Bounds, VertexSet, Reach, Cut, Eared, State, emptySet, isCut, begin, build, fullSet, treeNumbers, cutNumbers, cutCertificate, buildCertificate, begunCertificate, treeCertificate, certificateNumbers, certificate}
 use Rattle.construction.proofs.WithoutWords.{plan-without-words}
 use Rattle.construction.proofs.Alike.{Sides, end, AlikeSet, AlikeTable, AlikeCut, known-choice, zero-alike, empty-alike, minus-alike, single-alike, set-alike, members-alike, count-alike, none-left, no-cut, cut-alike, vertices-alike, lengthened-alike}
 use Rattle.construction.proofs.AlikeSearch.{AlikeReach, explore-alike}
@@ -25,6 +25,7 @@ use Rattle.construction.proofs.AlikeEars.{AlikeEared, ears-alike, on-al
 use Rattle.construction.proofs.AlikeStart.{begin-alike}
 use Rattle.construction.proofs.AlikeBuild.{AlikeState, first-alike, build-alike, finish-alike}
 use Rattle.construction.proofs.BuildEnds.{steps-end, begin-ongoing}
+use Rattle.construction.proofs.Standing.{codeBounds}
 
 module _ {s : Sides} {adj : ℕ → ℕ → Bool} {S G : VertexSet} {r q : Reach} (m : AlikeReach s adj S G r q) where
   tree-same : treeNumbers (s .a) r ≡ treeNumbers (s .b) q

@@ -10,9 +10,8 @@ use Rattle.vertexset.specs.declared.VertexSet.{VertexSet}
 use Rattle.connectivity.specs.Lists.{In, NoDup}
 use Rattle.connectivity.specs.Graph.{Graph, Adj}
 use Rattle.connectivity.specs.Path.{Path, link, vertices, End, Along, IsPath, edge, edgesAlong, pathEdges, usedEdges}
-use Rattle.connectivity.specs.Build.{innerVertices}
 use Rattle.connectivity.proofs.Lists.{rev, in-single, in-left, in-right, rev-in, nodup-left, at-most, clash}
-use Rattle.connectivity.proofs.Paths.{lastOf, headOf, last-end, edge-same, edge-comm, end-or-inner, inner-of, used-in}
+use Rattle.connectivity.proofs.Paths.{lastOf, headOf, last-end, edge-same, edge-comm, end-or-inner, inner-of, used-in, innerVertices}
 use Rattle.connectivity.proofs.Edges.{path-low}
 use Rattle.connectivity.proofs.EdgeUse.{edges-cut}
 use Rattle.connectivity.proofs.Search.{Closed}

@@ -9,8 +9,9 @@ use Rattle.construction.specs.Search.{back}
 use Rattle.construction.specs.Steps.{pairPlace}
 use Rattle.construction.specs.Certificate as by-rows
 use Rattle.construction.specs.Certificate.{pairsFrom}
-use Rattle.construction.specs.Construction.{codeBounds, visit, explore, detour, cycle, earsOn, ears, marked, sorted, begin, linkStep, outStep, step, steps, build, addEdges, addRows, finish, lengthened, certificateNumbers}
+use Rattle.construction.specs.Construction.{visit, explore, detour, cycle, earsOn, ears, marked, sorted, begin, linkStep, outStep, step, steps, build, addEdges, addRows, finish, lengthened, certificateNumbers}
 use Rattle.construction.proofs.Examples.{path-rows, path-numbers, four-rows, four-numbers, two-rows, two-numbers}
+use Rattle.construction.proofs.Standing.{codeBounds}
 
 pub path-same : by-rows.certificateNumbers path-rows 4 ≡ certificateNumbers codeBounds 4 (listed ((0, 1) ∷ (1, 2) ∷ (2, 3) ∷ []))
 unfolding folded firstFrom reversed lastOf placeOf visit explore back detour cycle earsOn ears marked sorted begin linkStep pairPlace outStep step steps build addEdges addRows finish certificateNumbers lengthened pairsFrom

@@ -12,8 +12,7 @@ use Rattle.construction.specs.Ears.{Cut, noCut, isCut, Found, answered, 
 use Rattle.construction.specs.Start.{Begun, broken, addLink, sorted, fourOf, startOn, across, thirdPath, crossed, thirded, around, begin}
 use Rattle.construction.specs.Steps.{State}
 use Rattle.construction.specs.Construction as plain
-use Rattle.construction.specs.Construction.{codeBounds}
-use Rattle.construction.proofs.Standing.{Stands, Draws, choice, row-stands, empty-stands, plus-stands, minus-stands, common-stands, inserted-stands, single-stands, pair-stands, all-stands, set-stands, near-stands, members-same, count-same, least-same, after-same, empty-same, marked-drawn}
+use Rattle.construction.proofs.Standing.{Stands, Draws, choice, row-stands, empty-stands, plus-stands, minus-stands, common-stands, inserted-stands, single-stands, pair-stands, all-stands, set-stands, near-stands, members-same, count-same, least-same, after-same, empty-same, marked-drawn, codeBounds}
 use Rattle.vertexset.specs.Set.{capacity}
 
 -- ---- answers that are the same but for the words

@@ -14,7 +14,7 @@ use lib.ListN.{length, getD, set, replicate}
 use lib.Seq.{set-out}
 use borrow.Author.Tests.{eqb-true, eq-eqb, ltb-true, lt-ltb, le-leb}
 use Rattle.record.specs.Read.{folded}
-use Rattle.vertexset.specs.Set.{has, wordCount, emptySet, inserted, zip, less, next, count, tally, capacity}
+use Rattle.vertexset.specs.Set.{has, wordCount, emptySet, inserted, zip, less, next, count, capacity}
 use Rattle.vertexset.specs.declared.VertexSet.{VertexSet}
 use Rattle.vertexset.proofs.Laws as laws
 use Rattle.vertexset.proofs.Laws.{Words}
@@ -27,6 +27,7 @@ use Rattle.construction.specs.Sets.{stop, plus, minus, common, single, p
 use Rattle.construction.specs.Certificate.{fullSet}
 use Rattle.construction.proofs.Basics.{Sized, On, flatten}
 use Rattle.certificates.specs.Tests.{with}
+use Rattle.vertexset.proofs.Bit.{tally}
 
 -- ---- sets of full size
 

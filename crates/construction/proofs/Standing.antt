@@ -13,6 +13,7 @@ use Rattle.record.specs.Read.{folded}
 use Rattle.vertexset.specs.Set.{has, emptySet, inserted, firstFrom, next, count, capacity}
 use Rattle.vertexset.specs.declared.VertexSet.{VertexSet}
 use Rattle.vertexset.proofs.Laws.{Words, empty-has, inserted-has, has-empty}
+use Rattle.graph.specs.Limits.{maxEdges}
 use Rattle.graph.specs.Rows.{adjacentIn, rowOf, rowWords, bareRows, joined, joinedRows}
 use Rattle.graph.proofs.Rows.{row-adjacent}
 use Rattle.reading.proofs.Adjacency.{has-both, same-bit}
@@ -20,14 +21,18 @@ use Rattle.connectivity.specs.Lists.{any, below}
 use Rattle.connectivity.specs.Graph.{isPair}
 use Rattle.connectivity.proofs.Lists.{bool?, or-true, any-true, true-any, below-in, and-true}
 use Rattle.construction.specs.Sets.{plus, minus, common, single, pair, withAll, setOf, membersFrom, members, least, empty}
-use Rattle.construction.specs.Ears.{near}
+use Rattle.construction.specs.Ears.{near, pathSpace}
 use Rattle.construction.specs.Start.{marked, nextAfter}
 use Rattle.construction.specs.Construction as plain
-use Rattle.construction.specs.Construction.{codeBounds}
+use Rattle.construction.specs.Construction.{Bounds}
 use Rattle.construction.proofs.Basics.{Sized, On}
 use Rattle.construction.proofs.SetLaws.{sized-empty, sized-inserted, sized-plus, sized-minus, sized-row, has-plus, has-minus, on-low, members-count, empty-none, empty-some, zeros-at}
 use Rattle.construction.proofs.Near.{same-test, sized-near, near-on, on-near}
 use Rattle.construction.proofs.Table.{marked-size, marked-words}
+
+-- the bounds of the code
+abbrev pub codeBounds : Bounds
+codeBounds = record { vertices = capacity; numbers = pathSpace; steps = maxEdges + 1 }
 
 -- the members of the set are the numbers of which p holds
 pub record Stands (s : VertexSet) (p : ℕ → Bool) : Type 0 where

@@ -22,9 +22,9 @@ use Rattle.construction.specs.Steps.{State, stopped, extended, segment, 
 use Rattle.construction.specs.Certificate as by-rows
 use Rattle.construction.specs.Certificate.{pairsFrom}
 use Rattle.construction.specs.Construction as plain
-use Rattle.construction.specs.Construction.{codeBounds, certificateNumbers}
+use Rattle.construction.specs.Construction.{certificateNumbers}
 use Rattle.construction.proofs.PlanLaws.{plan-drawn}
-use Rattle.construction.proofs.Standing.{Stands, Draws, choice, row-stands, empty-stands, minus-stands, inserted-stands, single-stands, pair-stands, all-stands, set-stands, near-stands, members-from, members-same, count-same, empty-same, marked-drawn}
+use Rattle.construction.proofs.Standing.{Stands, Draws, choice, row-stands, empty-stands, minus-stands, inserted-stands, single-stands, pair-stands, all-stands, set-stands, near-stands, members-from, members-same, count-same, empty-same, marked-drawn, codeBounds}
 use Rattle.construction.proofs.SameAnswers.{SameReach, SameCut, SameFound, SameEared, SameBegun, SameState, no-cut, cut-same, add-same, answered-same, explore-same, detour-same, ears-same, begin-same}
 
 -- ---- further paths

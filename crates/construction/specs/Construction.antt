@@ -5,28 +5,22 @@ use mathlib.Core.List.{List, [], _∷_, _++_}
 use lib.Dec.{ltb, leb, eqb}
 use lib.ListN.{length, getD, replicate, drop, take}
 use Rattle.record.specs.Read.{folded}
-use Rattle.vertexset.specs.Set.{firstFrom, capacity as codeVertices}
-use Rattle.graph.specs.Limits.{maxEdges}
+use Rattle.vertexset.specs.Set.{firstFrom}
 use Rattle.connectivity.specs.Lists.{select, upFrom, below, any}
 use Rattle.connectivity.specs.Graph.{isPair}
 use Rattle.construction.specs.Sets.{added, lastOf, placeOf}
 use Rattle.construction.specs.Search.{back}
-use Rattle.construction.specs.Ears.{pathSpace as codeNumbers}
 use Rattle.construction.specs.Steps.{segment, pairPlace, turned}
 use Rattle.construction.specs.Certificate.{pairsFrom}
 
 -- Sizes of the tables and arrays: nothing is put in past them, and a search or a build ends there.
 pub record Bounds : Type 0 where
-  -- no vertex is as large: it stands for "none" and before each path
+  -- no vertex is as large: it stands for none and before each path
   pub vertices : ℕ
   -- numbers of a list of paths
   pub numbers : ℕ
   -- steps of a build
   pub steps : ℕ
-
--- those of the code
-abbrev pub codeBounds : Bounds
-codeBounds = record { vertices = codeVertices; numbers = codeNumbers; steps = maxEdges + 1 }
 
 abbrev pub VertexSet : Type 0
 VertexSet = ℕ → Bool

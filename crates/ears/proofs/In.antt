@@ -8,7 +8,7 @@ use lib.Dec.{eqb}
 use lib.ListN.{length}
 use borrow.Author.Tests.{eqb-true}
 use Rattle.record.specs.Read.{Read, Read.Got, Read.Refused, onRead, _needs⟨_⟩_, _▸_, many, check, folded}
-use Rattle.record.specs.Loop.{runs, finish}
+use Rattle.record.specs.Loop.{Loop, runs, finish}
 use Rattle.record.proofs.Loops.{needs-true, many-same, many-kept}
 use Rattle.vertexset.specs.Set.{has, wordCount, capacity}
 use Rattle.vertexset.proofs.Laws.{empty-has}
@@ -21,8 +21,19 @@ use Rattle.certificates.specs.Records.{path, ear}
 use Rattle.paths.specs.Items.{taken, refused, endRead}
 use Rattle.paths.proofs.Reading.{path-low}
 use Rattle.paths.proofs.Sets.{taken-length, taken-has}
-use Rattle.ears.specs.Code.{noEars, earsWith, earBeside, allEars, earLoop}
+use Rattle.ears.specs.Code.{noEars, earsWith, earBeside, allEars}
 use Rattle.ears.specs.declared.Ears.{Ears}
+use Rattle.paths.specs.declared.Item.{Item}
+
+-- the loop over the ears
+abbrev pub earLoop : Graph → Loop Ears Path Ears Item
+earLoop g = record {
+  item = λ e. earBeside g (e .begun) (has (e .set .words));
+  after = earsWith;
+  step = earsWith;
+  ok = λ e next. cond (allBelow (g .n) (has (e .set .words))) (taken 0 next) (refused 28 next);
+  bad = refused;
+}
 
 -- the same vertices are in, and whether there is an ear yet
 pub record Same (B : List ℕ) (e : Ears) : Type 0 where

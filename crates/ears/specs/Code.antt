@@ -3,7 +3,6 @@ use Prim.Native.Nat.{ℕ}
 use mathlib.Core.List.{List, []}
 use mathlib.Core.Bool.{Bool, true, false, cond, _&&_, _||_, not}
 use Rattle.record.specs.Read.{Read, Read.Got, Read.Refused, Reader, _needs⟨_⟩_, _▸_, many, check, folded}
-use Rattle.record.specs.Loop.{Loop}
 use Rattle.vertexset.specs.Set.{has, emptySet, inserted}
 use Rattle.connectivity.specs.Lists.{member}
 use Rattle.connectivity.specs.Graph.{Graph}
@@ -11,7 +10,6 @@ use Rattle.connectivity.specs.Path.{Path, vertices}
 use Rattle.certificates.specs.Tests.{allBelow, pathAlong, pathNew, earTaken}
 use Rattle.certificates.specs.Records.{path, ear}
 use Rattle.paths.specs.declared.PathRead.{PathRead}
-use Rattle.paths.specs.declared.Item.{Item}
 use Rattle.paths.specs.Items.{taken, refused}
 use Rattle.ears.specs.declared.Ears.{Ears}
 use Rattle.ears.specs.declared.EarRead.{EarRead}
@@ -44,13 +42,3 @@ earBeside g begun old =
 -- k ears, and then every vertex is in
 abbrev pub allEars : Graph → ℕ → Reader (List Path × Unit {0})
 allEars g k = many (ear g) earTaken k [] ▸ λ all. check 28 (allBelow (g .n) (λ v. member v (folded earTaken [] all)))
-
--- the loop over the ears
-abbrev pub earLoop : Graph → Loop Ears Path Ears Item
-earLoop g = record {
-  item = λ e. earBeside g (e .begun) (has (e .set .words));
-  after = earsWith;
-  step = earsWith;
-  ok = λ e next. cond (allBelow (g .n) (has (e .set .words))) (taken 0 next) (refused 28 next);
-  bad = refused;
-}

@@ -20,8 +20,13 @@ use Rattle.certificates.specs.Records.{vertex, vertexList, linkOf, path}
 use Rattle.paths.specs.declared.Item.{Item}
 use Rattle.paths.specs.Items.{itemRead}
 use Rattle.paths.specs.Paths.{pathRead, verticesRead, verticesAt}
-use Rattle.paths.specs.Code.{pathLoop, pathBegun, valuesFrom}
+use Rattle.paths.specs.Code.{pathLoop, pathBegun}
 use Rattle.paths.proofs.Walk.{tail-vertices, path-walked}
+
+-- the values of k vertices, read from a place on without a look at their answers
+unfoldable pub valuesFrom : ℕ → ℕ → List ℕ → ℕ → List ℕ
+valuesFrom n zero s at = []
+valuesFrom n (suc k) s at = itemRead (vertex n s at) .value ∷ valuesFrom n k s (itemRead (vertex n s at) .next)
 
 link-vertices : (l : List ℕ) → 2 ≤ length l → vertices (linkOf l) ≡ l
 link-vertices [] h = absurd (omega arith)

@@ -1,13 +1,12 @@
 -- What the private functions give, and what reading a path again gives.
-use Prim.Native.Nat.{ℕ, zero, suc, _-_}
-use mathlib.Core.List.{List, [], _∷_}
+use Prim.Native.Nat.{ℕ, _-_}
 use mathlib.Core.Bool.{Bool, true, _&&_, _||_, not}
 use lib.Dec.{eqb}
 use Rattle.record.specs.Loop.{Loop}
 use Rattle.vertexset.specs.Set.{has, emptySet, inserted}
 use Rattle.vertexset.specs.declared.VertexSet.{VertexSet}
 use Rattle.certificates.specs.Records.{vertex}
-use Rattle.paths.specs.Items.{taken, refused, itemRead}
+use Rattle.paths.specs.Items.{taken, refused}
 use Rattle.paths.specs.Paths.{noPath}
 use Rattle.paths.specs.declared.PathRead.{PathRead}
 
@@ -41,8 +40,3 @@ pathLoop adj old n first len = record {
   ok = λ t next. record { end = taken 0 next; first = first; last = t .last; along = t .along; new = t .new; len = len };
   bad = λ r p. noPath (refused r p);
 }
-
--- the values of k vertices, read from a place on without a look at their answers
-unfoldable pub valuesFrom : ℕ → ℕ → List ℕ → ℕ → List ℕ
-valuesFrom n zero s at = []
-valuesFrom n (suc k) s at = itemRead (vertex n s at) .value ∷ valuesFrom n k s (itemRead (vertex n s at) .next)

@@ -10,10 +10,10 @@ use Rattle.graph.specs.Rows.{adjacentIn, rowWords}
 use Rattle.connectivity.specs.Lists.{In, NoDup}
 use Rattle.connectivity.specs.Graph.{Graph, Adj}
 use Rattle.connectivity.specs.Path.{vertices, Path}
-use Rattle.connectivity.specs.Build.{InBuild, IsBranch, SimpleBuild}
+use Rattle.connectivity.specs.Build.{InBuild, IsBranch}
 use Rattle.connectivity.proofs.Lists.{at-most}
 use Rattle.connectivity.proofs.Paths.{SamePair, end-or-inner, end-s, end-t, end-vertex, inner-in, inner-not-end, nodup-inner, ends-differ}
-use Rattle.connectivity.proofs.EdgeUse.{Tally, tally-simple}
+use Rattle.connectivity.proofs.EdgeUse.{Tally, tally-simple, SimpleBuild}
 use Rattle.certificates.specs.Tests.{inBuild, isBranch}
 use Rattle.build.specs.declared.Build.{Build}
 use Rattle.links.specs.declared.End.the-variants.{Branch, Inner}

@@ -11,7 +11,7 @@ use lib.Dec.{ltb, eqb}
 use lib.ListN.{length}
 use borrow.Author.Tests.{lt-ltb, le-ltb, ltb-true, ne-eqb}
 use Rattle.record.proofs.Loops.{All}
-use Rattle.vertexset.specs.Set.{has, emptySet, inserted, belowSet, wordCount, wordwise, less, count, tally, capacity}
+use Rattle.vertexset.specs.Set.{has, emptySet, inserted, belowSet, wordCount, wordwise, less, count, capacity}
 use Rattle.vertexset.specs.declared.VertexSet.{VertexSet}
 use Rattle.vertexset.proofs.Laws.{Words, has-minus, empty-has, inserted-has, inserted-length, wordwise-length, count-tally}
 use Rattle.connectivity.specs.Lists.{member}
@@ -19,6 +19,7 @@ use Rattle.connectivity.proofs.Lists.{and-true}
 use Rattle.certificates.specs.Tests.{nobody, with, someBelow, rest}
 use Rattle.certificates.proofs.Decide.{Decides, decide-same, decide-test, decide-or, decide-equal, decide-less, decide-some}
 use Rattle.sides.specs.Code.{RestOf, Low}
+use Rattle.vertexset.proofs.Bit.{tally}
 
 -- two tests that decide the same
 pub same-test : {a b : Bool} {P : Type 0} → Decides a P → Decides b P → a ≡ b

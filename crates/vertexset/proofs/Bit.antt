@@ -10,7 +10,12 @@ use lib.Dec.{eqb, lit<, eqb·zero-suc, eqb·suc-zero, eqb·suc-suc}
 use lib.Pow.{shr-shr, shr-lt, shl-shr}
 use lib.Bits.{bitOr, bitAnd, or-shr, and-shr, xor-shr, or-mod, and-mod, xor-mod}
 use lib.Count.{ones, ones-step, trailingZeros, under}
-use Rattle.vertexset.specs.Set.{less, tally}
+use Rattle.vertexset.specs.Set.{less}
+
+-- of how many numbers below n p holds
+unfoldable pub tally : (ℕ → Bool) → ℕ → ℕ
+tally p zero = 0
+tally p (suc n) = tally p n + cond (p n) 1 0
 
 -- bit k of w is 1
 abbrev pub on : ℕ → ℕ → Bool

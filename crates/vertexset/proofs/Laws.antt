@@ -14,8 +14,8 @@ use lib.Seq.{getD-set-same, getD-set-other, ext-getD}
 use lib.Bits.{bitOr, and-le-l, xor-lt}
 use borrow.Author.Tests.{eq-eqb, ne-eqb, eqb-true, not-false}
 use Rattle.vertexset.specs.declared.VertexSet.{VertexSet}
-use Rattle.vertexset.specs.Set.{wordCount, has, emptySet, withBit, inserted, zip, wordwise, less, count, none, subsetOf, firstFrom, next, tally}
-use Rattle.vertexset.proofs.Bit.{on, on-or, on-less, on-zero, on-pow, same-bits, tally-same, ones-tally}
+use Rattle.vertexset.specs.Set.{wordCount, has, emptySet, withBit, inserted, zip, wordwise, less, count, none, subsetOf, firstFrom, next}
+use Rattle.vertexset.proofs.Bit.{on, on-or, on-less, on-zero, on-pow, same-bits, tally-same, ones-tally, tally}
 
 -- every word has 64 bits
 abbrev pub Words : List ℕ → Type 0

@@ -73,8 +73,3 @@ firstFrom p z (suc n) v = cond (p v) v (firstFrom p z n (suc v))
 -- the least member that is not below v, or 64 times the number of words where there is none
 abbrev pub next : List ℕ → ℕ → ℕ
 next ws v = firstFrom (has ws) (64 * length ws) (64 * length ws - v) v
-
--- of how many numbers below n p holds
-unfoldable pub tally : (ℕ → Bool) → ℕ → ℕ
-tally p zero = 0
-tally p (suc n) = tally p n + cond (p n) 1 0

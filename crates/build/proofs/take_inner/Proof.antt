@@ -7,13 +7,13 @@ use lib.ListN.{length, length-set}
 use Rattle.record.specs.Read.{folded}
 use Rattle.vertexset.specs.Set.{wordCount, inserted, capacity}
 use Rattle.paths.specs.Paths.{verticesAt}
-use Rattle.paths.specs.Code.{valuesFrom}
 use Rattle.paths.proofs.Sets.{ofWords, bit-of}
 use Rattle.links.specs.Tables.{pointAlong, lastFrom, matedEnds}
 use Rattle.build.specs.Code.{innerAt}
 use Rattle.build.proofs.Inner.{value-low, innerFrom, inner-vertices, inner-begun, pointed-on, inner-on, pointed-done, inner-done, last-on, last-done, mated-done}
 use Rattle.build.proofs.take_inner.Statement.{statement}
 use Rattle.build.proofs.take_inner.Tie as tie
+use Rattle.paths.proofs.Reading.{valuesFrom}
 
 abbrev Inv-loop : tie.InvT-loop
 Inv-loop s n at pointers₀ b words₀ u₀ v₀ next₀ left₀ pointers words u v next left =

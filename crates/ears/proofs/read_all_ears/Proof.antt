@@ -5,9 +5,9 @@ use Rattle.record.specs.Loop.{runs}
 use Rattle.record.proofs.Loops.{turn-start, turn-go, turn-stop, turn-done}
 use Rattle.paths.specs.Items.{endRead}
 use Rattle.graph.specs.Rows.{rowsGraph}
-use Rattle.ears.specs.Code.{allEars, earLoop}
+use Rattle.ears.specs.Code.{allEars}
 use Rattle.ears.proofs.Ear.{ear-told, ear-fault, pick-true, pick-false}
-use Rattle.ears.proofs.In.{ears-begin}
+use Rattle.ears.proofs.In.{ears-begin, earLoop}
 use Rattle.ears.proofs.read_all_ears.Statement.{statement}
 use Rattle.ears.proofs.read_all_ears.Tie as tie
 

@@ -1,0 +1,202 @@
+-- THE EXPORTS: a word stands for its answer, and a grade in a word is the figure of the plan. Assumes nothing.
+use Prim.Native.Nat.{ℕ, zero, suc, _+_, _*_, _-_, _/_, _%_, _<_, _^_, min}
+use mathlib.Core.List.{List, [], _∷_, _++_, append-assoc}
+use mathlib.Core.Bool.{Bool, true, false, cond, _&&_, _||_}
+use mathlib.Core.Path.{_≡_, refl, sym, ap, _∙_, subst}
+use mathlib.Core.Logic.{⊎-elim}
+use native.Mathlib.Omega.{arith}
+use lib.Dec.{leb, ltb, eqb}
+use lib.ListN.{length, getD, take, drop, length-take, List·getD-eq-default}
+use lib.Seq.{getD-take, getD-drop, take-at, drop-drop, drop-at}
+use borrow.Author.Tests.{ltb-true, ltb-false}
+use Rattle.record.specs.Read.{Read, Read.Got, Read.Refused, Bytes, ended}
+use Rattle.record.specs.Number.{listBytes}
+use Rattle.record.specs.declared.Answer.{Answer}
+use Rattle.record.specs.declared.Answer.the-variants.{Accepted, Grade, PlanFault, CertificateFault}
+use Rattle.reading.specs.Plan.{plan}
+use Rattle.certifier.specs.declared.Made.{Made}
+use Rattle.certifier.specs.Made.{madeFrom}
+use Rattle.checker.specs.Check.{checkOf}
+use Rattle.graph.specs.Rows.{rowsGraph}
+use Rattle.paths.specs.Items.{limited}
+use Rattle.build.specs.State.{buildStart, buildPath}
+use Rattle.sessions.specs.declared.Session.{Session}
+use Rattle.sessions.specs.declared.Opened.{Opened}
+use Rattle.sessions.specs.declared.Stepped.{Stepped}
+use Rattle.sessions.specs.Session.{opening, startStep, pathStep, closeStep, onStart, onPath, pathCount, refusedStep}
+use Rattle.script.specs.declared.Part.{Part}
+use Rattle.script.specs.declared.Part.the-variants.{Within, Cut}
+use Rattle.script.specs.Script.{partAt}
+use Rattle.script.specs.Replay.{word, answerWord, wordBytes, answerBytes, partOf, replayOf}
+use Rattle.script.proofs.Answers.{word-length}
+use Rattle.fikzarn.specs.Words.{gradeWord, madeWord}
+use Rattle.claims.specs.Certified.{HasFigure}
+use Rattle.claims.specs.Calls.{Call, Call.start, Call.path, Call.close, CallBytes, sessionAfter}
+use Rattle.claims.specs.Exports.{inWord, decoded, wordOf, wordAt, onPartCalls, callsFrom, answersOf, scriptAnswers}
+use Rattle.claims.specs.Demands.{WordsDecode, GradesInWords, AcceptedGrade, AcceptedGrade.checked, AcceptedGrade.made-for, AcceptedGrade.closed-on}
+use Rattle.claims.proofs.Sessions.{Opens, Opens.refused, Opens.accepted, opens}
+use Rattle.claims.proofs.Demands.{grade-is-figure}
+use Rattle.claims.proofs.Scripts.{scripts-replay}
+
+-- A WORD taken apart gives what it was put together from
+word-decoded : (kind number place : ℕ) → kind < 256 → number < 256 → place < 2 ^ 48 → decoded (word kind number place) ≡ inWord kind number place
+word-decoded kind number place k n p =
+    let c : word kind number place % 256 ≡ kind = omega arith in
+    let h : word kind number place / 256 ≡ number + 256 * (place % 281474976710656) = omega arith in
+    let d : word kind number place / 256 % 256 ≡ number = rw h (omega arith) in
+    let m : place % 281474976710656 ≡ place = omega arith in
+    let e : word kind number place / 65536 ≡ place = rw m (omega arith) in
+    λ i. inWord (c i) (d i) (e i)
+
+pub words-decode : WordsDecode
+words-decode Accepted f = refl
+words-decode (Grade k) f = word-decoded 1 k 0 (omega arith) f (omega arith)
+words-decode (PlanFault r p) f = word-decoded 2 r p (omega arith) (f .0) (f .1)
+words-decode (CertificateFault r p) f = word-decoded 3 r p (omega arith) (f .0) (f .1)
+
+-- A GRADE in a word is in its two lowest bytes
+in-word : (c n p : ℕ) {k : ℕ} → inWord c n p ≡ Grade k → (c ≡ 1) × (n ≡ k)
+in-word zero n p e = let z : _≡_ {A = ℕ} 0 1 = cc in absurd (omega arith)
+in-word (suc zero) n p e = (refl, cc)
+in-word (suc (suc zero)) n p e = let z : _≡_ {A = ℕ} 0 1 = cc in absurd (omega arith)
+in-word (suc (suc (suc c))) n p e = let z : _≡_ {A = ℕ} 0 1 = cc in absurd (omega arith)
+
+-- a word with an answer in its two lowest bytes
+record Lowest (w : ℕ) (a : Answer) : Type 0 where
+  kind : w % 256 ≡ answerWord a % 256
+  number : w / 256 % 256 ≡ answerWord a / 256 % 256
+
+lowest-grade : (w : ℕ) (a : Answer) {k : ℕ} → Lowest w a → decoded w ≡ Grade k → (j : ℕ) × (a ≡ Grade j) × (j % 256 ≡ k)
+lowest-grade w a {k} l e = let r = in-word (w % 256) (w / 256 % 256) (w / 65536) e in go a (sym (l .kind) ∙ r .0) (sym (l .number) ∙ r .1)
+  where
+    go : (a : Answer) → answerWord a % 256 ≡ 1 → answerWord a / 256 % 256 ≡ k → (j : ℕ) × (a ≡ Grade j) × (j % 256 ≡ k)
+    go Accepted c n = absurd (omega arith)
+    go (Grade j) c n = let h : answerWord (Grade j) / 256 ≡ j = omega arith in (j, refl, sym (ap (λ (x : ℕ). x % 256) h) ∙ n)
+    go (PlanFault r p) c n = absurd (omega arith)
+    go (CertificateFault r p) c n = absurd (omega arith)
+
+-- the maker's word, and a word of a buffer
+made-lowest : (m : Made) → Lowest (madeWord m) (m .answer)
+made-lowest m = go (m .answer)
+  where
+    go : (a : Answer) → Lowest (gradeWord a (m .length)) a
+    go Accepted = record { kind = refl; number = refl }
+    go (Grade k) = record { kind = omega arith; number = omega arith }
+    go (PlanFault r p) = record { kind = refl; number = refl }
+    go (CertificateFault r p) = record { kind = refl; number = refl }
+
+lowest-two : (k w : ℕ) → (wordOf (wordBytes (suc (suc k)) w) % 256 ≡ w % 256) × (wordOf (wordBytes (suc (suc k)) w) / 256 % 256 ≡ w / 256 % 256)
+unfolding wordBytes
+lowest-two k w = (omega arith, omega arith)
+
+told-lowest : (a : Answer) → Lowest (wordOf (answerBytes a)) a
+told-lowest a = let r = lowest-two 6 (answerWord a) in record { kind = r .0; number = r .1 }
+
+-- A FIGURE is a number of one byte
+byte-figure : {P : List ℕ} {j k : ℕ} → HasFigure P j → j % 256 ≡ k → HasFigure P k
+byte-figure {P} {j} {k} f e = subst (HasFigure P) (⊎-elim (λ r. omega arith) (λ r. omega arith) (f .figure .reached)) f
+
+word-figure : (P : List ℕ) → Bytes P → (w : ℕ) (a : Answer) {k : ℕ} → Lowest w a → ((j : ℕ) → a ≡ Grade j → AcceptedGrade P j) → decoded w ≡ Grade k → HasFigure P k
+word-figure P bp w a l from e =
+    let g = lowest-grade w a l e in
+    byte-figure (grade-is-figure P bp (g .0) (from (g .0) (g .1))) (g .2)
+
+-- THE CALLS OF A SCRIPT are handed parts of it, so bytes
+part-bytes : (s : List ℕ) → Bytes s → (a e : ℕ) → Bytes (partOf s a e)
+part-bytes s bytes a e i = go (ltb i (e - a)) refl
+  where
+    go : (b : Bool) → ltb i (e - a) ≡ b → getD (partOf s a e) i 0 < 256
+    go true f = rw (getD-take (e - a) (drop a s) i 0 (ltb-true _ _ f), getD-drop a s i 0) (bytes (a + i))
+    go false f =
+        let m = ltb-false i (e - a) f in
+        let n = length-take (e - a) (drop a s) in
+        let z : getD (partOf s a e) i 0 ≡ 0 = List·getD-eq-default (partOf s a e) 0 (omega arith) in omega (arith, z)
+
+calls-bytes : (k : ℕ) (s : List ℕ) → Bytes s → (at : ℕ) → CallBytes (callsFrom k s at)
+unfolding callsFrom
+calls-bytes zero s bytes at = tt
+calls-bytes (suc k) s bytes at =
+    go (leb (length s) at) (eqb (getD s at 0) 99) (eqb (getD s at 0) 115 || eqb (getD s at 0) 112) (eqb (getD s at 0) 115) (partAt s (at + 1)) (calls-bytes k s bytes)
+  where
+    go : (b c d t : Bool) (p : Part) → ((e : ℕ) → CallBytes (callsFrom k s e)) → CallBytes
+        (cond b [] (cond c (close ∷ callsFrom k s (at + 1)) (cond d (onPartCalls p (λ a e. cond t (start (partOf s a e)) (path (partOf s a e)) ∷ callsFrom k s e)) [])))
+    go true c d t p rest = tt
+    go false true d t p rest = rest (at + 1)
+    go false false true true (Within a e) rest = (part-bytes s bytes a e, rest e)
+    go false false true false (Within a e) rest = (part-bytes s bytes a e, rest e)
+    go false false true t Cut rest = tt
+    go false false false t p rest = tt
+
+-- ONLY CLOSING answers a grade
+opening-no-grade : (P : List ℕ) (j : ℕ) → opening P .answer ≡ Grade j → ⊥
+unfolding opening
+opening-no-grade P j e = on (opens (ended plan P 0))
+  where
+    on : Opens (ended plan P 0) → ⊥
+    on (refused r q f) = let z : _≡_ {A = ℕ} 0 1 = cc (ap (λ (x : Opened). x .answer) f) in omega arith
+    on (accepted p next g enough f) = let z : _≡_ {A = ℕ} 0 1 = cc (ap (λ (x : Opened). x .answer) f) in omega arith
+
+read-no-grade : {A : Type 0} (s : Session) (on : Read A → Stepped) → ((a : A) (next : ℕ) → on (Got a next) .answer ≡ Accepted) → ((n at : ℕ) → on (Refused n at) .answer ≡ CertificateFault n at)
+    → (b : Bool) (x : Read A) {j : ℕ} → cond b (on x) (refusedStep s 31 0) .answer ≡ Grade j → ⊥
+read-no-grade s on got bad true (Got a next) e = let z : _≡_ {A = ℕ} 0 1 = cc (got a next) in omega arith
+read-no-grade s on got bad true (Refused n at) e = let z : _≡_ {A = ℕ} 0 1 = cc (bad n at) in omega arith
+read-no-grade s on got bad false x e = let z : _≡_ {A = ℕ} 0 1 = cc in omega arith
+
+start-no-grade : (s : Session) (part : List ℕ) {j : ℕ} → startStep s part .answer ≡ Grade j → ⊥
+unfolding startStep
+start-no-grade s part e = read-no-grade s (onStart s) (λ x next. refl) (λ n at. refl) (s .ready) (limited (s .graph .n) (buildStart (rowsGraph (s .graph .n) (s .graph .rows))) part 0) e
+
+path-no-grade : (s : Session) (part : List ℕ) {j : ℕ} → pathStep s part .answer ≡ Grade j → ⊥
+unfolding pathStep
+path-no-grade s part e = read-no-grade s (onPath s) (λ x next. refl) (λ n at. refl) (s .started && ltb (s .taken) (pathCount s))
+    (limited (s .graph .n) (buildPath (rowsGraph (s .graph .n) (s .graph .rows)) (s .build)) part 0) e
+
+-- so a grade among the answers of calls is what closing answers after those before it
+abbrev Closes : Session → ℕ → Type 0
+Closes s j = (before : List Call) × CallBytes before × (closeStep (sessionAfter s before) .answer ≡ Grade j)
+
+closes : (s : Session) (calls : List Call) → CallBytes calls → (i : ℕ) {j : ℕ} → getD (answersOf s calls) i Accepted ≡ Grade j → Closes s j
+closes s [] bytes i e = let z : _≡_ {A = ℕ} 0 1 = cc in absurd (omega arith)
+closes s (start part ∷ cs) bytes zero e = absurd (start-no-grade s part e)
+closes s (path part ∷ cs) bytes zero e = absurd (path-no-grade s part e)
+closes s (close ∷ cs) bytes zero e = ([], tt, e)
+closes s (start part ∷ cs) bytes (suc i) e = let r = closes (startStep s part .session) cs (bytes .1) i e in (start part ∷ r .0, (bytes .0, r .1), r .2)
+closes s (path part ∷ cs) bytes (suc i) e = let r = closes (pathStep s part .session) cs (bytes .1) i e in (path part ∷ r .0, (bytes .0, r .1), r .2)
+closes s (close ∷ cs) bytes (suc i) e = let r = closes (closeStep s .session) cs bytes i e in (close ∷ r .0, r .1, r .2)
+
+script-closes : (s : List ℕ) → Bytes s → (a e i j : ℕ) → getD (scriptAnswers s a e) i Accepted ≡ Grade j → Closes (opening (partOf s a e) .session) j
+script-closes s bytes a e zero j f = absurd (opening-no-grade (partOf s a e) j f)
+script-closes s bytes a e (suc i) j f = closes (opening (partOf s a e) .session) (callsFrom (length s) s e) (calls-bytes (length s) s bytes e) i f
+
+-- THE WORD AT A PLACE of answers written one after the other
+nth-word : (answers : List Answer) (behind : List ℕ) (i : ℕ) → i < length answers → take 8 (drop (8 * i) (listBytes answerBytes answers ++ behind)) ≡ answerBytes (getD answers i Accepted)
+unfolding listBytes
+nth-word [] behind i h = absurd (omega arith)
+nth-word (a ∷ l) behind zero h =
+    rw (append-assoc (answerBytes a) (listBytes answerBytes l) behind) (take-at (answerBytes a) (listBytes answerBytes l ++ behind) 8 (word-length 8 (answerWord a)))
+nth-word (a ∷ l) behind (suc i) h =
+    let z : 8 * suc i ≡ 8 + 8 * i = omega arith in
+    let d : drop (8 * suc i) (answerBytes a ++ listBytes answerBytes l ++ behind) ≡ drop (8 * i) (listBytes answerBytes l ++ behind) =
+    rw (z, ← drop-drop (8 * i) 8 (answerBytes a ++ listBytes answerBytes l ++ behind), append-assoc (answerBytes a) (listBytes answerBytes l) behind)
+    (ap (drop (8 * i)) (drop-at (answerBytes a) (listBytes answerBytes l ++ behind) 8 (word-length 8 (answerWord a)))) in
+    rw d (nth-word l behind i (omega arith))
+
+told-word : (s buffer : List ℕ) (a e : ℕ) → partAt s 0 ≡ Within a e → (i : ℕ) → i < replayOf s buffer .count
+    → wordAt (replayOf s buffer .buffer) i ≡ wordOf (answerBytes (getD (scriptAnswers s a e) i Accepted))
+told-word s buffer a e w i h =
+    let t = scripts-replay s buffer a e w in
+    let answers = scriptAnswers s a e in
+    let room = length buffer / 8 in
+    let n : length (take room answers) ≡ min room (length answers) = length-take room answers in
+    let few : i < min (length answers) room = omega (arith, t .count) in
+    let g : getD (take room answers) i Accepted ≡ getD answers i Accepted = getD-take room answers i Accepted (omega arith) in
+    ap (λ (b : List ℕ). wordAt b i) (t .buffer-then)
+    ∙ ap wordOf (nth-word (take room answers) _ i (omega arith) ∙ ap answerBytes g)
+
+pub grades-in-words : GradesInWords
+grades-in-words = record {
+  of-check = λ P C bp bc k e. word-figure P bp (answerWord (checkOf P C)) (checkOf P C) (record { kind = refl; number = refl }) (λ j f. checked C bc f) e;
+  of-certify = λ P buffer bp k e. word-figure P bp (madeWord (madeFrom P buffer)) (madeFrom P buffer .answer) (made-lowest (madeFrom P buffer)) (λ j f. made-for buffer f) e;
+  of-session = λ s buffer bytes a e w i k h f. word-figure (partOf s a e) (part-bytes s bytes a e) _ _ (told-lowest (getD (scriptAnswers s a e) i Accepted))
+      (λ j g. let c = script-closes s bytes a e i j g in closed-on (c .0) (c .1) (c .2)) (ap decoded (sym (told-word s buffer a e w i h)) ∙ f);
+}
