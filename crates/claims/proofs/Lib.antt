@@ -1,6 +1,7 @@
 pub mod Starred
 pub mod Demands
 pub mod Demand1
+pub mod Answers
 pub mod Checking
 pub mod Program
 pub mod Sessions

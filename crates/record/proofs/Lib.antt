@@ -1,6 +1,7 @@
 pub mod Tests
 pub mod Bounds
 pub mod Laws
+pub mod Places
 pub mod Groups
 pub mod Write
 pub mod Parts
