@@ -96,7 +96,7 @@ agree-all [] s z h = refl
 agree-all (c ∷ cs) s z h =
     let a = agree s z h c in
     let first : _≡_ {A = Heard} (record { answer = called s c .answer; unread = rest s c }) (record { answer = calledOn z c .answer; unread = calledOn z c .unread }) =
-        rw (a .answer, rest-handed s c, a .unread) in
+    rw (a .answer, rest-handed s c, a .unread) in
     let later = agree-all cs (called s c .session) (calledOn z c .state) (a .next) in
     λ i. first i ∷ later i
 
