@@ -15,5 +15,16 @@ pub fn bytes<'a>(input: &'a [u8], out: &'a mut [u8]) -> usize
     ensures { λ r. ⌜ r ≡ placeAfter (now (out .entry)) 0 (certifyBytes (now (input .entry))) ⌝ }
     ensures { λ r. ⌜ now (out .exit) ≡ written (now (out .entry)) 0 (certifyBytes (now (input .entry))) ⌝ }
 {
-    // helper D: write the body
+    if LIMIT < input.len() {
+        return lines::put_bytes(out, 0, b"input too long\n");
+    }
+    let mut certificate = [0u8; Made::ROOM];
+    let made = certifier::certify(input, &mut certificate);
+    let answer = made.answer;
+    match answer {
+        Answer::Grade(_) => lines::put_both(out, 0, input, &certificate[..made.length]),
+        Answer::Accepted => lines::put_refusal(out, 0, answer),
+        Answer::PlanFault(_, _) => lines::put_refusal(out, 0, answer),
+        Answer::CertificateFault(_, _) => lines::put_refusal(out, 0, answer),
+    }
 }

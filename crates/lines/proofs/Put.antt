@@ -49,16 +49,26 @@ module _ (buffer : List ℕ) (at : ℕ) (bytes : List ℕ) where
     pub put-told : {next : ℕ} {out : List ℕ} → Put buffer at bytes next out → (next ≡ at + length bytes) × (out ≡ overwritten buffer at bytes)
     put-told p = (p .0 ∙ rw room, p .1 ∙ rw room)
 
--- the place behind it counts bytes of the buffer, where the place before it does
-pub put-counts : (buffer : List ℕ) (at : ℕ) (bytes : List ℕ) {next : ℕ} {out : List ℕ} → Put buffer at bytes next out → at ≤ length buffer → Counts next out
-put-counts buffer at bytes {next} {out} p h = let l : next ≤ length out = go (hasRoom buffer at bytes) refl in (l, sym (length-take-le next out l))
-  where
-    go : (t : Bool) → hasRoom buffer at bytes ≡ t → next ≤ length out
-    go true e =
-        let r = leb-true (at + length bytes) (length buffer) e in
-        let t = put-told buffer at bytes r p in
-        omega (arith, r, t .0, ap length (t .1), overwritten-length buffer at bytes r)
-    go false e = let o : out ≡ buffer = p .1 ∙ rw e in let n : next ≡ at = p .0 ∙ rw e in omega (arith, h, n, ap length o)
+-- the buffer keeps its length, and the place behind what is put counts bytes of it, where the place before it does
+module _ (buffer : List ℕ) (at : ℕ) (bytes : List ℕ) {next : ℕ} {out : List ℕ} (p : Put buffer at bytes next out) where
+  sized : (t : Bool) → hasRoom buffer at bytes ≡ t → (length out ≡ length buffer) × (at ≤ length buffer → next ≤ length buffer)
+  sized true e =
+      let r = leb-true (at + length bytes) (length buffer) e in
+      let t = put-told buffer at bytes r p in
+      (ap length (t .1) ∙ overwritten-length buffer at bytes r, λ h. omega (arith, r, t .0))
+  sized false e = let o : out ≡ buffer = p .1 ∙ rw e in let n : next ≡ at = p .0 ∙ rw e in (ap length o, λ h. omega (arith, h, n))
+
+  pub put-length : length out ≡ length buffer
+  put-length = sized (hasRoom buffer at bytes) refl .0
+
+  pub put-counts : at ≤ length buffer → Counts next out
+  put-counts h =
+      let l : next ≤ length out = omega (arith, put-length, sized (hasRoom buffer at bytes) refl .1 h) in
+      (l, sym (length-take-le next out l))
+
+-- the same bytes, said otherwise
+pub put-as : (buffer : List ℕ) (at : ℕ) {xs ys : List ℕ} → xs ≡ ys → {next : ℕ} {out : List ℕ} → Put buffer at xs next out → Put buffer at ys next out
+put-as buffer at e p = (p .0 ∙ ap (placeAfter buffer at) e, p .1 ∙ ap (written buffer at) e)
 
 -- nothing is put
 pub put-none : (buffer : List ℕ) (at : ℕ) → Put buffer at [] at buffer
