@@ -1,3 +1,3 @@
 pub mod Digits
 pub mod Put
-pub mod Fault
+pub mod Lengths

@@ -1,6 +1,6 @@
 -- Bytes put into a buffer, one after the other. Assumes nothing.
 use Prim.Native.Nat.{ℕ, _+_, _≤_, _<_}
-use mathlib.Core.List.{List, [], _++_}
+use mathlib.Core.List.{List, [], _++_, append-assoc}
 use mathlib.Core.Bool.{Bool, true, false}
 use mathlib.Core.Path.{_≡_, refl, sym, ap, _∙_}
 use native.Mathlib.Numerals.{add-one}
@@ -10,7 +10,7 @@ use lib.Seq.{paste, paste-zero, paste-suc, take-length, length-take-le, take-at}
 use borrow.Author.Tests.{le-leb, lt-leb, leb-true}
 use Rattle.io.specs.Counts.{Counts}
 use Rattle.record.specs.Write.{overwritten, hasRoom}
-use Rattle.record.proofs.Write.{overwritten-none, overwritten-length}
+use Rattle.record.proofs.Write.{overwritten-none, overwritten-length, both-room, both-put}
 use Rattle.lines.specs.Lines.{placeAfter, written}
 
 -- what is put, with the place behind it
@@ -49,16 +49,26 @@ module _ (buffer : List ℕ) (at : ℕ) (bytes : List ℕ) where
     pub put-told : {next : ℕ} {out : List ℕ} → Put buffer at bytes next out → (next ≡ at + length bytes) × (out ≡ overwritten buffer at bytes)
     put-told p = (p .0 ∙ rw room, p .1 ∙ rw room)
 
--- the place behind it counts bytes of the buffer, where the place before it does
-pub put-counts : (buffer : List ℕ) (at : ℕ) (bytes : List ℕ) {next : ℕ} {out : List ℕ} → Put buffer at bytes next out → at ≤ length buffer → Counts next out
-put-counts buffer at bytes {next} {out} p h = let l : next ≤ length out = go (hasRoom buffer at bytes) refl in (l, sym (length-take-le next out l))
-  where
-    go : (t : Bool) → hasRoom buffer at bytes ≡ t → next ≤ length out
-    go true e =
-        let r = leb-true (at + length bytes) (length buffer) e in
-        let t = put-told buffer at bytes r p in
-        omega (arith, r, t .0, ap length (t .1), overwritten-length buffer at bytes r)
-    go false e = let o : out ≡ buffer = p .1 ∙ rw e in let n : next ≡ at = p .0 ∙ rw e in omega (arith, h, n, ap length o)
+-- the buffer keeps its length, and the place behind what is put counts bytes of it, where the place before it does
+module _ (buffer : List ℕ) (at : ℕ) (bytes : List ℕ) {next : ℕ} {out : List ℕ} (p : Put buffer at bytes next out) where
+  sized : (t : Bool) → hasRoom buffer at bytes ≡ t → (length out ≡ length buffer) × (at ≤ length buffer → next ≤ length buffer)
+  sized true e =
+      let r = leb-true (at + length bytes) (length buffer) e in
+      let t = put-told buffer at bytes r p in
+      (ap length (t .1) ∙ overwritten-length buffer at bytes r, λ h. omega (arith, r, t .0))
+  sized false e = let o : out ≡ buffer = p .1 ∙ rw e in let n : next ≡ at = p .0 ∙ rw e in (ap length o, λ h. omega (arith, h, n))
+
+  pub put-length : length out ≡ length buffer
+  put-length = sized (hasRoom buffer at bytes) refl .0
+
+  pub put-counts : at ≤ length buffer → Counts next out
+  put-counts h =
+      let l : next ≤ length out = omega (arith, put-length, sized (hasRoom buffer at bytes) refl .1 h) in
+      (l, sym (length-take-le next out l))
+
+-- the same bytes, said otherwise
+pub put-as : (buffer : List ℕ) (at : ℕ) {xs ys : List ℕ} → xs ≡ ys → {next : ℕ} {out : List ℕ} → Put buffer at xs next out → Put buffer at ys next out
+put-as buffer at e p = (p .0 ∙ ap (placeAfter buffer at) e, p .1 ∙ ap (written buffer at) e)
 
 -- nothing is put
 pub put-none : (buffer : List ℕ) (at : ℕ) → Put buffer at [] at buffer
@@ -68,29 +78,42 @@ put-none buffer at = go (hasRoom buffer at []) refl
     go true e = (let z : at ≡ at + 0 = omega arith in z ∙ rw e, sym (overwritten-none buffer at) ∙ rw e)
     go false e = (rw e, rw e)
 
--- the text stands at the start of the buffer, with room left behind it
-pub record Begins (room : ℕ) (text : List ℕ) (next : ℕ) (buffer : List ℕ) : Type 0 where
-  pub left : length text + room ≤ length buffer
-  pub place : next ≡ length text
+-- two after each other are put as one, where both have room
+pub put-more : (buffer : List ℕ) (at : ℕ) (xs ys : List ℕ) → at + length (xs ++ ys) ≤ length buffer → {mid next : ℕ} {out last : List ℕ}
+    → Put buffer at xs mid out → Put out mid ys next last → Put buffer at (xs ++ ys) next last
+put-more buffer at xs ys h {mid} {next} {out} {last} p q =
+    let r : at + length xs ≤ length buffer = omega (arith, length-append xs ys) in
+    let t = put-told buffer at xs r p in
+    let u = put-told out mid ys (both-room buffer at xs r ys t h) q in
+    let b = both-put buffer at xs r ys t u in
+    (b .0 ∙ rw (room buffer at (xs ++ ys) h), b .1 ∙ rw (room buffer at (xs ++ ys) h))
+
+-- a text put piece by piece
+pub data Puts (buffer : List ℕ) (at : ℕ) : List ℕ → ℕ → List ℕ → Type 0 where
+  none : Puts buffer at [] at buffer
+  more : {text : List ℕ} {mid : ℕ} {out : List ℕ} → Puts buffer at text mid out → (bytes : List ℕ) {next : ℕ} {last : List ℕ} → Put out mid bytes next last → Puts buffer at (text ++ bytes) next last
+
+-- a label and what stands behind it, as one piece
+pub more-both : {buffer : List ℕ} {at : ℕ} {text : List ℕ} {mid : ℕ} {out : List ℕ} → Puts buffer at text mid out → (xs ys : List ℕ) {next : ℕ} {last : List ℕ}
+    → Put out mid (xs ++ ys) next last → Puts buffer at (text ++ xs ++ ys) next last
+more-both {buffer} {at} {text} t xs ys {next} {last} p = rw (append-assoc text xs ys) (Puts.more t (xs ++ ys) p)
+
+-- THE LAW of pieces: a text that has room is put whole
+pub puts-whole : {buffer : List ℕ} {at : ℕ} {text : List ℕ} {next : ℕ} {last : List ℕ} → Puts buffer at text next last → at + length text ≤ length buffer → Put buffer at text next last
+puts-whole {buffer} {at} Puts.none h = put-none buffer at
+puts-whole {buffer} {at} (Puts.more {text} t bytes p) h = put-more buffer at text bytes h (puts-whole t (omega (arith, length-append text bytes))) p
+
+-- the text stands at the start of the buffer
+pub record Begins (text : List ℕ) (next : ℕ) (buffer : List ℕ) : Type 0 where
+  pub within : next ≤ length buffer
+  pub long : next ≡ length (take next buffer)
   pub front : take next buffer ≡ text
 
-pub begins-none : (buffer : List ℕ) → Begins (length buffer) [] 0 buffer
-begins-none buffer = record { left = omega arith; place = refl; front = refl }
-
-module _ {room : ℕ} {text : List ℕ} {at : ℕ} {buffer : List ℕ} (b : Begins room text at buffer) where
-  pub begins-more : (rest : ℕ) (bytes : List ℕ) → length bytes + rest ≤ room → {next : ℕ} {out : List ℕ} → Put buffer at bytes next out → Begins rest (text ++ bytes) next out
-  begins-more rest bytes h p =
-      let r : at + length bytes ≤ length buffer = omega (arith, b .left, b .place) in
-      let t = put-told buffer at bytes r p in
-      let f : length (take at buffer ++ bytes) ≡ at + length bytes = rw (b .front) (omega (arith, length-append text bytes, b .place)) in
-      record {
-        left = omega (arith, ap length (t .1), overwritten-length buffer at bytes r, b .left, length-append text bytes);
-        place = omega (arith, t .0, b .place, length-append text bytes);
-        front = rw (t .0, t .1) (take-at (take at buffer ++ bytes) (drop (at + length bytes) buffer) (at + length bytes) f ∙ rw (b .front));
-      }
-
-  pub begins-within : at ≤ length buffer
-  begins-within = omega (arith, b .left, b .place)
-
-  pub begins-length : at ≡ length (take at buffer)
-  begins-length = b .place ∙ sym (ap length (b .front))
+pub begins : {buffer text : List ℕ} {next : ℕ} {last : List ℕ} → Puts buffer 0 text next last → length text ≤ length buffer → Begins text next last
+begins {buffer} {text} {next} {last} t h =
+    let r : 0 + length text ≤ length buffer = omega arith in
+    let z : 0 + length text ≡ length text = omega arith in
+    let p = puts-whole t r in
+    let c = put-counts buffer 0 text p (omega arith) in
+    let q = put-told buffer 0 text r p in
+    record { within = c .0; long = c .1; front = rw (q .0, q .1, z) (take-at text (drop (length text) buffer) (length text) refl) }

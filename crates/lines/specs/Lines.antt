@@ -44,6 +44,23 @@ refusalLine (Grade k) = []
 refusalLine (PlanFault r p) = faultLine planWord r p
 refusalLine (CertificateFault r p) = faultLine certificateWord r p
 
+-- `boxes `, ` cables ` and ` grade `; the line `input too long`
+abbrev pub boxesWord : List ℕ
+boxesWord = 98 ∷ 111 ∷ 120 ∷ 101 ∷ 115 ∷ 32 ∷ []
+
+abbrev pub cablesWord : List ℕ
+cablesWord = 32 ∷ 99 ∷ 97 ∷ 98 ∷ 108 ∷ 101 ∷ 115 ∷ 32 ∷ []
+
+abbrev pub gradeWord : List ℕ
+gradeWord = 32 ∷ 103 ∷ 114 ∷ 97 ∷ 100 ∷ 101 ∷ 32 ∷ []
+
+abbrev pub tooLong : List ℕ
+tooLong = 105 ∷ 110 ∷ 112 ∷ 117 ∷ 116 ∷ 32 ∷ 116 ∷ 111 ∷ 111 ∷ 32 ∷ 108 ∷ 111 ∷ 110 ∷ 103 ∷ 10 ∷ []
+
+-- a plan's numbers of boxes and cables
+abbrev pub sizeText : ℕ → ℕ → List ℕ
+sizeText n m = boxesWord ++ decimal n ++ cablesWord ++ decimal m
+
 -- the place behind bytes put at a place of a buffer, and the buffer then: both as they were where the bytes have no room
 abbrev pub placeAfter : List ℕ → ℕ → List ℕ → ℕ
 placeAfter buffer at bytes = cond (hasRoom buffer at bytes) (at + length bytes) at

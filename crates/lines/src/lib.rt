@@ -1,11 +1,12 @@
-// The line of a refusal, and what lines are made of: bytes and decimal numbers, written into a lent buffer.
+// The line of a refusal, and what lines are made of: bytes, decimal numbers and a plan's size, written into a lent buffer.
 ghost use mathlib.Core.Path.{_≡_};
+ghost use mathlib.Core.List.{_++_};
 ghost use Prim.Native.Nat.{_≤_};
 ghost use lib.ListN.{length};
-ghost use Rattle.lines.specs.Lines.{decimal, faultLine, refusalLine, placeAfter, written};
+ghost use Rattle.lines.specs.Lines.{decimal, faultLine, refusalLine, sizeText, placeAfter, written};
 use record::Answer;
 
-// No refusal's line is longer.
+// No line that a program prints is longer.
 pub const LONGEST: usize = 48;
 
 // Each function answers the place behind what it wrote; where there is no room it writes nothing, and answers the place it was given.
@@ -27,6 +28,24 @@ pub fn put_bytes<'a>(out: &'a mut [u8], at: usize, bytes: &'a [u8]) -> usize
     at + bytes.len()
 }
 
+// Both, one behind the other, or neither.
+pub fn put_both<'a>(out: &'a mut [u8], at: usize, first: &'a [u8], second: &'a [u8]) -> usize
+    ensures { λ r. ⌜ r ≡ placeAfter (now (out .entry)) at (now (first .entry) ++ now (second .entry)) ⌝ }
+    ensures { λ r. ⌜ now (out .exit) ≡ written (now (out .entry)) at (now (first .entry) ++ now (second .entry)) ⌝ }
+{
+    if out.len() < first.len() {
+        return at;
+    }
+    if out.len() - first.len() < second.len() {
+        return at;
+    }
+    if out.len() - first.len() - second.len() < at {
+        return at;
+    }
+    let next = put_bytes(out, at, first);
+    put_bytes(out, next, second)
+}
+
 pub fn put_decimal(out: &mut [u8], at: usize, n: u64) -> usize
     ensures { λ r. ⌜ r ≡ placeAfter (now (out .entry)) at (decimal n) ⌝ }
     ensures { λ r. ⌜ now (out .exit) ≡ written (now (out .entry)) at (decimal n) ⌝ }
@@ -36,7 +55,27 @@ pub fn put_decimal(out: &mut [u8], at: usize, n: u64) -> usize
     put_bytes(out, at, &digits[..k])
 }
 
-// By way of a line of its own: the buffer changes only where the whole line has room.
+// A label and a number.
+pub fn put_numbered<'a>(out: &'a mut [u8], at: usize, label: &'a [u8], n: u64) -> usize
+    ensures { λ r. ⌜ r ≡ placeAfter (now (out .entry)) at (now (label .entry) ++ decimal n) ⌝ }
+    ensures { λ r. ⌜ now (out .exit) ≡ written (now (out .entry)) at (now (label .entry) ++ decimal n) ⌝ }
+{
+    let mut digits = [0u8; 20];
+    let k = put_decimal(&mut digits, 0, n);
+    put_both(out, at, label, &digits[..k])
+}
+
+// A plan's numbers of boxes and cables, by way of a text of its own: the buffer changes only where the whole has room.
+pub fn put_size(out: &mut [u8], at: usize, n: u16, m: u16) -> usize
+    ensures { λ r. ⌜ r ≡ placeAfter (now (out .entry)) at (sizeText n m) ⌝ }
+    ensures { λ r. ⌜ now (out .exit) ≡ written (now (out .entry)) at (sizeText n m) ⌝ }
+{
+    let mut text = [0u8; LONGEST];
+    let a = put_numbered(&mut text, 0, b"boxes ", n as u64);
+    let end = put_numbered(&mut text, a, b" cables ", m as u64);
+    put_bytes(out, at, &text[..end])
+}
+
 fn put_fault<'a>(out: &'a mut [u8], at: usize, who: &'a [u8], number: u8, place: usize) -> usize
     requires { ⌜ length (now who) ≤ 11 ⌝ }
     ensures { λ r. ⌜ r ≡ placeAfter (now (out .entry)) at (faultLine (now (who .entry)) number place) ⌝ }
@@ -44,11 +83,9 @@ fn put_fault<'a>(out: &'a mut [u8], at: usize, who: &'a [u8], number: u8, place:
 {
     let mut line = [0u8; LONGEST];
     let a = put_bytes(&mut line, 0, who);
-    let b = put_bytes(&mut line, a, b" refused ");
-    let c = put_decimal(&mut line, b, number as u64);
-    let d = put_bytes(&mut line, c, b" at ");
-    let e = put_decimal(&mut line, d, place as u64);
-    let end = put_bytes(&mut line, e, b"\n");
+    let b = put_numbered(&mut line, a, b" refused ", number as u64);
+    let c = put_numbered(&mut line, b, b" at ", place as u64);
+    let end = put_bytes(&mut line, c, b"\n");
     put_bytes(out, at, &line[..end])
 }
 

@@ -1,4 +1,8 @@
 // Reads a plan record from standard input and prints its boxes and cables, or why it is refused.
+ghost use mathlib.Core.Path.{_≡_};
+ghost use Rattle.record.specs.declared.Answer.the-variants.{Accepted};
+ghost use Rattle.lines.specs.Lines.{placeAfter, written};
+ghost use Rattle.plan.specs.Line.{sizeLine, planLine};
 use libc::STDIN_FILENO;
 use libc::STDOUT_FILENO;
 use record::Answer;
@@ -6,42 +10,40 @@ use record::Answer;
 // the longest input, in bytes
 const LIMIT: usize = 4096;
 
-fn print_size(n: u16, m: u16) {
-    io::write_all(STDOUT_FILENO, b"boxes ");
-    io::print_decimal(STDOUT_FILENO, n as u64);
-    io::write_all(STDOUT_FILENO, b" cables ");
-    io::print_decimal(STDOUT_FILENO, m as u64);
-    io::write_all(STDOUT_FILENO, b"\n");
+// By way of a line of its own: the buffer changes only where the whole line has room.
+fn put_size(out: &mut [u8], n: u16, m: u16) -> usize
+    ensures { λ r. ⌜ r ≡ placeAfter (now (out .entry)) 0 (sizeLine Accepted n m) ⌝ }
+    ensures { λ r. ⌜ now (out .exit) ≡ written (now (out .entry)) 0 (sizeLine Accepted n m) ⌝ }
+{
+    let mut text = [0u8; lines::LONGEST];
+    let a = lines::put_size(&mut text, 0, n, m);
+    let end = lines::put_bytes(&mut text, a, b"\n");
+    lines::put_bytes(out, 0, &text[..end])
 }
 
-// An answer that refuses nothing prints nothing.
-fn print_refusal(answer: Answer) {
-    let mut line = [0u8; lines::LONGEST];
-    let n = lines::put_refusal(&mut line, 0, answer);
-    io::write_all(STDOUT_FILENO, &line[..n]);
-}
-
-fn print_plan(s: &[u8]) {
-    let read = reading::read_plan(s);
+// Writes the line at the start of the buffer and answers its length; where it has no room, nothing is written, and the answer is 0.
+fn line<'a>(input: &'a [u8], out: &'a mut [u8]) -> usize
+    ensures { λ r. ⌜ r ≡ placeAfter (now (out .entry)) 0 (planLine (now (input .entry))) ⌝ }
+    ensures { λ r. ⌜ now (out .exit) ≡ written (now (out .entry)) 0 (planLine (now (input .entry))) ⌝ }
+{
+    if LIMIT < input.len() {
+        return lines::put_bytes(out, 0, b"input too long\n");
+    }
+    let read = reading::read_plan(input);
     let answer = read.answer;
     match answer {
-        Answer::Accepted => {
-            let n = read.graph.n;
-            let m = read.graph.m;
-            print_size(n, m);
-        }
-        Answer::PlanFault(_, _) => print_refusal(answer),
-        Answer::CertificateFault(_, _) => print_refusal(answer),
-        Answer::Grade(_) => {}
+        Answer::Accepted => put_size(out, read.graph.n, read.graph.m),
+        Answer::Grade(_) => lines::put_refusal(out, 0, answer),
+        Answer::PlanFault(_, _) => lines::put_refusal(out, 0, answer),
+        Answer::CertificateFault(_, _) => lines::put_refusal(out, 0, answer),
     }
 }
 
+// One byte more than the limit tells that the input is too long.
 fn main() {
     let mut input = [0u8; LIMIT + 1];
     let n = io::read_full(STDIN_FILENO, &mut input);
-    if LIMIT < n {
-        io::write_all(STDOUT_FILENO, b"input too long\n");
-        return;
-    }
-    print_plan(&input[..n]);
+    let mut out = [0u8; lines::LONGEST];
+    let len = line(&input[..n], &mut out);
+    io::write_all(STDOUT_FILENO, &out[..len]);
 }

@@ -61,7 +61,7 @@ abbrev pub stepOf : ℕ → Session → List ℕ → Stepped
 stepOf call session part = cond (eqb call 115) (startStep session part) (pathStep session part)
 
 -- a part, or that the script is cut short
-abbrev pub onPart : Part → Reply → (ℕ → ℕ → Reply) → Reply
+abbrev pub onPart : {A : Type 0} → Part → A → (ℕ → ℕ → A) → A
 onPart Cut short f = short
 onPart (Within start end) short f = f start end
 

@@ -76,7 +76,8 @@ fn put_answer(out: &mut [u8], count: usize, a: Answer) -> bool
     true
 }
 
-fn step(session: Session, call: u8, part: &[u8]) -> Stepped
+// A start or a path, by the byte of the call.
+pub fn step(session: Session, call: u8, part: &[u8]) -> Stepped
     ensures { λ r. ⌜ r ≡ stepOf call session (now (part .entry)) ⌝ }
 {
     if call == b's' {

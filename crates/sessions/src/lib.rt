@@ -32,7 +32,7 @@ pub struct Stepped {
 
 impl Session {
     // A session never opened.
-    fn none() -> Self
+    pub fn none() -> Self
         ensures { λ r. ⌜ r ≡ noSession ⌝ }
     {
         let graph = GraphTable::none();

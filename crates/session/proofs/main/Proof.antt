@@ -1,0 +1,90 @@
+-- `session::main` is safe and ends: every call moves on in the script. Assumes nothing.
+use Prim.Native.Nat.{_-_, _<_}
+use mathlib.Core.Path.{_≡_, ap, sym, _∙_}
+use lib.ListN.{length, take, replicate}
+use native.Mathlib.Omega.{arith}
+use Rattle.lines.proofs.Put.{put-length, put-counts}
+use Rattle.sessionlines.specs.declared.Turn.{Turn}
+use Rattle.sessionlines.specs.Lines.{openTurn, callTurn}
+use Rattle.sessionlines.proofs.Turns.{said-put, call-on}
+use borrow.Author.Needs.{needs}
+use Rattle.session.proofs.main.Statement.{statement}
+use Rattle.session.proofs.main.Tie as tie
+
+abbrev Inv-loop : tie.InvT-loop
+Inv-loop input n out₀ turn₀ out turn = length out ≡ 48
+
+abbrev μ-loop : tie.MeasureT-loop
+μ-loop input n out₀ turn₀ out turn = n - turn .at
+
+array-share-prefix-out : tie.Need-array-share-prefix-out Inv-loop μ-loop
+array-share-prefix-out c =
+    let r = c .before in
+    let f = r .before .before .before .before .read-full in
+    let t = openTurn (take (f .result) (f .last .1 .0)) in
+    put-counts (replicate 48 0) 0 (t .bytes) (said-put (replicate 48 0) t (r .«open» .ensures)) (omega arith) .0
+
+slice-aggregate-write-all : tie.Need-slice-aggregate-write-all Inv-loop μ-loop
+slice-aggregate-write-all c =
+    let r = c .before .before in
+    let f = r .before .before .before .before .read-full in
+    let t = openTurn (take (f .result) (f .last .1 .0)) in
+    put-counts (replicate 48 0) 0 (t .bytes) (said-put (replicate 48 0) t (r .«open» .ensures)) (omega arith) .1
+
+loop-holds : tie.Need-loop-holds Inv-loop μ-loop
+loop-holds c =
+    let r = c .before .before .before in
+    let f = r .before .before .before .before .read-full in
+    let t = openTurn (take (f .result) (f .last .1 .0)) in
+    put-length (replicate 48 0) 0 (t .bytes) (said-put (replicate 48 0) t (r .«open» .ensures))
+
+slice-aggregate-call-2 : tie.Need-slice-aggregate-call-2 Inv-loop μ-loop
+slice-aggregate-call-2 c = sym (c .before .before .before .before .loop .inv)
+
+array-share-prefix-out-2 : tie.Need-array-share-prefix-out-2 Inv-loop μ-loop
+array-share-prefix-out-2 c =
+    let r = c .before in
+    let f = r .before .before .before .before .before .before .before .before .before .before .before .before .before .read-full in
+    let k = r .before .before .before .before .before .loop in
+    let s = take (f .result) (f .last .1 .0) in
+    let t = callTurn s (k .turn .session) (k .turn .at) in
+    put-counts (k .out) 0 (t .bytes) (said-put (k .out) t (r .call .ensures)) (omega arith) .0
+
+slice-aggregate-write-all-2 : tie.Need-slice-aggregate-write-all-2 Inv-loop μ-loop
+slice-aggregate-write-all-2 c =
+    let r = c .before .before in
+    let f = r .before .before .before .before .before .before .before .before .before .before .before .before .before .read-full in
+    let k = r .before .before .before .before .before .loop in
+    let s = take (f .result) (f .last .1 .0) in
+    let t = callTurn s (k .turn .session) (k .turn .at) in
+    put-counts (k .out) 0 (t .bytes) (said-put (k .out) t (r .call .ensures)) (omega arith) .1
+
+loop-less : tie.Need-loop-less Inv-loop μ-loop
+loop-less c =
+    let r = c .before .before .before in
+    let f = r .before .before .before .before .before .before .before .before .before .before .before .before .before .read-full in
+    let k = r .before .before .before .before .before .loop in
+    let s = take (f .result) (f .last .1 .0) in
+    let t = callTurn s (k .turn .session) (k .turn .at) in
+    let l : length s ≡ f .result = sym (f .ensures .1) in
+    let h : k .turn .at < f .result = c .before .before .before .before .before .before .if1 .taken in
+    let m = call-on s (k .turn .session) (k .turn .at) (omega (arith, l, h)) in
+    omega (arith, h, m, ap (λ (x : Turn). x .at) (r .call .ensures .0))
+
+loop-again : tie.Need-loop-again Inv-loop μ-loop
+loop-again c =
+    let r = c .before .before .before in
+    let f = r .before .before .before .before .before .before .before .before .before .before .before .before .before .read-full in
+    let k = r .before .before .before .before .before .loop in
+    let s = take (f .result) (f .last .1 .0) in
+    let t = callTurn s (k .turn .session) (k .turn .at) in
+    put-length (k .out) 0 (t .bytes) (said-put (k .out) t (r .call .ensures)) ∙ k .inv
+
+pub main-spec : {M : Type 1} → statement M
+main-spec =
+    tie.close
+    (tie.spec
+    Inv-loop μ-loop (λ c. search needs) (λ c κs. search needs) (λ c. search needs) (λ c. search needs) (λ c. search needs)
+    (λ c κs. search needs) array-share-prefix-out slice-aggregate-write-all (λ c κs. search needs) loop-holds (λ c. search needs)
+    (λ c. search needs) slice-aggregate-call-2 (λ c κs. search needs) array-share-prefix-out-2 slice-aggregate-write-all-2
+    (λ c κs. search needs) loop-less loop-again (λ c. search needs))

@@ -1,0 +1,93 @@
+-- A turn by its case; every call moves on in the script. Assumes nothing.
+use Prim.Native.Nat.{ℕ, _+_, _<_, _≤_}
+use mathlib.Core.List.{List, []}
+use mathlib.Core.Bool.{Bool, true, false, cond, _||_}
+use mathlib.Core.Path.{_≡_, refl, ap, _∙_}
+use native.Mathlib.Omega.{arith}
+use lib.Dec.{eqb}
+use lib.ListN.{length, getD}
+use borrow.Author.Tests.{lt-ltb, le-ltb, le-leb, lt-leb, eq-eqb, ne-eqb}
+use Rattle.sessions.specs.declared.Session.{Session}
+use Rattle.sessions.specs.declared.Opened.{Opened}
+use Rattle.sessions.specs.declared.Stepped.{Stepped}
+use Rattle.sessions.specs.Session.{noSession, opening, closeStep}
+use Rattle.script.specs.declared.Part.{Part}
+use Rattle.script.specs.declared.Part.the-variants.{Within, Cut}
+use Rattle.script.specs.Script.{partAt}
+use Rattle.script.specs.Replay.{onPart, partOf, stepOf}
+use Rattle.script.proofs.Parts.{part-within}
+use Rattle.lines.specs.Lines.{tooLong, written}
+use Rattle.lines.proofs.Put.{Put}
+use Rattle.sessionlines.specs.declared.Turn.{Turn}
+use Rattle.sessionlines.specs.Lines.{scriptLimit, Printed, printed, cutShort, unknownCall, answerLine, stepTurn, openTurn, callTurn, turnIn}
+
+-- what the code answers to a turn, and the buffer then
+abbrev pub Said : List ℕ → Printed → Turn → List ℕ → Type 0
+Said buffer t r out = (r ≡ turnIn buffer t) × (out ≡ written buffer 0 (t .bytes))
+
+module _ (buffer : List ℕ) where
+  pub said : (bytes : List ℕ) (session : Session) (at : ℕ) {len : ℕ} {out : List ℕ} → Put buffer 0 bytes len out
+      → Said buffer (printed bytes session at) (record { session = session; at = at; len = len }) out
+  said bytes session at p = (ap (λ (n : ℕ). record { session = session; at = at; len = n }) (p .0), p .1)
+
+  pub said-as : {t u : Printed} → t ≡ u → {r : Turn} {out : List ℕ} → Said buffer t r out → Said buffer u r out
+  said-as e p = (p .0 ∙ ap (turnIn buffer) e, p .1 ∙ ap (λ (u : Printed). written buffer 0 (u .bytes)) e)
+
+  pub said-put : (t : Printed) {r : Turn} {out : List ℕ} → Said buffer t r out → Put buffer 0 (t .bytes) (r .len) out
+  said-put t p = (ap (λ (r : Turn). r .len) (p .0), p .1)
+
+-- the opening
+module _ (s : List ℕ) where
+  pub open-long : scriptLimit < length s → {n : Session} → n ≡ noSession → printed tooLong n (length s) ≡ openTurn s
+  unfolding openTurn
+  open-long h e = rw (lt-ltb scriptLimit (length s) h, e)
+
+  module _ (h : length s ≤ scriptLimit) {x : Part} (e : x ≡ partAt s 0) where
+    pub open-cut : x ≡ Cut → {n : Session} → n ≡ noSession → printed cutShort n (length s) ≡ openTurn s
+    unfolding openTurn
+    open-cut f g = rw (le-ltb scriptLimit (length s) h, ← e, f, g)
+
+    pub open-part : {start end : ℕ} → x ≡ Within start end → {o : Opened} → o ≡ opening (partOf s start end) → printed (answerLine (o .answer)) (o .session) end ≡ openTurn s
+    unfolding openTurn
+    open-part f g = rw (le-ltb scriptLimit (length s) h, ← e, f, g)
+
+-- a call
+module _ (s : List ℕ) (session : Session) (at : ℕ) where
+  pub call-none : length s ≤ at → printed [] session at ≡ callTurn s session at
+  unfolding callTurn
+  call-none h = rw (le-leb (length s) at h)
+
+  module _ (h : at < length s) where
+    pub call-close : getD s at 0 ≡ 99 → {x : Stepped} → x ≡ closeStep session → printed (answerLine (x .answer)) session (at + 1) ≡ callTurn s session at
+    unfolding callTurn
+    call-close c e = rw (lt-leb (length s) at h, eq-eqb _ _ c, e)
+
+    module _ (c : getD s at 0 ≡ 99 → ⊥) where
+      pub call-unknown : eqb (getD s at 0) 115 || eqb (getD s at 0) 112 ≡ false → printed unknownCall session (length s) ≡ callTurn s session at
+      unfolding callTurn
+      call-unknown d = rw (lt-leb (length s) at h, ne-eqb _ _ c, d)
+
+      module _ (d : eqb (getD s at 0) 115 || eqb (getD s at 0) 112 ≡ true) {x : Part} (e : x ≡ partAt s (at + 1)) where
+        pub call-cut : x ≡ Cut → printed cutShort session (length s) ≡ callTurn s session at
+        unfolding callTurn
+        call-cut f = rw (lt-leb (length s) at h, ne-eqb _ _ c, d, ← e, f)
+
+        pub call-part : {start end : ℕ} → x ≡ Within start end → stepTurn (stepOf (getD s at 0) session (partOf s start end)) start end ≡ callTurn s session at
+        unfolding callTurn
+        call-part f = rw (lt-leb (length s) at h, ne-eqb _ _ c, d, ← e, f)
+
+    pub call-on : at < callTurn s session at .at
+    unfolding callTurn
+    call-on = rw (lt-leb (length s) at h) (go (eqb (getD s at 0) 99) (eqb (getD s at 0) 115 || eqb (getD s at 0) 112))
+      where
+        parted : (x : Part) → x ≡ partAt s (at + 1)
+            → at < onPart x (printed cutShort session (length s)) (λ start end. stepTurn (stepOf (getD s at 0) session (partOf s start end)) start end) .at
+        parted Cut e = h
+        parted (Within start end) e = let w = part-within s (at + 1) e refl in omega arith
+
+        go : (b d : Bool) → at < cond b (printed (answerLine (closeStep session .answer)) session (at + 1))
+            (cond d (onPart (partAt s (at + 1)) (printed cutShort session (length s)) (λ start end. stepTurn (stepOf (getD s at 0) session (partOf s start end)) start end))
+            (printed unknownCall session (length s))) .at
+        go true d = omega arith
+        go false true = parted (partAt s (at + 1)) refl
+        go false false = h

@@ -1,0 +1,12 @@
+-- `sessionlines::say` meets its contract. Assumes nothing.
+use Rattle.sessionlines.proofs.Turns.{said}
+use borrow.Author.Needs.{needs}
+use Rattle.sessionlines.proofs.say.Statement.{statement}
+use Rattle.sessionlines.proofs.say.Tie as tie
+
+returns : tie.Need-returns
+returns c = let a = c .before .before .before .before .before .before .args in said (a .out .now) (a .line .now) (a .session) (a .at) (c .before .before .put-bytes .ensures)
+
+pub say-spec : {M : Type 1} → statement M
+say-spec = tie.close (tie.spec
+    (λ c κs. search needs) (λ c. search needs) returns)
