@@ -1,12 +1,13 @@
 -- THE DEMANDS, each as a statement beside its words; proofs/Demands.antt proves them all. P, Q are plan records, C is a certificate record,
 -- k a grade. That every call ends and that none has a condition to be met beforehand is what the kit proves of each public function.
-use Prim.Native.Nat.{ℕ, _+_, _*_, _≤_, _<_}
-use mathlib.Core.List.{List, _++_}
+use Prim.Native.Nat.{ℕ, suc, _+_, _*_, _^_, _≤_, _<_}
+use mathlib.Core.List.{List, _∷_, _++_}
 use mathlib.Core.Path.{_≡_}
 use mathlib.Core.Logic.{_↔_}
 use lib.ListN.{length, drop}
 use Rattle.record.specs.Read.{Bytes}
 use Rattle.record.specs.Number.{numberBytes, listBytes}
+use Rattle.record.specs.Write.{overwritten}
 use Rattle.record.specs.declared.Answer.{Answer}
 use Rattle.record.specs.declared.Answer.the-variants.{Accepted, Grade, PlanFault, CertificateFault}
 use Rattle.connectivity.specs.Graph.{Graph, Adj, Simple, listed, HasConnectivity}
@@ -24,14 +25,17 @@ use Rattle.construction.specs.Construction.{certificate}
 use Rattle.certifier.specs.Made.{roomAsked, made, madeFrom, filledFrom}
 use Rattle.script.specs.declared.Part.the-variants.{Within}
 use Rattle.script.specs.Script.{partAt}
-use Rattle.script.specs.Replay.{answerWord, partOf, replayOf}
+use Rattle.script.specs.Replay.{answerWord, answerBytes, partOf, reply, replayOf}
 use Rattle.fikzarn.specs.Words.{madeWord}
+use Rattle.gradeline.specs.Line.{inputLimit, gradedLine, gradeLine}
+use Rattle.sessionlines.specs.Lines.{scriptLimit, answerLine, scriptLines}
 use Rattle.claims.specs.Certified.{IsPlan, HasFigure, Certified, Sequenced}
 use Rattle.claims.specs.Session as of
 use Rattle.claims.specs.Calls.{Call, CallBytes, called, sessionAfter, heard, heardOn, Replayed}
 use Rattle.claims.specs.Answers as listed
 use Rattle.claims.specs.Answers.{OneOf}
-use Rattle.claims.specs.Exports.{decoded, Fits, wordAt, scriptBytes, Short, callsFrom, scriptAnswers, Tells}
+use Rattle.claims.specs.Exports.{decoded, Fits, wordAt, scriptBytes, Short, callsFrom, answersOf, scriptAnswers, Tells}
+use Rattle.claims.specs.Printed.{callLines, GradePrinted, CertificatePrinted}
 
 -- DEMAND 1. "a faulty record or a call out of turn gets the number and place listed in document 01; a refused session is unchanged".
 -- From the opening on, whatever calls come, the session is document 01's (specs/Session): each answers what that one answers and leaves
@@ -154,6 +158,7 @@ WordsDecode = (a : Answer) → Fits a → decoded (answerWord a) ≡ a
 pub record ScriptOf (P : List ℕ) (calls : List Call) : Type 0 where
   pub plan-at : partAt (scriptBytes P calls) 0 ≡ Within 2 (2 + length P)
   pub plan : partOf (scriptBytes P calls) 2 (2 + length P) ≡ P
+  pub bytes : Bytes P → CallBytes calls → Bytes (scriptBytes P calls)
   pub calls-behind : callsFrom (length (scriptBytes P calls)) (scriptBytes P calls) (2 + length P) ≡ calls
 
 abbrev pub ScriptsEncode : Type 0
@@ -163,9 +168,41 @@ ScriptsEncode = (P : List ℕ) (calls : List Call) → length P < 65536 → Shor
 abbrev pub ScriptsReplay : Type 0
 ScriptsReplay = (s buffer : List ℕ) (a e : ℕ) → partAt s 0 ≡ Within a e → Tells s buffer (scriptAnswers s a e)
 
+-- where the script is a plan record's and a list of calls' and the buffer has room for every answer, the whole reply is this;
+abbrev pub ScriptReplies : Type 0
+ScriptReplies =
+    (P : List ℕ) (calls : List Call) (buffer : List ℕ) → length P < 65536 → Short calls → 8 * suc (length calls) ≤ length buffer
+    → replayOf (scriptBytes P calls) buffer ≡ reply (overwritten buffer 0 (listBytes answerBytes (opening P .answer ∷ answersOf (opening P .session) calls))) (suc (length calls)) 0
+
+-- what the exported functions answer is read from their words, where no record has 2 to the 48 bytes;
+pub record WordsAreAnswers : Type 0 where
+  pub of-plan : (P : List ℕ) → length P < 2 ^ 48 → decoded (answerWord (wholePlan P .answer)) ≡ wholePlan P .answer
+  pub of-check : (P C : List ℕ) → length P < 2 ^ 48 → length C < 2 ^ 48 → decoded (answerWord (checkOf P C)) ≡ checkOf P C
+  pub of-certify : (P buffer : List ℕ) → Bytes P → length P < 2 ^ 48 → decoded (madeWord (madeFrom P buffer)) ≡ madeFrom P buffer .answer
+
 -- and a grade in a word is the figure of the plan.
 pub record GradesInWords : Type 0 where
   pub of-check : (P C : List ℕ) → Bytes P → Bytes C → (k : ℕ) → decoded (answerWord (checkOf P C)) ≡ Grade k → HasFigure P k
   pub of-certify : (P buffer : List ℕ) → Bytes P → (k : ℕ) → decoded (madeWord (madeFrom P buffer)) ≡ Grade k → HasFigure P k
   pub of-session : (s buffer : List ℕ) → Bytes s → (a e : ℕ) → partAt s 0 ≡ Within a e → (i k : ℕ) → i < replayOf s buffer .count
       → decoded (wordAt (replayOf s buffer .buffer) i) ≡ Grade k → HasFigure (partOf s a e) k
+
+-- THE PROGRAMS. The session program prints a line for each call of its script, the opening's first: those of document 01's session.
+abbrev pub SessionPrints : Type 0
+SessionPrints =
+    (P : List ℕ) (calls : List Call) → Bytes P → length P < 65536 → Short calls → length (scriptBytes P calls) ≤ scriptLimit
+    → scriptLines (scriptBytes P calls) ≡ answerLine (of.opened P .answer) ++ callLines (of.opened P .state) calls
+
+-- "It prints `input too long`, or one line. Its grade line is boxes, cables and grade": these are the plan's, and the grade is its figure;
+abbrev pub GradePrints : Type 0
+GradePrints = (s : List ℕ) → Bytes s → (n m k : ℕ) → gradeLine s ≡ gradedLine (Grade k) n m → GradePrinted s n m k
+
+-- and for a plan with a certificate behind it the line is that of the checker's answer.
+abbrev pub PrintsGrade : Type 0
+PrintsGrade =
+    (p : Plan) → Allowed p → (C : List ℕ) → length (planBytes p ++ C) ≤ inputLimit
+    → gradeLine (planBytes p ++ C) ≡ gradedLine (checkOf (planBytes p) C) (p .n) (length (p .edges))
+
+-- The maker's program prints a certificate behind every accepted plan.
+abbrev pub CertifyPrints : Type 0
+CertifyPrints = (P : List ℕ) → Bytes P → wholePlan P .answer ≡ Accepted → length P ≤ inputLimit → CertificatePrinted P

@@ -4,4 +4,5 @@ pub mod Session
 pub mod Calls
 pub mod Answers
 pub mod Exports
+pub mod Printed
 pub mod Demands
