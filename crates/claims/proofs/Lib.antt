@@ -3,7 +3,8 @@ pub mod Demands
 pub mod Demand1
 pub mod Answers
 pub mod Checking
-pub mod Program
+pub mod Decimal
+pub mod Printed
 pub mod Sessions
 pub mod Replay
 pub mod Scripts

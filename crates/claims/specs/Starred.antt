@@ -1,10 +1,11 @@
 -- The starred barns and plans of document 01, as records with their answers.
 use Prim.Native.Nat.{ℕ}
-use mathlib.Core.List.{List, [], _∷_}
+use mathlib.Core.List.{List, [], _∷_, _++_}
 use mathlib.Core.Path.{_≡_}
 use Rattle.record.specs.declared.Answer.{Answer}
 use Rattle.record.specs.declared.Answer.the-variants.{Grade, PlanFault, CertificateFault}
 use Rattle.checker.specs.Check.{checkOf}
+use Rattle.gradeline.specs.Line.{gradeLine}
 
 pub record Example : Type 0 where
   pub plan : List ℕ
@@ -56,3 +57,18 @@ starred =
 abbrev pub AllAnswered : List Example → Type 0
 AllAnswered [] = Unit {0}
 AllAnswered (b ∷ l) = (checkOf (b .plan) (b .certificate) ≡ b .answer) × AllAnswered l
+
+-- the line `boxes 4 cables 6 grade 3`
+abbrev pub barnALine : List ℕ
+barnALine =
+    98 ∷ 111 ∷ 120 ∷ 101 ∷ 115 ∷ 32 ∷ 52 ∷ 32 ∷ 99 ∷ 97 ∷ 98 ∷ 108 ∷ 101 ∷ 115 ∷ 32 ∷ 54 ∷ 32 ∷ 103 ∷ 114 ∷ 97 ∷ 100 ∷ 101 ∷ 32 ∷ 51 ∷ 10 ∷ []
+
+-- the checking program prints it for barn A
+abbrev pub BarnAPrinted : Type 0
+BarnAPrinted = gradeLine (exampleA .plan ++ exampleA .certificate) ≡ barnALine
+
+-- the mistake that document 01 names, "taking 0 4 1 beside the link 0 1 (27 in a five-box plan with every cable)": the start has the link 0 1
+abbrev pub besideLink : Example
+besideLink =
+    example complete5
+    (3 ∷ 0 ∷ 1 ∷ 2 ∷ 3 ∷ 2 ∷ 0 ∷ 1 ∷ 2 ∷ 0 ∷ 2 ∷ 2 ∷ 0 ∷ 3 ∷ 2 ∷ 1 ∷ 2 ∷ 2 ∷ 1 ∷ 3 ∷ 2 ∷ 2 ∷ 3 ∷ 3 ∷ 0 ∷ 4 ∷ 1 ∷ 2 ∷ 2 ∷ 4 ∷ 2 ∷ 3 ∷ 4 ∷ []) (CertificateFault 27 23)
