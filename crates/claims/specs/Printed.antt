@@ -8,7 +8,7 @@ use Rattle.reading.specs.Plan.{Plan, planBytes}
 use Rattle.checker.specs.Check.{checkOf}
 use Rattle.certifybytes.specs.Bytes.{certifyBytes}
 use Rattle.sessionlines.specs.Lines.{answerLine, stepLine}
-use Rattle.claims.specs.Certified.{IsPlan, HasFigure}
+use Rattle.claims.specs.Certified.{HasFigure}
 use Rattle.claims.specs.Session.{State, Gives}
 use Rattle.claims.specs.Calls.{Call, Call.start, Call.path, Call.close, calledOn}
 
