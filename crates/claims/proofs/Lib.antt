@@ -8,3 +8,4 @@ pub mod Sessions
 pub mod Replay
 pub mod Scripts
 pub mod Exports
+pub mod Lines
