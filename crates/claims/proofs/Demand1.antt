@@ -27,16 +27,16 @@ use Rattle.claims.specs.Demands.{Demand1Sessions}
 use Rattle.claims.proofs.Sessions.{Building, never-accepts, refused-same, start-step, start-building, early-path, second-start, path-step, path-building, closing-is}
 
 -- the code's session is at this state of document 01's
-abbrev At : Session → State → Type 0
+abbrev pub At : Session → State → Type 0
 At s never = s ≡ noSession
 At s (waiting p) = Allowed p × (s ≡ openedOn (graphOf p))
 At s (building p links k) = Allowed p × Building p s links × (s .taken ≡ k)
 
 -- a step of the code and what document 01's session gives agree on all that is heard, and lead to the same
-record Agree (x : Stepped) (part : List ℕ) (y : Gives) : Type 0 where
-  answer : x .answer ≡ y .answer
-  unread : drop (x .read) part ≡ y .unread
-  next : At (x .session) (y .state)
+pub record Agree (x : Stepped) (part : List ℕ) (y : Gives) : Type 0 where
+  pub answer : x .answer ≡ y .answer
+  pub unread : drop (x .read) part ≡ y .unread
+  pub next : At (x .session) (y .state)
 
 -- refused alike: each stays where it was
 both-refuse : {s : Session} (z : State) → At s z → (part : List ℕ) (r q : ℕ) → Agree (refusedStep s r q) part (of.refuses z part r q)
@@ -65,13 +65,13 @@ module _ (p : Plan) (al : Allowed p) where
     both-close = record { answer = closing-is p al h; unread = refl; next = (al, h, refl) }
 
 -- the part that a call hands in
-abbrev handed : Call → List ℕ
+abbrev pub handed : Call → List ℕ
 handed (start part) = part
 handed (path part) = part
 handed close = []
 
 -- EACH CALL agrees,
-agree : (s : Session) (z : State) → At s z → (c : Call) → Agree (called s c) (handed c) (calledOn z c)
+pub agree : (s : Session) (z : State) → At s z → (c : Call) → Agree (called s c) (handed c) (calledOn z c)
 unfolding closeStep
 agree s never h (start part) = rw (h, never-accepts (start part)) (both-refuse never refl part 31 0)
 agree s never h (path part) = rw (h, never-accepts (path part)) (both-refuse never refl part 31 0)
@@ -101,11 +101,11 @@ agree-all (c ∷ cs) s z h =
     λ i. first i ∷ later i
 
 -- OPENING
-record OpensAt (x : Opened) (y : Gives) : Type 0 where
-  answer : x .answer ≡ y .answer
-  state : At (x .session) (y .state)
+pub record OpensAt (x : Opened) (y : Gives) : Type 0 where
+  pub answer : x .answer ≡ y .answer
+  pub state : At (x .session) (y .state)
 
-opens-at : (P : List ℕ) → Bytes P → OpensAt (opening P) (of.opened P)
+pub opens-at : (P : List ℕ) → Bytes P → OpensAt (opening P) (of.opened P)
 unfolding opening graphOf
 opens-at P bytes = go (ended plan P 0) refl
   where

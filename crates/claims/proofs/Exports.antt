@@ -1,4 +1,4 @@
--- THE EXPORTS: a word stands for its answer, and a grade in a word is the figure of the plan. Assumes nothing.
+-- THE EXPORTS: a word stands for its answer, every answer of an exported function fits, and a grade in a word is the figure of the plan. Assumes nothing.
 use Prim.Native.Nat.{ℕ, zero, suc, _+_, _*_, _-_, _/_, _%_, _<_, _^_, min}
 use mathlib.Core.List.{List, [], _∷_, _++_, append-assoc}
 use mathlib.Core.Bool.{Bool, true, false, cond, _&&_, _||_}
@@ -13,7 +13,10 @@ use Rattle.record.specs.Read.{Read, Read.Got, Read.Refused, Bytes, ended}
 use Rattle.record.specs.Number.{listBytes}
 use Rattle.record.specs.declared.Answer.{Answer}
 use Rattle.record.specs.declared.Answer.the-variants.{Accepted, Grade, PlanFault, CertificateFault}
+use Rattle.connectivity.specs.Lists.{In, all}
+use Rattle.connectivity.proofs.Lists.{all-true}
 use Rattle.reading.specs.Plan.{plan}
+use Rattle.reading.specs.Code.{wholePlan}
 use Rattle.certifier.specs.declared.Made.{Made}
 use Rattle.certifier.specs.Made.{madeFrom}
 use Rattle.checker.specs.Check.{checkOf}
@@ -32,27 +35,62 @@ use Rattle.script.proofs.Answers.{word-length}
 use Rattle.fikzarn.specs.Words.{gradeWord, madeWord}
 use Rattle.claims.specs.Certified.{HasFigure}
 use Rattle.claims.specs.Calls.{Call, Call.start, Call.path, Call.close, CallBytes, sessionAfter}
-use Rattle.claims.specs.Exports.{inWord, decoded, wordOf, wordAt, onPartCalls, callsFrom, answersOf, scriptAnswers}
-use Rattle.claims.specs.Demands.{WordsDecode, GradesInWords, AcceptedGrade, AcceptedGrade.checked, AcceptedGrade.made-for, AcceptedGrade.closed-on}
+use Rattle.claims.specs.Answers as listed
+use Rattle.claims.specs.Answers.{Answers, OneOf}
+use Rattle.claims.specs.Exports.{inWord, decoded, Fits, wordOf, wordAt, onPartCalls, callsFrom, answersOf, scriptAnswers}
+use Rattle.claims.specs.Demands.{WordsDecode, WordsAreAnswers, GradesInWords, AcceptedGrade, AcceptedGrade.checked, AcceptedGrade.made-for, AcceptedGrade.closed-on}
 use Rattle.claims.proofs.Sessions.{Opens, Opens.refused, Opens.accepted, opens}
 use Rattle.claims.proofs.Demands.{grade-is-figure}
+use Rattle.claims.proofs.Answers.{demand1-answers}
 use Rattle.claims.proofs.Scripts.{scripts-replay}
 
--- A WORD taken apart gives what it was put together from
-word-decoded : (kind number place : ℕ) → kind < 256 → number < 256 → place < 2 ^ 48 → decoded (word kind number place) ≡ inWord kind number place
-word-decoded kind number place k n p =
+-- A WORD taken apart gives what it was put together from, the place cut to six bytes
+word-decoded : (kind number place : ℕ) → kind < 256 → number < 256 → decoded (word kind number place) ≡ inWord kind number (place % 281474976710656)
+word-decoded kind number place k n =
     let c : word kind number place % 256 ≡ kind = omega arith in
     let h : word kind number place / 256 ≡ number + 256 * (place % 281474976710656) = omega arith in
     let d : word kind number place / 256 % 256 ≡ number = rw h (omega arith) in
-    let m : place % 281474976710656 ≡ place = omega arith in
-    let e : word kind number place / 65536 ≡ place = rw m (omega arith) in
+    let e : word kind number place / 65536 ≡ place % 281474976710656 = omega arith in
     λ i. inWord (c i) (d i) (e i)
 
 pub words-decode : WordsDecode
 words-decode Accepted f = refl
-words-decode (Grade k) f = word-decoded 1 k 0 (omega arith) f (omega arith)
-words-decode (PlanFault r p) f = word-decoded 2 r p (omega arith) (f .0) (f .1)
-words-decode (CertificateFault r p) f = word-decoded 3 r p (omega arith) (f .0) (f .1)
+words-decode (Grade k) f = word-decoded 1 k 0 (omega arith) f
+words-decode (PlanFault r p) f = word-decoded 2 r p (omega arith) (f .0) ∙ ap (PlanFault r) (omega arith)
+words-decode (CertificateFault r p) f = word-decoded 3 r p (omega arith) (f .0) ∙ ap (CertificateFault r) (omega arith)
+
+-- EVERY LISTED ANSWER fits into a word: its numbers are of one byte
+abbrev OneByte : List ℕ → Type 0
+OneByte ns = all (λ r. ltb r 256) ns ≡ true
+
+byte-number : (ns : List ℕ) → OneByte ns → (r : ℕ) → In r ns → r < 256
+byte-number ns h r i = ltb-true r 256 (all-true (λ r. ltb r 256) ns h r i)
+
+listed-fits : (l : Answers) (m c : ℕ) → OneByte (l .grades) → OneByte (l .plan) → OneByte (l .certificate) → m < 2 ^ 48 → c < 2 ^ 48 → (a : Answer) → OneOf l m c a → Fits a
+listed-fits l m c g p f hm hc Accepted h = tt
+listed-fits l m c g p f hm hc (Grade k) h = byte-number (l .grades) g k h
+listed-fits l m c g p f hm hc (PlanFault r q) h = (byte-number (l .plan) p r (h .0), let z : q < 2 ^ 48 = omega arith in z)
+listed-fits l m c g p f hm hc (CertificateFault r q) h = (byte-number (l .certificate) f r (h .0), let z : q < 2 ^ 48 = omega arith in z)
+
+-- the maker's word has a length in a grade's place
+made-decoded : (m : Made) → Fits (m .answer) → decoded (madeWord m) ≡ m .answer
+made-decoded m f = go (m .answer) f
+  where
+    go : (a : Answer) → Fits a → decoded (gradeWord a (m .length)) ≡ a
+    go Accepted h = words-decode Accepted h
+    go (Grade k) h = word-decoded 1 k (m .length) (omega arith) h
+    go (PlanFault r p) h = words-decode (PlanFault r p) h
+    go (CertificateFault r p) h = words-decode (CertificateFault r p) h
+
+pub words-are-answers : WordsAreAnswers
+words-are-answers = record {
+  of-plan = λ P p. let a = wholePlan P .answer in
+      words-decode a (listed-fits listed.reading (length P) 0 refl refl refl p (omega arith) a (demand1-answers .reading P));
+  of-check = λ P C p c. let a = checkOf P C in
+      words-decode a (listed-fits listed.checking (length P) (length C) refl refl refl p c a (demand1-answers .checking P C));
+  of-certify = λ P buffer bp p. let m = madeFrom P buffer in
+      made-decoded m (listed-fits listed.making (length P) 0 refl refl refl p (omega arith) (m .answer) (demand1-answers .making P bp buffer));
+}
 
 -- A GRADE in a word is in its two lowest bytes
 in-word : (c n p : ℕ) {k : ℕ} → inWord c n p ≡ Grade k → (c ≡ 1) × (n ≡ k)

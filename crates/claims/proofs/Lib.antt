@@ -9,3 +9,4 @@ pub mod Sessions
 pub mod Replay
 pub mod Scripts
 pub mod Exports
+pub mod Lines

@@ -1,14 +1,16 @@
--- SCRIPTS: a plan record and its calls are read back from their script, and a replay tells the answers of the script's calls.
+-- SCRIPTS: a plan record and its calls are read back from their script, which is bytes; a replay tells the answers of the script's calls,
+-- and where they all have room the whole reply is known.
 -- Assumes nothing.
-use Prim.Native.Nat.{ℕ, zero, suc, _+_, _*_, _-_, _/_, _%_, _≤_, min}
+use Prim.Native.Nat.{ℕ, zero, suc, _+_, _*_, _-_, _/_, _%_, _≤_, _<_, min}
 use mathlib.Core.List.{List, [], _∷_, _++_, append-assoc}
 use mathlib.Core.Bool.{Bool, true, false, cond, _||_}
 use mathlib.Core.Path.{_≡_, refl, sym, ap, _∙_}
 use native.Mathlib.Omega.{arith}
 use lib.ListN.{length, getD, take, drop, length-append}
-use lib.Seq.{append-snoc, getD-at, getD-append-add, take-at, drop-at, take-nil}
+use lib.Seq.{append-snoc, getD-at, getD-append-add, take-at, drop-at, take-nil, take-all}
 use lib.Dec.{leb, eqb}
 use borrow.Author.Tests.{le-leb, lt-leb}
+use Rattle.record.specs.Read.{Bytes}
 use Rattle.record.specs.Number.{listBytes}
 use Rattle.record.specs.Write.{overwritten}
 use Rattle.record.specs.declared.Answer.{Answer}
@@ -18,11 +20,11 @@ use Rattle.sessions.specs.Session.{opening, startStep, pathStep, closeStep}
 use Rattle.script.specs.declared.Part.{Part}
 use Rattle.script.specs.declared.Part.the-variants.{Within, Cut}
 use Rattle.script.specs.Script.{sizeAt, partAt}
-use Rattle.script.specs.Replay.{answerWord, answerBytes, Reply, reply, hasRoomFor, withAnswer, partOf, stepOf, onPart, replayOn, opened}
+use Rattle.script.specs.Replay.{answerWord, answerBytes, Reply, reply, hasRoomFor, withAnswer, partOf, stepOf, onPart, replayOn, opened, replayOf}
 use Rattle.script.proofs.Answers.{word-length}
-use Rattle.claims.specs.Calls.{Call, Call.start, Call.path, Call.close, called}
-use Rattle.claims.specs.Exports.{partBytes, callBytes, scriptBytes, callOf, onPartCalls, callsFrom, answersOf, scriptAnswers}
-use Rattle.claims.specs.Demands.{ScriptsEncode, ScriptsReplay}
+use Rattle.claims.specs.Calls.{Call, Call.start, Call.path, Call.close, CallBytes, called}
+use Rattle.claims.specs.Exports.{partBytes, callBytes, scriptBytes, Short, callOf, onPartCalls, callsFrom, answersOf, scriptAnswers}
+use Rattle.claims.specs.Demands.{ScriptsEncode, ScriptsReplay, ScriptReplies}
 use Rattle.claims.proofs.Sessions.{close-same}
 
 -- A PART behind other bytes is found, and is what was written
@@ -53,67 +55,118 @@ module _ (front part behind : List ℕ) (at : ℕ) (h : length front ≡ at) whe
       let d : drop (at + 2) joined ≡ part ++ behind = ap (drop (at + 2)) (sym s) ∙ drop-at before (part ++ behind) (at + 2) n in
       rw d (take-at part behind (at + 2 + length part - (at + 2)) (omega arith))
 
--- ONE CALL of a script
-module _ (k : ℕ) (front behind : List ℕ) where
-  close-read : callsFrom (suc k) (front ++ (99 ∷ behind)) (length front) ≡ close ∷ callsFrom k (front ++ (99 ∷ behind)) (length front + 1)
-  unfolding callsFrom
-  close-read =
-      let n = length-append front (99 ∷ behind) in
-      rw (lt-leb (length (front ++ (99 ∷ behind))) (length front) (omega (arith, n)), getD-at front 99 behind 0 (length front) refl)
+-- THE CALLS that a script has from a place on, up to its end: each by its byte, a part behind the byte where one belongs to it
+pub record PartCall (s : List ℕ) (at call : ℕ) (part : List ℕ) : Type 0 where
+  pub inside : leb (length s) at ≡ false
+  pub byte : getD s at 0 ≡ call
+  pub within : partAt s (at + 1) ≡ Within (at + 3) (at + 3 + length part)
+  pub handed : partOf s (at + 3) (at + 3 + length part) ≡ part
 
-  part-read : (call : ℕ) (part : List ℕ) → eqb call 99 ≡ false → eqb call 115 || eqb call 112 ≡ true
-      → callsFrom (suc k) (front ++ (call ∷ partBytes part ++ behind)) (length front)
-      ≡ callOf call part ∷ callsFrom k (front ++ (call ∷ partBytes part ++ behind)) (length front + 3 + length part)
-  unfolding callsFrom
-  part-read call part c d =
+pub record CloseCall (s : List ℕ) (at : ℕ) : Type 0 where
+  pub inside : leb (length s) at ≡ false
+  pub byte : getD s at 0 ≡ 99
+
+abbrev pub Has : List ℕ → ℕ → List Call → Type 0
+Has s at [] = leb (length s) at ≡ true
+Has s at (start part ∷ cs) = PartCall s at 115 part × Has s (at + 3 + length part) cs
+Has s at (path part ∷ cs) = PartCall s at 112 part × Has s (at + 3 + length part) cs
+Has s at (close ∷ cs) = CloseCall s at × Has s (at + 1) cs
+
+module _ (front behind : List ℕ) where
+  close-there : CloseCall (front ++ (99 ∷ behind)) (length front)
+  close-there =
+      let n = length-append front (99 ∷ behind) in
+      record { inside = lt-leb (length (front ++ (99 ∷ behind))) (length front) (omega (arith, n)); byte = getD-at front 99 behind 0 (length front) refl }
+
+  part-there : (call : ℕ) (part : List ℕ) → PartCall (front ++ (call ∷ partBytes part ++ behind)) (length front) call part
+  part-there call part =
       let s = front ++ (call ∷ partBytes part ++ behind) in
       let n = length-append front (call ∷ partBytes part ++ behind) in
       let m : length (front ++ (call ∷ [])) ≡ length front + 1 = length-append front (call ∷ []) in
       let e : front ++ (call ∷ []) ++ (partBytes part ++ behind) ≡ s = append-snoc front call (partBytes part ++ behind) in
-      let a : partAt s (length front + 1) ≡ Within (length front + 1 + 2) (length front + 1 + 2 + length part) = rw (← e) (part-at (front ++ (call ∷ [])) part behind (length front + 1) m) in
-      let b : partOf s (length front + 1 + 2) (length front + 1 + 2 + length part) ≡ part = rw (← e) (part-of (front ++ (call ∷ [])) part behind (length front + 1) m) in
-      let z : length front + 1 + 2 + length part ≡ length front + 3 + length part = omega arith in
-      rw (lt-leb (length s) (length front) (omega (arith, n)), getD-at front call (partBytes part ++ behind) 0 (length front) refl, c, d, a, b, z)
+      let z : length front + 1 + 2 ≡ length front + 3 = omega arith in
+      record {
+        inside = lt-leb (length s) (length front) (omega (arith, n));
+        byte = getD-at front call (partBytes part ++ behind) 0 (length front) refl;
+        within = rw (← e, ← z) (part-at (front ++ (call ∷ [])) part behind (length front + 1) m);
+        handed = rw (← e, ← z) (part-of (front ++ (call ∷ [])) part behind (length front + 1) m);
+      }
 
--- no call is left at the end; and where the calls behind a first one are read back behind its bytes, so are all
-none-read : (k : ℕ) (front : List ℕ) → callsFrom k (front ++ []) (length front) ≡ []
-unfolding callsFrom
-none-read zero front = refl
-none-read (suc k) front = rw (le-leb (length (front ++ [])) (length front) (omega (arith, length-append front [])))
+-- every list of calls stands in its bytes, behind other ones
+later : (front : List ℕ) (c : Call) (cs : List Call) (at : ℕ) → length front + length (callBytes c) ≡ at
+    → Has (front ++ callBytes c ++ listBytes callBytes cs) (length (front ++ callBytes c)) cs → Has (front ++ (callBytes c ++ listBytes callBytes cs)) at cs
+later front c cs at e h = rw (← e, ← length-append front (callBytes c), ← append-assoc front (callBytes c) (listBytes callBytes cs)) h
 
-first-read : (k : ℕ) (front : List ℕ) (c : Call) (cs : List Call) (at : ℕ) → length front + length (callBytes c) ≡ at
-    → callsFrom k (front ++ callBytes c ++ listBytes callBytes cs) (length (front ++ callBytes c)) ≡ cs → c ∷ callsFrom k (front ++ (callBytes c ++ listBytes callBytes cs)) at ≡ c ∷ cs
-first-read k front c cs at e h =
-    rw (← e, ← length-append front (callBytes c), ← append-assoc front (callBytes c) (listBytes callBytes cs)) (ap (λ (l : List Call). c ∷ l) h)
-
--- ALL CALLS behind other bytes are read back
-calls-back : (k : ℕ) (front : List ℕ) (calls : List Call) → length (listBytes callBytes calls) ≤ k → callsFrom k (front ++ listBytes callBytes calls) (length front) ≡ calls
+calls-there : (front : List ℕ) (calls : List Call) → Has (front ++ listBytes callBytes calls) (length front) calls
 unfolding listBytes
-calls-back zero front [] h = none-read zero front
-calls-back (suc k) front [] h = none-read (suc k) front
-calls-back zero front (start part ∷ cs) h = absurd (omega arith)
-calls-back zero front (path part ∷ cs) h = absurd (omega arith)
-calls-back zero front (close ∷ cs) h = absurd (omega arith)
-calls-back (suc k) front (start part ∷ cs) h =
-    let n = length-append part (listBytes callBytes cs) in
-    part-read k front (listBytes callBytes cs) 115 part refl refl
-    ∙ first-read k front (start part) cs _ (omega arith) (calls-back k (front ++ callBytes (start part)) cs (omega arith))
-calls-back (suc k) front (path part ∷ cs) h =
-    let n = length-append part (listBytes callBytes cs) in
-    part-read k front (listBytes callBytes cs) 112 part refl refl
-    ∙ first-read k front (path part) cs _ (omega arith) (calls-back k (front ++ callBytes (path part)) cs (omega arith))
-calls-back (suc k) front (close ∷ cs) h =
-    close-read k front (listBytes callBytes cs)
-    ∙ first-read k front close cs _ (omega arith) (calls-back k (front ++ callBytes close) cs (omega arith))
+calls-there front [] = le-leb (length (front ++ [])) (length front) (omega (arith, length-append front []))
+calls-there front (start part ∷ cs) = (part-there front (listBytes callBytes cs) 115 part, later front (start part) cs _ (omega arith) (calls-there (front ++ callBytes (start part)) cs))
+calls-there front (path part ∷ cs) = (part-there front (listBytes callBytes cs) 112 part, later front (path part) cs _ (omega arith) (calls-there (front ++ callBytes (path part)) cs))
+calls-there front (close ∷ cs) = (close-there front (listBytes callBytes cs), later front close cs _ (omega arith) (calls-there (front ++ callBytes close) cs))
+
+-- of which there are no more than bytes
+calls-few : (calls : List Call) → length calls ≤ length (listBytes callBytes calls)
+unfolding listBytes
+calls-few [] = omega arith
+calls-few (start part ∷ cs) = omega (arith, calls-few cs, length-append part (listBytes callBytes cs))
+calls-few (path part ∷ cs) = omega (arith, calls-few cs, length-append part (listBytes callBytes cs))
+calls-few (close ∷ cs) = omega (arith, calls-few cs)
+
+-- the calls of a script
+pub script-has : (P : List ℕ) (calls : List Call) → Has (scriptBytes P calls) (2 + length P) calls
+script-has P calls = let n : length (partBytes P) ≡ 2 + length P = omega arith in rw (← n) (calls-there (partBytes P) calls)
+
+pub script-long : (P : List ℕ) (calls : List Call) → length calls ≤ length (scriptBytes P calls)
+script-long P calls = omega (arith, calls-few calls, length-append (partBytes P) (listBytes callBytes calls))
+
+-- THEY ARE READ BACK
+none-back : (k : ℕ) (s : List ℕ) (at : ℕ) → leb (length s) at ≡ true → callsFrom k s at ≡ []
+unfolding callsFrom
+none-back zero s at h = refl
+none-back (suc k) s at h = rw h
+
+calls-back : (k : ℕ) (s : List ℕ) (at : ℕ) (calls : List Call) → Has s at calls → length calls ≤ k → callsFrom k s at ≡ calls
+unfolding callsFrom
+calls-back k s at [] h f = none-back k s at h
+calls-back zero s at (c ∷ cs) h f = absurd (omega arith)
+calls-back (suc k) s at (start part ∷ cs) h f =
+    let c = h .0 in
+    rw (c .inside, c .byte, c .within, c .handed) (ap (λ (l : List Call). start part ∷ l) (calls-back k s (at + 3 + length part) cs (h .1) (omega arith)))
+calls-back (suc k) s at (path part ∷ cs) h f =
+    let c = h .0 in
+    rw (c .inside, c .byte, c .within, c .handed) (ap (λ (l : List Call). path part ∷ l) (calls-back k s (at + 3 + length part) cs (h .1) (omega arith)))
+calls-back (suc k) s at (close ∷ cs) h f =
+    let c = h .0 in
+    rw (c .inside, c .byte) (ap (λ (l : List Call). close ∷ l) (calls-back k s (at + 1) cs (h .1) (omega arith)))
+
+-- A SCRIPT is bytes
+bytes-cons : (b : ℕ) (l : List ℕ) → b < 256 → Bytes l → Bytes (b ∷ l)
+bytes-cons b l h f zero = h
+bytes-cons b l h f (suc i) = f i
+
+bytes-append : (l m : List ℕ) → Bytes l → Bytes m → Bytes (l ++ m)
+bytes-append [] m h f = f
+bytes-append (b ∷ l) m h f = bytes-cons b (l ++ m) (h 0) (bytes-append l m (λ i. h (suc i)) f)
+
+written-part : (part behind : List ℕ) → length part < 65536 → Bytes part → Bytes behind → Bytes (partBytes part ++ behind)
+written-part part behind h f g =
+    bytes-cons (length part % 256) ((length part / 256) ∷ part ++ behind) (omega arith)
+    (bytes-cons (length part / 256) (part ++ behind) (omega arith) (bytes-append part behind f g))
+
+written-calls : (calls : List Call) → Short calls → CallBytes calls → Bytes (listBytes callBytes calls)
+unfolding listBytes
+written-calls [] h f = λ i. omega arith
+written-calls (start part ∷ cs) h f = bytes-cons 115 (partBytes part ++ listBytes callBytes cs) (omega arith) (written-part part (listBytes callBytes cs) (h .0) (f .0) (written-calls cs (h .1) (f .1)))
+written-calls (path part ∷ cs) h f = bytes-cons 112 (partBytes part ++ listBytes callBytes cs) (omega arith) (written-part part (listBytes callBytes cs) (h .0) (f .0) (written-calls cs (h .1) (f .1)))
+written-calls (close ∷ cs) h f = bytes-cons 99 (listBytes callBytes cs) (omega arith) (written-calls cs h f)
 
 pub scripts-encode : ScriptsEncode
 scripts-encode P calls h f =
-    let n : length (partBytes P) ≡ 2 + length P = omega arith in
-    let s = length-append (partBytes P) (listBytes callBytes calls) in
     record {
       plan-at = part-at [] P (listBytes callBytes calls) 0 refl;
       plan = part-of [] P (listBytes callBytes calls) 0 refl;
-      calls-behind = rw (← n) (calls-back (length (scriptBytes P calls)) (partBytes P) calls (omega (arith, s)));
+      bytes = λ p c. written-part P (listBytes callBytes calls) h p (written-calls calls f c);
+      calls-behind = calls-back (length (scriptBytes P calls)) (scriptBytes P calls) (2 + length P) calls (script-has P calls) (script-long P calls);
     }
 
 -- A REPLAY from a place on: where count answers stand in the buffer and room more go into it, it tells these
@@ -122,6 +175,15 @@ record TellsOn (r : Reply) (buffer : List ℕ) (count room : ℕ) (answers : Lis
   buffer-then : r .buffer ≡ overwritten buffer (8 * count) (listBytes answerBytes (take room answers))
 
 module _ (buffer : List ℕ) (count : ℕ) where
+  room-for : 8 * (count + 1) ≤ length buffer → hasRoomFor buffer count ≡ true
+  room-for h = le-leb (8 * count + 8) (length buffer) (omega arith)
+
+  answer-kept : (a : Answer) → 8 * (count + 1) ≤ length buffer → length (withAnswer buffer count a) ≡ length buffer
+  answer-kept a h = let n = word-length 8 (answerWord a) in overwritten-length buffer (8 * count) (answerBytes a) (omega arith)
+
+  room-left : (a : Answer) (more : ℕ) → 8 * (count + suc more) ≤ length buffer → 8 * (count + 1 + more) ≤ length (withAnswer buffer count a)
+  room-left a more h = rw (answer-kept a (omega arith)) (omega arith)
+
   tells-none : (room status : ℕ) → TellsOn (reply buffer count status) buffer count room []
   unfolding listBytes
   tells-none room status = record { count-then = omega arith; buffer-then = rw (take-nil {A = Answer} room) (sym (overwritten-none buffer (8 * count))) }
@@ -135,12 +197,10 @@ module _ (buffer : List ℕ) (count : ℕ) where
       let f : hasRoomFor buffer count ≡ false = lt-leb (8 * count + 8) (length buffer) (omega arith) in
       rw f (record { count-then = omega arith; buffer-then = sym (overwritten-none buffer (8 * count)) })
   one-more (suc left) h a answers r next =
-      let f : hasRoomFor buffer count ≡ true = le-leb (8 * count + 8) (length buffer) (omega arith) in
       let n = word-length 8 (answerWord a) in
-      let l = overwritten-length buffer (8 * count) (answerBytes a) (omega arith) in
-      let t = next left (rw l (omega arith)) in
+      let t = next left (rw (answer-kept a (omega arith)) (omega arith)) in
       let at : 8 * (count + 1) ≡ 8 * count + length (answerBytes a) = omega arith in
-      rw f (record {
+      rw (room-for (omega arith)) (record {
         count-then = t .count-then ∙ omega arith;
         buffer-then = t .buffer-then ∙ rw at (overwritten-more buffer (8 * count) (answerBytes a) (omega arith) (listBytes answerBytes (take left answers)));
       })
@@ -188,3 +248,43 @@ scripts-replay s buffer a e w = record { count = rw w (t .count-then ∙ omega a
   where
     t : TellsOn (opened s buffer a e) buffer 0 (length buffer / 8) (scriptAnswers s a e)
     t = one-more buffer 0 (length buffer / 8) (omega arith) (opening (partOf s a e) .answer) _ _ (λ left f. replay-tells (length s) s _ e _ 1 left f)
+
+-- as many answers as calls
+answers-many : (s : Session) (calls : List Call) → length (answersOf s calls) ≡ length calls
+answers-many s [] = refl
+answers-many s (c ∷ cs) = ap suc (answers-many (called s c .session) cs)
+
+-- THE REPLY to a script: where all of its calls are calls and every answer has room, the replay ends at its end
+ends : (k : ℕ) (s : List ℕ) (session : Session) (at : ℕ) (buffer : List ℕ) (count : ℕ) (calls : List Call) → Has s at calls → length calls ≤ k
+    → 8 * (count + length calls) ≤ length buffer → replayOn k s session at buffer count .status ≡ 0
+unfolding replayOn
+ends zero s session at buffer count calls h f r = refl
+ends (suc k) s session at buffer count [] h f r = rw h
+ends (suc k) s session at buffer count (start part ∷ cs) h f r =
+    let c = h .0 in
+    rw (c .inside, c .byte, c .within, c .handed, room-for buffer count (omega arith))
+    (ends k s (startStep session part .session) (at + 3 + length part) _ (count + 1) cs (h .1) (omega arith) (room-left buffer count (startStep session part .answer) (length cs) r))
+ends (suc k) s session at buffer count (path part ∷ cs) h f r =
+    let c = h .0 in
+    rw (c .inside, c .byte, c .within, c .handed, room-for buffer count (omega arith))
+    (ends k s (pathStep session part .session) (at + 3 + length part) _ (count + 1) cs (h .1) (omega arith) (room-left buffer count (pathStep session part .answer) (length cs) r))
+ends (suc k) s session at buffer count (close ∷ cs) h f r =
+    let c = h .0 in
+    rw (c .inside, c .byte, room-for buffer count (omega arith))
+    (ends k s session (at + 1) _ (count + 1) cs (h .1) (omega arith) (room-left buffer count (closeStep session .answer) (length cs) r))
+
+pub script-replies : ScriptReplies
+script-replies P calls buffer p f r =
+    let s = scriptBytes P calls in
+    let answers = opening P .answer ∷ answersOf (opening P .session) calls in
+    let e = scripts-encode P calls p f in
+    let t = scripts-replay s buffer 2 (2 + length P) (e .plan-at) in
+    let told : scriptAnswers s 2 (2 + length P) ≡ answers = rw (e .plan, e .calls-behind) in
+    let n = answers-many (opening P .session) calls in
+    let all : take (length buffer / 8) answers ≡ answers = take-all (length buffer / 8) answers (omega arith) in
+    let b = t .buffer-then ∙ ap (λ (l : List Answer). overwritten buffer 0 (listBytes answerBytes l)) (ap (take (length buffer / 8)) told ∙ all) in
+    let c : replayOf s buffer .count ≡ suc (length calls) = omega (arith, t .count, ap length told) in
+    let z : replayOf s buffer .status ≡ 0 = rw (e .plan-at, room-for buffer 0 (omega arith), e .plan)
+    (ends (length s) s (opening P .session) (2 + length P) (withAnswer buffer 0 (opening P .answer)) 1 calls (script-has P calls) (script-long P calls)
+    (room-left buffer 0 (opening P .answer) (length calls) (omega arith))) in
+    λ i. reply (b i) (c i) (z i)
