@@ -3,10 +3,10 @@ pub mod Demands
 pub mod Demand1
 pub mod Answers
 pub mod Checking
-pub mod Decimal
-pub mod Printed
 pub mod Sessions
 pub mod Replay
 pub mod Scripts
 pub mod Exports
 pub mod Lines
+pub mod Decimal
+pub mod Printed
