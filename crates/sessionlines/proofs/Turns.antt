@@ -2,7 +2,7 @@
 use Prim.Native.Nat.{ℕ, _+_, _<_, _≤_}
 use mathlib.Core.List.{List, []}
 use mathlib.Core.Bool.{Bool, true, false, cond, _||_}
-use mathlib.Core.Path.{_≡_, refl, ap, _∙_}
+use mathlib.Core.Path.{_≡_, refl, ap, subst}
 use native.Mathlib.Omega.{arith}
 use lib.Dec.{eqb}
 use lib.ListN.{length, getD}
@@ -16,25 +16,25 @@ use Rattle.script.specs.declared.Part.the-variants.{Within, Cut}
 use Rattle.script.specs.Script.{partAt}
 use Rattle.script.specs.Replay.{onPart, partOf, stepOf}
 use Rattle.script.proofs.Parts.{part-within}
-use Rattle.lines.specs.Lines.{tooLong, written}
-use Rattle.lines.proofs.Put.{Put}
+use Rattle.lines.specs.Lines.{tooLong, written, longest}
+use Rattle.lines.proofs.Put.{Lined}
 use Rattle.sessionlines.specs.declared.Turn.{Turn}
 use Rattle.sessionlines.specs.Lines.{scriptLimit, Printed, printed, cutShort, unknownCall, answerLine, stepTurn, openTurn, callTurn, turnIn}
 
--- what the code answers to a turn, and the buffer then
+-- what the code answers to a turn, and the buffer then; LONGEST bytes are enough for the line
 abbrev pub Said : List ℕ → Printed → Turn → List ℕ → Type 0
-Said buffer t r out = (r ≡ turnIn buffer t) × (out ≡ written buffer 0 (t .bytes))
+Said buffer t r out = (r ≡ turnIn buffer t) × ((out ≡ written buffer 0 (t .bytes)) × (length (t .bytes) ≤ longest))
 
 module _ (buffer : List ℕ) where
-  pub said : (bytes : List ℕ) (session : Session) (at : ℕ) {len : ℕ} {out : List ℕ} → Put buffer 0 bytes len out
+  pub said : (bytes : List ℕ) (session : Session) (at : ℕ) {len : ℕ} {out : List ℕ} → Lined buffer 0 bytes len out
       → Said buffer (printed bytes session at) (record { session = session; at = at; len = len }) out
   said bytes session at p = (ap (λ (n : ℕ). record { session = session; at = at; len = n }) (p .0), p .1)
 
   pub said-as : {t u : Printed} → t ≡ u → {r : Turn} {out : List ℕ} → Said buffer t r out → Said buffer u r out
-  said-as e p = (p .0 ∙ ap (turnIn buffer) e, p .1 ∙ ap (λ (u : Printed). written buffer 0 (u .bytes)) e)
+  said-as e {r} {out} p = subst (λ (u : Printed). Said buffer u r out) e p
 
-  pub said-put : (t : Printed) {r : Turn} {out : List ℕ} → Said buffer t r out → Put buffer 0 (t .bytes) (r .len) out
-  said-put t p = (ap (λ (r : Turn). r .len) (p .0), p .1)
+  pub said-lined : (t : Printed) {r : Turn} {out : List ℕ} → Said buffer t r out → Lined buffer 0 (t .bytes) (r .len) out
+  said-lined t p = (ap (λ (r : Turn). r .len) (p .0), p .1)
 
 -- the opening
 module _ (s : List ℕ) where
