@@ -1,21 +1,23 @@
--- The bytes by the case; the certificate's length counts bytes of its buffer. Assumes nothing.
+-- The bytes by the case; the certificate's length counts bytes of its buffer, and all has room. Assumes nothing.
 use Prim.Native.Nat.{ℕ, _-_, _<_, _≤_}
-use mathlib.Core.List.{List}
+use mathlib.Core.List.{List, _++_}
 use mathlib.Core.Path.{_≡_, refl, sym, ap, _∙_}
 use native.Mathlib.Omega.{arith}
-use lib.ListN.{length, take}
+use lib.ListN.{length, take, length-replicate}
 use lib.Seq.{length-take-le}
 use borrow.Author.Tests.{lt-ltb, le-ltb}
 use Rattle.record.specs.Number.{numberBytes, listBytes}
 use Rattle.record.specs.Read.{Bytes}
-use Rattle.record.specs.Write.{overwritten}
 use Rattle.record.specs.declared.Answer.{Answer}
+use Rattle.record.specs.declared.Answer.the-variants.{Grade}
 use Rattle.record.proofs.Write.{overwritten-length}
 use Rattle.certifier.specs.declared.Made.{Made}
-use Rattle.certifier.specs.Made.{made, madeFrom, filledFrom, draftFrom}
+use Rattle.certifier.specs.Made.{roomAsked, made, madeFrom, filledFrom, draftFrom}
 use Rattle.certifier.proofs.Drafts.{made-room, made-done}
-use Rattle.lines.specs.Lines.{tooLong, refusalLine}
-use Rattle.certifybytes.specs.Bytes.{inputLimit, zeros, madeBytes, certifyBytes}
+use Rattle.lines.specs.Lines.{tooLong, refusalLine, placeAfter, written}
+use Rattle.lines.proofs.Put.{Put, put-as}
+use Rattle.certifybytes.specs.Bytes.{inputLimit, room, zeros, madeBytes, certifyBytes}
+use Rattle.certifybytes.proofs.Lengths.{made-short}
 
 module _ (s : List ℕ) where
   pub long-bytes : inputLimit < length s → tooLong ≡ certifyBytes s
@@ -31,11 +33,26 @@ module _ (s : List ℕ) where
     pub refused-bytes : length s ≤ inputLimit → {a : Answer} → m .answer ≡ a → refusalLine a ≡ madeBytes s a (take (m .length) out) → refusalLine (m .answer) ≡ certifyBytes s
     refused-bytes h f r = ap refusalLine f ∙ r ∙ made-bytes h f
 
-    pub made-counts : Bytes s → (m .length ≤ length out) × (m .length ≡ length (take (m .length) out))
-    made-counts b =
+    made-within : Bytes s → (m .length ≤ roomAsked) × (length out ≡ roomAsked)
+    made-within b =
         let d = draftFrom s (length zeros) in
         let r = made-room s zeros b {d = d} refl .0 in
         let t = made-done s zeros b {d = d} refl refl refl in
-        let z : length out ≡ length zeros = ap length (e .1 ∙ sym (t .1)) ∙ overwritten-length zeros 0 (listBytes numberBytes (take (d .count - 0) (d .items))) (omega (arith, r)) in
-        let l : m .length ≤ length out = omega (arith, r, z, ap (λ (x : Made). x .length) (e .0 ∙ sym (t .0))) in
+        let l : length zeros ≡ roomAsked = length-replicate {A = ℕ} roomAsked 0 in (
+          omega (arith, r, l, ap (λ (x : Made). x .length) (e .0 ∙ sym (t .0))),
+          ap length (e .1 ∙ sym (t .1)) ∙ overwritten-length zeros 0 (listBytes numberBytes (take (d .count - 0) (d .items))) (omega (arith, r)) ∙ l,
+        )
+
+    pub made-counts : Bytes s → (m .length ≤ length out) × (m .length ≡ length (take (m .length) out))
+    made-counts b =
+        let w = made-within b in
+        let l : m .length ≤ length out = omega (arith, w) in
         (l, sym (length-take-le (m .length) out l))
+
+    pub made-fits : Bytes s → (k : ℕ) → m .answer ≡ Grade k → length (s ++ take (m .length) out) ≤ room
+    made-fits b k f = made-short s (take (m .length) out) k b (ap (λ (x : Made). x .answer) (sym (e .0)) ∙ f) (omega (arith, made-within b, made-counts b))
+
+-- what is put has room
+pub put-short : (buffer : List ℕ) {xs ys : List ℕ} → xs ≡ ys → {next : ℕ} {out : List ℕ} → Put buffer 0 xs next out → length xs ≤ room
+    → (next ≡ placeAfter buffer 0 ys) × ((out ≡ written buffer 0 ys) × (length ys ≤ room))
+put-short buffer {xs} {ys} e p l = let q = put-as buffer 0 e p in (q .0, (q .1, omega (arith, l, ap length e)))

@@ -1,17 +1,22 @@
 -- WHAT THE MAKER'S PROGRAM PRINTS, as a function of the bytes that it reads.
-use Prim.Native.Nat.{ℕ}
+use Prim.Native.Nat.{ℕ, _+_, _*_}
 use mathlib.Core.List.{List, _++_}
 use mathlib.Core.Bool.{cond}
 use lib.ListN.{length, take, replicate}
 use lib.Dec.{ltb}
 use Rattle.record.specs.declared.Answer.{Answer}
 use Rattle.record.specs.declared.Answer.the-variants.{Accepted, Grade, PlanFault, CertificateFault}
+use Rattle.graph.specs.Limits.{maxEdges}
 use Rattle.certifier.specs.Made.{roomAsked, madeFrom, filledFrom}
 use Rattle.lines.specs.Lines.{tooLong, refusalLine}
 
 -- the longest input, in bytes
 abbrev pub inputLimit : ℕ
 inputLimit = 4096
+
+-- an accepted plan has two numbers of two bytes at most, and two vertices of a byte for each edge; its certificate stands behind it
+abbrev pub room : ℕ
+room = 4 + 2 * maxEdges + roomAsked
 
 -- the plan and behind it the certificate; else the line of the refusal
 abbrev pub madeBytes : List ℕ → Answer → List ℕ → List ℕ

@@ -1,19 +1,28 @@
 // What the maker's program prints, written into a lent buffer.
 ghost use mathlib.Core.Path.{_≡_};
+ghost use Prim.Native.Nat.{_≤_};
+ghost use lib.ListN.{length};
 ghost use Rattle.lines.specs.Lines.{placeAfter, written};
-ghost use Rattle.certifybytes.specs.Bytes.{certifyBytes};
+ghost use Rattle.certifybytes.specs.Bytes.{room, certifyBytes};
 use certifier::Made;
+use graph::GraphTable;
 use record::Answer;
 
-// the longest input, and room for all that is printed, in bytes
+// the longest input, in bytes
 pub const LIMIT: usize = 4096;
 
-pub const ROOM: usize = LIMIT + Made::ROOM;
+// An accepted plan has two numbers of two bytes at most, and two vertices of a byte for each edge.
+const PLAN_ROOM: usize = 4 + 2 * GraphTable::MAX_EDGES as usize;
+
+// room for all that is printed
+pub const ROOM: usize = PLAN_ROOM + Made::ROOM;
 
 // Writes the bytes at the start of the buffer and answers how many; where they have no room, nothing is written, and the answer is 0.
+// A buffer of ROOM bytes has room for them.
 pub fn bytes<'a>(input: &'a [u8], out: &'a mut [u8]) -> usize
     ensures { λ r. ⌜ r ≡ placeAfter (now (out .entry)) 0 (certifyBytes (now (input .entry))) ⌝ }
     ensures { λ r. ⌜ now (out .exit) ≡ written (now (out .entry)) 0 (certifyBytes (now (input .entry))) ⌝ }
+    ensures { λ r. ⌜ length (certifyBytes (now (input .entry))) ≤ room ⌝ }
 {
     if LIMIT < input.len() {
         return lines::put_bytes(out, 0, b"input too long\n");

@@ -2,7 +2,7 @@
 use Prim.Native.Nat.{ℕ, _+_, _≤_, _<_}
 use mathlib.Core.List.{List, [], _++_, append-assoc}
 use mathlib.Core.Bool.{Bool, true, false}
-use mathlib.Core.Path.{_≡_, refl, sym, ap, _∙_}
+use mathlib.Core.Path.{_≡_, refl, sym, ap, subst, _∙_}
 use native.Mathlib.Numerals.{add-one}
 use native.Mathlib.Omega.{arith}
 use lib.ListN.{length, take, drop, getD, set, length-append, length-set}
@@ -11,7 +11,7 @@ use borrow.Author.Tests.{le-leb, lt-leb, leb-true}
 use Rattle.io.specs.Counts.{Counts}
 use Rattle.record.specs.Write.{overwritten, hasRoom}
 use Rattle.record.proofs.Write.{overwritten-none, overwritten-length, both-room, both-put}
-use Rattle.lines.specs.Lines.{placeAfter, written}
+use Rattle.lines.specs.Lines.{placeAfter, written, longest}
 
 -- what is put, with the place behind it
 abbrev pub Put : List ℕ → ℕ → List ℕ → ℕ → List ℕ → Type 0
@@ -88,6 +88,17 @@ put-more buffer at xs ys h {mid} {next} {out} {last} p q =
     let b = both-put buffer at xs r ys t u in
     (b .0 ∙ rw (room buffer at (xs ++ ys) h), b .1 ∙ rw (room buffer at (xs ++ ys) h))
 
+-- a line that is put, and that has room in every buffer that a program lends
+abbrev pub Lined : List ℕ → ℕ → List ℕ → ℕ → List ℕ → Type 0
+Lined buffer at line next out = (next ≡ placeAfter buffer at line) × ((out ≡ written buffer at line) × (length line ≤ longest))
+
+module _ (buffer : List ℕ) (at : ℕ) {next : ℕ} {out : List ℕ} where
+  pub lined : (line : List ℕ) → Put buffer at line next out → length line ≤ longest → Lined buffer at line next out
+  lined line p l = (p .0, (p .1, l))
+
+  pub lined-as : {xs ys : List ℕ} → xs ≡ ys → Lined buffer at xs next out → Lined buffer at ys next out
+  lined-as e p = subst (λ (line : List ℕ). Lined buffer at line next out) e p
+
 -- a text put piece by piece
 pub data Puts (buffer : List ℕ) (at : ℕ) : List ℕ → ℕ → List ℕ → Type 0 where
   none : Puts buffer at [] at buffer
@@ -117,3 +128,7 @@ begins {buffer} {text} {next} {last} t h =
     let c = put-counts buffer 0 text p (omega arith) in
     let q = put-told buffer 0 text r p in
     record { within = c .0; long = c .1; front = rw (q .0, q .1, z) (take-at text (drop (length text) buffer) (length text) refl) }
+
+-- what a program writes is the whole line
+pub lined-begins : (buffer line : List ℕ) {next : ℕ} {last : List ℕ} → longest ≤ length buffer → Lined buffer 0 line next last → Begins line next last
+lined-begins buffer line h p = begins {buffer = buffer} (Puts.more Puts.none line (p .0, p .1 .0)) (omega (arith, h, p .1 .1))

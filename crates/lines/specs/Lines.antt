@@ -61,6 +61,10 @@ tooLong = 105 ∷ 110 ∷ 112 ∷ 117 ∷ 116 ∷ 32 ∷ 116 ∷ 111 ∷ 111 ∷
 abbrev pub sizeText : ℕ → ℕ → List ℕ
 sizeText n m = boxesWord ++ decimal n ++ cablesWord ++ decimal m
 
+-- a buffer that has room for every line
+abbrev pub longest : ℕ
+longest = 48
+
 -- the place behind bytes put at a place of a buffer, and the buffer then: both as they were where the bytes have no room
 abbrev pub placeAfter : List ℕ → ℕ → List ℕ → ℕ
 placeAfter buffer at bytes = cond (hasRoom buffer at bytes) (at + length bytes) at

@@ -3,7 +3,7 @@ ghost use mathlib.Core.Path.{_≡_};
 ghost use mathlib.Core.List.{_++_};
 ghost use Prim.Native.Nat.{_≤_};
 ghost use lib.ListN.{length};
-ghost use Rattle.lines.specs.Lines.{decimal, faultLine, refusalLine, sizeText, placeAfter, written};
+ghost use Rattle.lines.specs.Lines.{decimal, faultLine, refusalLine, sizeText, placeAfter, written, longest};
 use record::Answer;
 
 // No line that a program prints is longer.
@@ -80,6 +80,7 @@ fn put_fault<'a>(out: &'a mut [u8], at: usize, who: &'a [u8], number: u8, place:
     requires { ⌜ length (now who) ≤ 11 ⌝ }
     ensures { λ r. ⌜ r ≡ placeAfter (now (out .entry)) at (faultLine (now (who .entry)) number place) ⌝ }
     ensures { λ r. ⌜ now (out .exit) ≡ written (now (out .entry)) at (faultLine (now (who .entry)) number place) ⌝ }
+    ensures { λ r. ⌜ length (faultLine (now (who .entry)) number place) ≤ longest ⌝ }
 {
     let mut line = [0u8; LONGEST];
     let a = put_bytes(&mut line, 0, who);
@@ -89,10 +90,11 @@ fn put_fault<'a>(out: &'a mut [u8], at: usize, who: &'a [u8], number: u8, place:
     put_bytes(out, at, &line[..end])
 }
 
-// The line of a refusal; an answer that refuses nothing has none.
+// The line of a refusal, which is never longer than LONGEST; an answer that refuses nothing has none.
 pub fn put_refusal(out: &mut [u8], at: usize, answer: Answer) -> usize
     ensures { λ r. ⌜ r ≡ placeAfter (now (out .entry)) at (refusalLine answer) ⌝ }
     ensures { λ r. ⌜ now (out .exit) ≡ written (now (out .entry)) at (refusalLine answer) ⌝ }
+    ensures { λ r. ⌜ length (refusalLine answer) ≤ longest ⌝ }
 {
     match answer {
         Answer::Accepted => at,

@@ -1,12 +1,12 @@
--- A turn by its case; every call moves on in the script. Assumes nothing.
-use Prim.Native.Nat.{ℕ, _+_, _<_, _≤_}
-use mathlib.Core.List.{List, []}
+-- A turn by its case; every call moves on in the script, so no line is left out. Assumes nothing.
+use Prim.Native.Nat.{ℕ, zero, suc, _+_, _<_, _≤_}
+use mathlib.Core.List.{List, [], _++_}
 use mathlib.Core.Bool.{Bool, true, false, cond, _||_}
-use mathlib.Core.Path.{_≡_, refl, ap, _∙_}
+use mathlib.Core.Path.{_≡_, refl, sym, ap, subst, _∙_}
 use native.Mathlib.Omega.{arith}
-use lib.Dec.{eqb}
+use lib.Dec.{leb, eqb}
 use lib.ListN.{length, getD}
-use borrow.Author.Tests.{lt-ltb, le-ltb, le-leb, lt-leb, eq-eqb, ne-eqb}
+use borrow.Author.Tests.{lt-ltb, le-ltb, le-leb, lt-leb, leb-true, leb-false, eq-eqb, ne-eqb}
 use Rattle.sessions.specs.declared.Session.{Session}
 use Rattle.sessions.specs.declared.Opened.{Opened}
 use Rattle.sessions.specs.declared.Stepped.{Stepped}
@@ -16,25 +16,25 @@ use Rattle.script.specs.declared.Part.the-variants.{Within, Cut}
 use Rattle.script.specs.Script.{partAt}
 use Rattle.script.specs.Replay.{onPart, partOf, stepOf}
 use Rattle.script.proofs.Parts.{part-within}
-use Rattle.lines.specs.Lines.{tooLong, written}
-use Rattle.lines.proofs.Put.{Put}
+use Rattle.lines.specs.Lines.{tooLong, written, longest}
+use Rattle.lines.proofs.Put.{Lined}
 use Rattle.sessionlines.specs.declared.Turn.{Turn}
-use Rattle.sessionlines.specs.Lines.{scriptLimit, Printed, printed, cutShort, unknownCall, answerLine, stepTurn, openTurn, callTurn, turnIn}
+use Rattle.sessionlines.specs.Lines.{scriptLimit, Printed, printed, cutShort, unknownCall, answerLine, stepTurn, openTurn, callTurn, turnIn, linesFrom}
 
--- what the code answers to a turn, and the buffer then
+-- what the code answers to a turn, and the buffer then; LONGEST bytes are enough for the line
 abbrev pub Said : List ℕ → Printed → Turn → List ℕ → Type 0
-Said buffer t r out = (r ≡ turnIn buffer t) × (out ≡ written buffer 0 (t .bytes))
+Said buffer t r out = (r ≡ turnIn buffer t) × ((out ≡ written buffer 0 (t .bytes)) × (length (t .bytes) ≤ longest))
 
 module _ (buffer : List ℕ) where
-  pub said : (bytes : List ℕ) (session : Session) (at : ℕ) {len : ℕ} {out : List ℕ} → Put buffer 0 bytes len out
+  pub said : (bytes : List ℕ) (session : Session) (at : ℕ) {len : ℕ} {out : List ℕ} → Lined buffer 0 bytes len out
       → Said buffer (printed bytes session at) (record { session = session; at = at; len = len }) out
   said bytes session at p = (ap (λ (n : ℕ). record { session = session; at = at; len = n }) (p .0), p .1)
 
   pub said-as : {t u : Printed} → t ≡ u → {r : Turn} {out : List ℕ} → Said buffer t r out → Said buffer u r out
-  said-as e p = (p .0 ∙ ap (turnIn buffer) e, p .1 ∙ ap (λ (u : Printed). written buffer 0 (u .bytes)) e)
+  said-as e {r} {out} p = subst (λ (u : Printed). Said buffer u r out) e p
 
-  pub said-put : (t : Printed) {r : Turn} {out : List ℕ} → Said buffer t r out → Put buffer 0 (t .bytes) (r .len) out
-  said-put t p = (ap (λ (r : Turn). r .len) (p .0), p .1)
+  pub said-lined : (t : Printed) {r : Turn} {out : List ℕ} → Said buffer t r out → Lined buffer 0 (t .bytes) (r .len) out
+  said-lined t p = (ap (λ (r : Turn). r .len) (p .0), p .1)
 
 -- the opening
 module _ (s : List ℕ) where
@@ -91,3 +91,32 @@ module _ (s : List ℕ) (session : Session) (at : ℕ) where
         go true d = omega arith
         go false true = parted (partAt s (at + 1)) refl
         go false false = h
+
+-- at the script's end nothing more is printed
+pub lines-ended : (k : ℕ) (s : List ℕ) (session : Session) (at : ℕ) → length s ≤ at → linesFrom k s session at ≡ []
+unfolding linesFrom
+lines-ended zero s session at h = refl
+lines-ended (suc k) s session at h = rw (← call-none s session at h) (lines-ended k s session at h)
+
+one-turn : (k : ℕ) (s : List ℕ) (session : Session) (at : ℕ)
+    → linesFrom (suc k) s session at ≡ callTurn s session at .bytes ++ linesFrom k s (callTurn s session at .session) (callTurn s session at .at)
+unfolding linesFrom
+one-turn k s session at = refl
+
+-- as many turns as there are bytes left are enough: more print the same
+pub lines-enough : (k j : ℕ) (s : List ℕ) (session : Session) (at : ℕ) → length s ≤ at + k → length s ≤ at + j → linesFrom k s session at ≡ linesFrom j s session at
+lines-enough zero j s session at h i = let e : length s ≤ at = omega arith in lines-ended zero s session at e ∙ sym (lines-ended j s session at e)
+lines-enough (suc k) zero s session at h i = let e : length s ≤ at = omega arith in lines-ended (suc k) s session at e ∙ sym (lines-ended zero s session at e)
+lines-enough (suc k) (suc j) s session at h i = go (leb (length s) at) refl (λ m. lines-enough k j s (callTurn s session at .session) (callTurn s session at .at) (omega (arith, h, m)) (omega (arith, i, m)))
+  where
+    next : ℕ → List ℕ
+    next f = linesFrom f s (callTurn s session at .session) (callTurn s session at .at)
+
+    go : (b : Bool) → leb (length s) at ≡ b → (at < callTurn s session at .at → next k ≡ next j) → linesFrom (suc k) s session at ≡ linesFrom (suc j) s session at
+    go true e r =
+        let l : length s ≤ at = leb-true (length s) at e in
+        lines-ended (suc k) s session at l ∙ sym (lines-ended (suc j) s session at l)
+    go false e r =
+        one-turn k s session at
+        ∙ ap (λ (l : List ℕ). callTurn s session at .bytes ++ l) (r (call-on s session at (leb-false (length s) at e)))
+        ∙ sym (one-turn j s session at)

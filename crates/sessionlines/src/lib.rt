@@ -2,8 +2,9 @@
 ghost use mathlib.Core.Path.{_≡_};
 ghost use Prim.Native.Nat.{_-_, _≤_};
 ghost use mathlib.Core.List.{_++_};
+ghost use lib.ListN.{length};
 ghost use Rattle.script.specs.Replay.{stepOf};
-ghost use Rattle.lines.specs.Lines.{decimal, newline, placeAfter, written};
+ghost use Rattle.lines.specs.Lines.{decimal, newline, placeAfter, written, longest};
 ghost use Rattle.sessionlines.specs.Lines.{answerLine, stepLine, printed, stepTurn, openTurn, callTurn, turnIn};
 use record::Answer;
 use script::Part;
@@ -21,8 +22,10 @@ pub struct Turn {
 
 // A label, a number and the line's end.
 fn put_number<'a>(out: &'a mut [u8], label: &'a [u8], n: u64) -> usize
+    requires { ⌜ length (now label) ≤ 9 ⌝ }
     ensures { λ r. ⌜ r ≡ placeAfter (now (out .entry)) 0 (now (label .entry) ++ decimal n ++ newline) ⌝ }
     ensures { λ r. ⌜ now (out .exit) ≡ written (now (out .entry)) 0 (now (label .entry) ++ decimal n ++ newline) ⌝ }
+    ensures { λ r. ⌜ length (now (label .entry) ++ decimal n ++ newline) ≤ longest ⌝ }
 {
     let mut text = [0u8; 21];
     let a = lines::put_decimal(&mut text, 0, n);
@@ -33,6 +36,7 @@ fn put_number<'a>(out: &'a mut [u8], label: &'a [u8], n: u64) -> usize
 fn put_answer(out: &mut [u8], answer: Answer) -> usize
     ensures { λ r. ⌜ r ≡ placeAfter (now (out .entry)) 0 (answerLine answer) ⌝ }
     ensures { λ r. ⌜ now (out .exit) ≡ written (now (out .entry)) 0 (answerLine answer) ⌝ }
+    ensures { λ r. ⌜ length (answerLine answer) ≤ longest ⌝ }
 {
     match answer {
         Answer::Accepted => lines::put_bytes(out, 0, b"accepted\n"),
@@ -45,6 +49,7 @@ fn put_answer(out: &mut [u8], answer: Answer) -> usize
 fn put_step(out: &mut [u8], unread: usize, answer: Answer) -> usize
     ensures { λ r. ⌜ r ≡ placeAfter (now (out .entry)) 0 (stepLine unread answer) ⌝ }
     ensures { λ r. ⌜ now (out .exit) ≡ written (now (out .entry)) 0 (stepLine unread answer) ⌝ }
+    ensures { λ r. ⌜ length (stepLine unread answer) ≤ longest ⌝ }
 {
     match answer {
         Answer::Accepted => put_number(out, b"accepted ", unread as u64),
@@ -65,8 +70,10 @@ fn unread(size: usize, read: usize) -> usize
 
 // A turn whose line is known.
 fn say<'a>(line: &'a [u8], session: Session, at: usize, out: &'a mut [u8]) -> Turn
+    requires { ⌜ length (now line) ≤ longest ⌝ }
     ensures { λ r. ⌜ r ≡ turnIn (now (out .entry)) (printed (now (line .entry)) session at) ⌝ }
     ensures { λ r. ⌜ now (out .exit) ≡ written (now (out .entry)) 0 (now (line .entry)) ⌝ }
+    ensures { λ r. ⌜ length (now (line .entry)) ≤ longest ⌝ }
 {
     let len = lines::put_bytes(out, 0, line);
     Turn { session, at, len }
@@ -84,6 +91,7 @@ fn step<'a>(
     requires { ⌜ start ≤ end ⌝ }
     ensures { λ r. ⌜ r ≡ turnIn (now (out .entry)) (stepTurn (stepOf call session (now (part .entry))) start end) ⌝ }
     ensures { λ r. ⌜ now (out .exit) ≡ written (now (out .entry)) 0 (stepTurn (stepOf call session (now (part .entry))) start end .bytes) ⌝ }
+    ensures { λ r. ⌜ length (stepTurn (stepOf call session (now (part .entry))) start end .bytes) ≤ longest ⌝ }
 {
     let stepped = script::step(session, call, part);
     let answer = stepped.answer;
@@ -98,9 +106,11 @@ fn step<'a>(
 }
 
 // Each function writes its line at the start of the buffer; where the line has no room, nothing is written, and the length is 0.
+// A buffer of lines::LONGEST bytes has room for every line.
 pub fn open<'a>(script: &'a [u8], out: &'a mut [u8]) -> Turn
     ensures { λ r. ⌜ r ≡ turnIn (now (out .entry)) (openTurn (now (script .entry))) ⌝ }
     ensures { λ r. ⌜ now (out .exit) ≡ written (now (out .entry)) 0 (openTurn (now (script .entry)) .bytes) ⌝ }
+    ensures { λ r. ⌜ length (openTurn (now (script .entry)) .bytes) ≤ longest ⌝ }
 {
     if LIMIT < script.len() {
         return say(b"input too long\n", Session::none(), script.len(), out);
@@ -124,6 +134,7 @@ pub fn open<'a>(script: &'a [u8], out: &'a mut [u8]) -> Turn
 pub fn call<'a>(script: &'a [u8], session: Session, at: usize, out: &'a mut [u8]) -> Turn
     ensures { λ r. ⌜ r ≡ turnIn (now (out .entry)) (callTurn (now (script .entry)) session at) ⌝ }
     ensures { λ r. ⌜ now (out .exit) ≡ written (now (out .entry)) 0 (callTurn (now (script .entry)) session at .bytes) ⌝ }
+    ensures { λ r. ⌜ length (callTurn (now (script .entry)) session at .bytes) ≤ longest ⌝ }
 {
     if script.len() <= at {
         return Turn {

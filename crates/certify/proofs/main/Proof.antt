@@ -1,7 +1,7 @@
--- `certify::main` is safe and ends. Assumes nothing.
+-- `certify::main` is safe and ends; what it writes are all the bytes. Assumes nothing.
 use lib.ListN.{take, replicate}
 use native.Mathlib.Omega.{arith}
-use Rattle.lines.proofs.Put.{put-counts}
+use Rattle.lines.proofs.Put.{Puts.none, Puts.more, begins}
 use Rattle.certifybytes.specs.Bytes.{certifyBytes}
 use borrow.Author.Needs.{needs}
 use Rattle.certify.proofs.main.Statement.{statement}
@@ -10,12 +10,14 @@ use Rattle.certify.proofs.main.Tie as tie
 array-share-prefix-out : tie.Need-array-share-prefix-out
 array-share-prefix-out c =
     let r = c .before in
-    put-counts (replicate 5632 0) 0 (certifyBytes (take (r .before .before .before .before .read-full .result) (r .before .before .before .before .read-full .last .1 .0))) (r .bytes .ensures) (omega arith) .0
+    let e = r .bytes .ensures in
+    begins {buffer = replicate 2564 0} (more none (certifyBytes (take (r .before .before .before .before .read-full .result) (r .before .before .before .before .read-full .last .1 .0))) (e .0, e .1 .0)) (e .1 .1) .within
 
 slice-aggregate-write-all : tie.Need-slice-aggregate-write-all
 slice-aggregate-write-all c =
     let r = c .before .before in
-    put-counts (replicate 5632 0) 0 (certifyBytes (take (r .before .before .before .before .read-full .result) (r .before .before .before .before .read-full .last .1 .0))) (r .bytes .ensures) (omega arith) .1
+    let e = r .bytes .ensures in
+    begins {buffer = replicate 2564 0} (more none (certifyBytes (take (r .before .before .before .before .read-full .result) (r .before .before .before .before .read-full .last .1 .0))) (e .0, e .1 .0)) (e .1 .1) .long
 
 pub main-spec : {M : Type 1} → statement M
 main-spec =

@@ -3,7 +3,7 @@ use lib.ListN.{replicate}
 use native.Mathlib.Omega.{arith}
 use Rattle.record.specs.declared.Answer.the-variants.{Grade}
 use Rattle.lines.specs.Lines.{decimal, gradeWord, newline, sizeText}
-use Rattle.lines.proofs.Put.{Puts.none, Puts.more, Begins, more-both, begins}
+use Rattle.lines.proofs.Put.{Puts.none, Puts.more, Begins, more-both, begins, lined}
 use Rattle.gradeline.specs.Line.{gradedLine}
 use Rattle.gradeline.proofs.Cases.{graded-short}
 use borrow.Author.Needs.{needs}
@@ -36,7 +36,11 @@ slice-aggregate-put-bytes-3 : tie.Need-slice-aggregate-put-bytes-3
 slice-aggregate-put-bytes-3 c = text (c .before) .long
 
 returns : tie.Need-returns
-returns c = rw (text (c .before .before .before .before) .front) at (c .before .before .put-bytes2 .ensures)
+returns c =
+    let s = c .before .before .before .before .before .before .before .before .before .before .before .before .before .before .before .before .before in
+    let a = s .args in
+    let l = graded-short (a .n) (a .m) (a .grade) (omega (arith, s .fits)) (omega (arith, s .fits)) (omega (arith, s .fits)) in
+    lined (a .out .now) 0 (gradedLine (Grade (a .grade)) (a .n) (a .m)) (rw (text (c .before .before .before .before) .front) at (c .before .before .put-bytes2 .ensures)) l
 
 pub put-grade-spec : {M : Type 1} → statement M
 put-grade-spec =

@@ -3,7 +3,7 @@ use lib.ListN.{replicate}
 use native.Mathlib.Omega.{arith}
 use Rattle.lines.specs.Lines.{decimal, refusedWord, atWord, newline, faultLine}
 use Rattle.lines.proofs.Lengths.{fault-short}
-use Rattle.lines.proofs.Put.{Puts.none, Puts.more, Begins, more-both, begins}
+use Rattle.lines.proofs.Put.{Puts.none, Puts.more, Begins, more-both, begins, lined}
 use borrow.Author.Needs.{needs}
 use Rattle.lines.proofs.put_fault.Statement.{statement}
 use Rattle.lines.proofs.put_fault.Tie as tie
@@ -34,7 +34,11 @@ slice-aggregate-put-bytes-4 : tie.Need-slice-aggregate-put-bytes-4
 slice-aggregate-put-bytes-4 c = line (c .before) .long
 
 returns : tie.Need-returns
-returns c = rw (line (c .before .before .before .before) .front) at (c .before .before .put-bytes3 .ensures)
+returns c =
+    let s = c .before .before .before .before .before .before .before .before .before .before .before .before .before .before .before .before .before .before .before .before .before .before in
+    let a = s .args in
+    let l = fault-short (a .who .now) (a .number) (a .place) (omega (arith, s .pre)) (omega (arith, s .fits)) (omega (arith, s .fits)) in
+    lined (a .out .now) (a .at) (faultLine (a .who .now) (a .number) (a .place)) (rw (line (c .before .before .before .before) .front) at (c .before .before .put-bytes3 .ensures)) l
 
 pub put-fault-spec : {M : Type 1} → statement M
 put-fault-spec =

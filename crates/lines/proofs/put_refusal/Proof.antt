@@ -1,5 +1,7 @@
 -- `lines::put_refusal` meets its contract. Assumes nothing.
-use Rattle.lines.proofs.Put.{put-none}
+use mathlib.Core.List.{[]}
+use native.Mathlib.Omega.{arith}
+use Rattle.lines.proofs.Put.{put-none, lined}
 use borrow.Author.Needs.{needs}
 use Rattle.lines.proofs.put_refusal.Statement.{statement}
 use Rattle.lines.proofs.put_refusal.Tie as tie
@@ -7,12 +9,12 @@ use Rattle.lines.proofs.put_refusal.Tie as tie
 returns : tie.Need-returns
 returns c =
     let a = c .before .before .before .args in
-    rw (c .enum-told .given .1) (put-none (a .out .now) (a .at))
+    rw (c .enum-told .given .1) (lined (a .out .now) (a .at) [] (put-none (a .out .now) (a .at)) (omega arith))
 
 returns-2 : tie.Need-returns-2
 returns-2 c =
     let a = c .before .before .before .args in
-    rw (c .enum-told2 .given .1) (put-none (a .out .now) (a .at))
+    rw (c .enum-told2 .given .1) (lined (a .out .now) (a .at) [] (put-none (a .out .now) (a .at)) (omega arith))
 
 returns-3 : tie.Need-returns-3
 returns-3 c =

@@ -3,7 +3,7 @@ use lib.ListN.{replicate}
 use native.Mathlib.Omega.{arith}
 use Rattle.record.specs.declared.Answer.the-variants.{Accepted}
 use Rattle.lines.specs.Lines.{newline, sizeText}
-use Rattle.lines.proofs.Put.{Puts.none, Puts.more, Begins, begins}
+use Rattle.lines.proofs.Put.{Puts.none, Puts.more, Begins, begins, lined}
 use Rattle.plan.specs.Line.{sizeLine}
 use Rattle.plan.proofs.Cases.{size-line-short}
 use borrow.Author.Needs.{needs}
@@ -33,7 +33,11 @@ slice-aggregate-put-bytes-3 : tie.Need-slice-aggregate-put-bytes-3
 slice-aggregate-put-bytes-3 c = text (c .before) .long
 
 returns : tie.Need-returns
-returns c = rw (text (c .before .before .before .before) .front) at (c .before .before .put-bytes2 .ensures)
+returns c =
+    let s = c .before .before .before .before .before .before .before .before .before .before .before .before .before in
+    let a = s .args in
+    let l = size-line-short (a .n) (a .m) (omega (arith, s .fits)) (omega (arith, s .fits)) in
+    lined (a .out .now) 0 (sizeLine Accepted (a .n) (a .m)) (rw (text (c .before .before .before .before) .front) at (c .before .before .put-bytes2 .ensures)) l
 
 pub put-size-spec : {M : Type 1} → statement M
 put-size-spec =

@@ -1,12 +1,12 @@
--- `session::main` is safe and ends: every call moves on in the script. Assumes nothing.
+-- `session::main` is safe and ends: every call moves on in the script; what it writes are whole lines. Assumes nothing.
 use Prim.Native.Nat.{_-_, _<_}
 use mathlib.Core.Path.{_≡_, ap, sym, _∙_}
 use lib.ListN.{length, take, replicate}
 use native.Mathlib.Omega.{arith}
-use Rattle.lines.proofs.Put.{put-length, put-counts}
+use Rattle.lines.proofs.Put.{put-length, lined-begins}
 use Rattle.sessionlines.specs.declared.Turn.{Turn}
 use Rattle.sessionlines.specs.Lines.{openTurn, callTurn}
-use Rattle.sessionlines.proofs.Turns.{said-put, call-on}
+use Rattle.sessionlines.proofs.Turns.{said-lined, call-on}
 use borrow.Author.Needs.{needs}
 use Rattle.session.proofs.main.Statement.{statement}
 use Rattle.session.proofs.main.Tie as tie
@@ -22,21 +22,22 @@ array-share-prefix-out c =
     let r = c .before in
     let f = r .before .before .before .before .read-full in
     let t = openTurn (take (f .result) (f .last .1 .0)) in
-    put-counts (replicate 48 0) 0 (t .bytes) (said-put (replicate 48 0) t (r .«open» .ensures)) (omega arith) .0
+    lined-begins (replicate 48 0) (t .bytes) (omega arith) (said-lined (replicate 48 0) t (r .«open» .ensures)) .within
 
 slice-aggregate-write-all : tie.Need-slice-aggregate-write-all Inv-loop μ-loop
 slice-aggregate-write-all c =
     let r = c .before .before in
     let f = r .before .before .before .before .read-full in
     let t = openTurn (take (f .result) (f .last .1 .0)) in
-    put-counts (replicate 48 0) 0 (t .bytes) (said-put (replicate 48 0) t (r .«open» .ensures)) (omega arith) .1
+    lined-begins (replicate 48 0) (t .bytes) (omega arith) (said-lined (replicate 48 0) t (r .«open» .ensures)) .long
 
 loop-holds : tie.Need-loop-holds Inv-loop μ-loop
 loop-holds c =
     let r = c .before .before .before in
     let f = r .before .before .before .before .read-full in
     let t = openTurn (take (f .result) (f .last .1 .0)) in
-    put-length (replicate 48 0) 0 (t .bytes) (said-put (replicate 48 0) t (r .«open» .ensures))
+    let e = said-lined (replicate 48 0) t (r .«open» .ensures) in
+    put-length (replicate 48 0) 0 (t .bytes) (e .0, e .1 .0)
 
 slice-aggregate-call-2 : tie.Need-slice-aggregate-call-2 Inv-loop μ-loop
 slice-aggregate-call-2 c = sym (c .before .before .before .before .loop .inv)
@@ -48,7 +49,7 @@ array-share-prefix-out-2 c =
     let k = r .before .before .before .before .before .loop in
     let s = take (f .result) (f .last .1 .0) in
     let t = callTurn s (k .turn .session) (k .turn .at) in
-    put-counts (k .out) 0 (t .bytes) (said-put (k .out) t (r .call .ensures)) (omega arith) .0
+    lined-begins (k .out) (t .bytes) (omega (arith, k .inv)) (said-lined (k .out) t (r .call .ensures)) .within
 
 slice-aggregate-write-all-2 : tie.Need-slice-aggregate-write-all-2 Inv-loop μ-loop
 slice-aggregate-write-all-2 c =
@@ -57,7 +58,7 @@ slice-aggregate-write-all-2 c =
     let k = r .before .before .before .before .before .loop in
     let s = take (f .result) (f .last .1 .0) in
     let t = callTurn s (k .turn .session) (k .turn .at) in
-    put-counts (k .out) 0 (t .bytes) (said-put (k .out) t (r .call .ensures)) (omega arith) .1
+    lined-begins (k .out) (t .bytes) (omega (arith, k .inv)) (said-lined (k .out) t (r .call .ensures)) .long
 
 loop-less : tie.Need-loop-less Inv-loop μ-loop
 loop-less c =
@@ -78,7 +79,8 @@ loop-again c =
     let k = r .before .before .before .before .before .loop in
     let s = take (f .result) (f .last .1 .0) in
     let t = callTurn s (k .turn .session) (k .turn .at) in
-    put-length (k .out) 0 (t .bytes) (said-put (k .out) t (r .call .ensures)) ∙ k .inv
+    let e = said-lined (k .out) t (r .call .ensures) in
+    put-length (k .out) 0 (t .bytes) (e .0, e .1 .0) ∙ k .inv
 
 pub main-spec : {M : Type 1} → statement M
 main-spec =

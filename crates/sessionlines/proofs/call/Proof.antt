@@ -4,7 +4,7 @@ use mathlib.Core.List.{[]}
 use Prim.Native.Nat.{_+_}
 use borrow.Author.Tests.{not-true, not-false}
 use Rattle.script.proofs.Parts.{part-within}
-use Rattle.lines.proofs.Put.{put-none}
+use Rattle.lines.proofs.Put.{put-none, lined}
 use Rattle.sessionlines.specs.Lines.{answerLine}
 use Rattle.sessionlines.proofs.Turns.{said, said-as, call-none, call-close, call-unknown, call-cut, call-part}
 use borrow.Author.Needs.{needs}
@@ -14,7 +14,7 @@ use Rattle.sessionlines.proofs.call.Tie as tie
 returns : tie.Need-returns
 returns c =
     let a = c .before .before .before .args in
-    said-as (a .out .now) (call-none (a .script .now) (a .session) (a .at) (c .if1 .taken)) (said (a .out .now) [] (a .session) (a .at) (put-none (a .out .now) 0))
+    said-as (a .out .now) (call-none (a .script .now) (a .session) (a .at) (c .if1 .taken)) (said (a .out .now) [] (a .session) (a .at) (lined (a .out .now) 0 [] (put-none (a .out .now) 0) (omega arith)))
 
 returns-2 : tie.Need-returns-2
 returns-2 c =

@@ -6,7 +6,7 @@ use mathlib.Core.Path.{sym}
 use native.Mathlib.Omega.{arith}
 use Rattle.lines.specs.Lines.{decimal, newline}
 use Rattle.lines.proofs.Digits.{decimal-short}
-use Rattle.lines.proofs.Put.{Puts.none, Puts.more, Begins, begins, put-as}
+use Rattle.lines.proofs.Put.{Puts.none, Puts.more, Begins, begins, put-as, lined}
 use borrow.Author.Needs.{needs}
 use Rattle.sessionlines.proofs.put_number.Statement.{statement}
 use Rattle.sessionlines.proofs.put_number.Tie as tie
@@ -37,8 +37,13 @@ slice-aggregate-put-both c = text (c .before) .long
 
 returns : tie.Need-returns
 returns c =
-    let a = c .before .before .before .before .before .before .before .before .before .before .before .before .before .before .args in
-    put-as (a .out .now) 0 (sym (append-assoc (a .label .now) (decimal (a .n)) newline)) (rw (text (c .before .before .before .before) .front) at (c .before .before .put-both .ensures))
+    let s = c .before .before .before .before .before .before .before .before .before .before .before .before .before .before in
+    let a = s .args in
+    let line = a .label .now ++ decimal (a .n) ++ newline in
+    let d = decimal-short 19 (a .n) (omega (arith, s .fits)) in
+    let l : length line ≤ 48 = omega (arith, d, s .pre, length-append (a .label .now ++ decimal (a .n)) newline, length-append (a .label .now) (decimal (a .n))) in
+    lined (a .out .now) 0 line
+    (put-as (a .out .now) 0 (sym (append-assoc (a .label .now) (decimal (a .n)) newline)) (rw (text (c .before .before .before .before) .front) at (c .before .before .put-both .ensures))) l
 
 pub put-number-spec : {M : Type 1} → statement M
 put-number-spec =
