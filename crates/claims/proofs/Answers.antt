@@ -144,7 +144,7 @@ limited-by {N} {A} {R} n nine h = record { ends = λ s at i. go (leb n capacity)
     go false s at i = (nine, i)
 
 abbrev startNumbers : List ℕ
-startNumbers = listed.starting .certificate
+startNumbers = listed.startAnswers .certificate
 
 start-by : (g : Graph) → Listed (λ r. In r startNumbers) (limited (g .n) (buildStart g))
 unfolding startIn startOn
@@ -155,7 +155,7 @@ start-by g =
     in-list startNumbers (limited-by (g .n) refl all)
 
 abbrev pathNumbers : List ℕ
-pathNumbers = listed.pathing .certificate
+pathNumbers = listed.pathAnswers .certificate
 
 build-path-by : (g : Graph) (b : Build) → Listed (λ r. In r pathNumbers) (limited (g .n) (buildPath g b))
 unfolding buildPath
@@ -182,19 +182,19 @@ certificate-listed ns m c p C i = go (ended (certificate (planGraph p)) C 0) (fr
     go (Got x next) h = grade-listed x
     go (Refused r q) h = (h .0, let z : q ≤ c = omega arith in z)
 
-checking : (P C : List ℕ) → OneOf listed.checking (length P) (length C) (checkOf P C)
+checking : (P C : List ℕ) → OneOf listed.checkingAnswers (length P) (length C) (checkOf P C)
 unfolding checkOf
 checking P C = go (ended plan P 0) (from-0 (whole-by (λ r. inr) (inl refl)) P)
   where
-    go : (x : Read Plan) → Ends (λ r. In r (7 ∷ inPlan)) P x → OneOf listed.checking (length P) (length C) (onPlan x C)
+    go : (x : Read Plan) → Ends (λ r. In r (7 ∷ inPlan)) P x → OneOf listed.checkingAnswers (length P) (length C) (onPlan x C)
     go (Got p next) h = certificate-listed (7 ∷ inPlan) (length P) (length C) p C (let z : length C ≤ length C = omega arith in z)
     go (Refused r q) h = h
 
-behind : (s : List ℕ) → OneOf listed.checkingBehind (length s) (length s) (gradeOf s .answer)
+behind : (s : List ℕ) → OneOf listed.programAnswers (length s) (length s) (gradeOf s .answer)
 unfolding gradeOf
 behind s = go (plan s 0) (from-0 (in-list inPlan plan-by) s)
   where
-    go : (x : Read Plan) → Ends (λ r. In r inPlan) s x → OneOf listed.checkingBehind (length s) (length s) (onLeading x s .answer)
+    go : (x : Read Plan) → Ends (λ r. In r inPlan) s x → OneOf listed.programAnswers (length s) (length s) (onLeading x s .answer)
     go (Got p next) h = certificate-listed inPlan (length s) (length s) p (drop next s) (omega (arith, length-drop next s))
     go (Refused r q) h = h
 
@@ -203,69 +203,69 @@ grade-made : (p : Plan) → Allowed p → In (gradeMade (graphOf p)) allGrades
 grade-made p a =
     let P = planBytes p in
     let C = certificateOf (graphOf p) in
-    subst (λ (x : Answer). OneOf listed.checking (length P) (length C) x) (made-accepted p a) (checking P C)
+    subst (λ (x : Answer). OneOf listed.checkingAnswers (length P) (length C) x) (made-accepted p a) (checking P C)
 
-making : (P : List ℕ) → Bytes P → (buffer : List ℕ) → OneOf listed.making (length P) 0 (madeFrom P buffer .answer)
+making : (P : List ℕ) → Bytes P → (buffer : List ℕ) → OneOf listed.makingAnswers (length P) 0 (madeFrom P buffer .answer)
 unfolding planRead madeBy
 making P bp buffer = go (ended plan P 0) refl (from-0 (whole-by (λ r h. inr (inr h)) (inl refl)) P)
   where
     go : (x : Read Plan) → ended plan P 0 ≡ x → Ends (λ r. In r (7 ∷ 30 ∷ inPlan)) P x
-        → OneOf listed.making (length P) 0 (madeBy buffer (planRead x .answer) (planRead x .graph) .answer)
+        → OneOf listed.makingAnswers (length P) 0 (madeBy buffer (planRead x .answer) (planRead x .graph) .answer)
     go (Refused r q) e h = h
     go (Got p next) e h = test (ltb (length buffer) roomAsked)
       where
-        test : (b : Bool) → OneOf listed.making (length P) 0
+        test : (b : Bool) → OneOf listed.makingAnswers (length P) 0
             (cond b (made (PlanFault 30 0) 0) (made (Grade (gradeMade (graphOf p))) (length (certificateOf (graphOf p)))) .answer)
         test true = (inr (inl refl), omega arith)
         test false = grade-made p (ended-there plan-law bp e .1)
 
-reading : (P : List ℕ) → OneOf listed.reading (length P) 0 (wholePlan P .answer)
+reading : (P : List ℕ) → OneOf listed.readingAnswers (length P) 0 (wholePlan P .answer)
 unfolding planRead
 reading P = go (ended plan P 0) (from-0 (whole-by (λ r. inr) (inl refl)) P)
   where
-    go : (x : Read Plan) → Ends (λ r. In r (7 ∷ inPlan)) P x → OneOf listed.reading (length P) 0 (planRead x .answer)
+    go : (x : Read Plan) → Ends (λ r. In r (7 ∷ inPlan)) P x → OneOf listed.readingAnswers (length P) 0 (planRead x .answer)
     go (Got p next) h = refl
     go (Refused r q) h = h
 
-opens : (P : List ℕ) → OneOf listed.opening (length P) 0 (opening P .answer)
+opens : (P : List ℕ) → OneOf listed.openingAnswers (length P) 0 (opening P .answer)
 unfolding opening
 opens P = go (ended plan P 0) (from-0 (whole-by (λ r h. inr (inr h)) (inl refl)) P)
   where
-    go : (x : Read Plan) → Ends (λ r. In r (7 ∷ 29 ∷ inPlan)) P x → OneOf listed.opening (length P) 0 (onOpening x .answer)
+    go : (x : Read Plan) → Ends (λ r. In r (7 ∷ 29 ∷ inPlan)) P x → OneOf listed.openingAnswers (length P) 0 (onOpening x .answer)
     go (Refused r q) h = h
     go (Got p next) h = test (ltb (graphOf p .m) (p .n + 2))
       where
-        test : (b : Bool) → OneOf listed.opening (length P) 0
+        test : (b : Bool) → OneOf listed.openingAnswers (length P) 0
             (cond {A = Opened} b (record { answer = PlanFault 29 0; session = noSession }) (record { answer = Accepted; session = openedOn (graphOf p) }) .answer)
         test true = (inr (inl refl), omega arith)
         test false = refl
 
-starting : (s : Session) (part : List ℕ) → OneOf listed.starting 0 (length part) (startStep s part .answer)
+starting : (s : Session) (part : List ℕ) → OneOf listed.startAnswers 0 (length part) (startStep s part .answer)
 unfolding startStep
 starting s part = let g = rowsGraph (s .graph .n) (s .graph .rows) in go (s .ready) (limited (g .n) (buildStart g) part 0) (from-0 (start-by g) part)
   where
     go : (b : Bool) (x : Read ((ℕ × (ℕ × (ℕ × ℕ))) × List Path)) → Ends (λ r. In r startNumbers) part x
-        → OneOf listed.starting 0 (length part) (cond b (onStart s x) (refusedStep s 31 0) .answer)
+        → OneOf listed.startAnswers 0 (length part) (cond b (onStart s x) (refusedStep s 31 0) .answer)
     go false x h = (member-in 31 startNumbers refl, omega arith)
     go true (Got x next) h = refl
     go true (Refused r p) h = h
 
-pathing : (s : Session) (part : List ℕ) → OneOf listed.pathing 0 (length part) (pathStep s part .answer)
+pathing : (s : Session) (part : List ℕ) → OneOf listed.pathAnswers 0 (length part) (pathStep s part .answer)
 unfolding pathStep
 pathing s part =
     let g = rowsGraph (s .graph .n) (s .graph .rows) in
     go (s .started && ltb (s .taken) (pathCount s)) (limited (g .n) (buildPath g (s .build)) part 0) (from-0 (build-path-by g (s .build)) part)
   where
-    go : (b : Bool) (x : Read Path) → Ends (λ r. In r pathNumbers) part x → OneOf listed.pathing 0 (length part) (cond b (onPath s x) (refusedStep s 31 0) .answer)
+    go : (b : Bool) (x : Read Path) → Ends (λ r. In r pathNumbers) part x → OneOf listed.pathAnswers 0 (length part) (cond b (onPath s x) (refusedStep s 31 0) .answer)
     go false x h = (member-in 31 pathNumbers refl, omega arith)
     go true (Got x next) h = refl
     go true (Refused r p) h = h
 
-closes : (s : Session) → OneOf listed.closing 0 0 (closeStep s .answer)
+closes : (s : Session) → OneOf listed.closingAnswers 0 0 (closeStep s .answer)
 unfolding closeStep
 closes s = go (s .started && eqb (s .taken) (pathCount s)) (allBelow (s .graph .n) (has (s .build .sets .branch .words)))
   where
-    go : (a b : Bool) → OneOf listed.closing 0 0 (cond a (cond b (Grade 3) (CertificateFault 28 0)) (CertificateFault 31 0))
+    go : (a b : Bool) → OneOf listed.closingAnswers 0 0 (cond a (cond b (Grade 3) (CertificateFault 28 0)) (CertificateFault 31 0))
     go false b = (inr (inl refl), omega arith)
     go true false = (inl refl, omega arith)
     go true true = inl refl

@@ -22,7 +22,7 @@ use Rattle.sessions.specs.Session.{noSession, openedOn, onOpening, opening, ref
 use Rattle.checker.specs.Check.{planGraph}
 use Rattle.claims.specs.Session as of
 use Rattle.claims.specs.Session.{State, State.never, State.waiting, State.building, Gives, due}
-use Rattle.claims.specs.Calls.{Call, Call.start, Call.path, Call.close, called, rest, calledOn, Heard, heard, heardOn}
+use Rattle.claims.specs.Calls.{Call, Call.start, Call.path, Call.close, called, leftOf, calledOn, Heard, heard, heardOn}
 use Rattle.claims.specs.Demands.{Demand1Sessions}
 use Rattle.claims.proofs.Sessions.{Building, never-accepts, refused-same, start-step, start-building, early-path, second-start, path-step, path-building, closing-is}
 
@@ -43,24 +43,24 @@ both-refuse : {s : Session} (z : State) → At s z → (part : List ℕ) (r q : 
 both-refuse z h part r q = record { answer = refl; unread = refl; next = h }
 
 module _ (p : Plan) (al : Allowed p) where
-  both-start : (part : List ℕ) → Agree (startStep (openedOn (graphOf p)) part) part (of.started (waiting p) part)
+  both-start : (part : List ℕ) → Agree (startStep (openedOn (graphOf p)) part) part (of.startCall (waiting p) part)
   both-start part = rw (start-step p al part) (go (readStart (planGraph p) part 0) refl)
     where
-      go : (x : Read ((ℕ × (ℕ × (ℕ × ℕ))) × List Path)) → readStart (planGraph p) part 0 ≡ x → Agree (onStart (openedOn (graphOf p)) x) part (of.onStarted p part x)
+      go : (x : Read ((ℕ × (ℕ × (ℕ × ℕ))) × List Path)) → readStart (planGraph p) part 0 ≡ x → Agree (onStart (openedOn (graphOf p)) x) part (of.onStartRead p part x)
       go (Refused r q) e = both-refuse (waiting p) (al, refl) part r q
       go (Got x next) e = record { answer = refl; unread = refl; next = (al, start-building p al part x next e, refl) }
 
   module _ {s : Session} {links : List Path} (h : Building p s links) where
-    both-path : (part : List ℕ) → Agree (pathStep s part) part (of.pathed (building p links (s .taken)) part)
+    both-path : (part : List ℕ) → Agree (pathStep s part) part (of.pathCall (building p links (s .taken)) part)
     both-path part = rw (path-step p al h part) (test (ltb (s .taken) (due p)) (furtherPath (planGraph p) links part 0) refl)
       where
         test : (b : Bool) (x : Read Path) → furtherPath (planGraph p) links part 0 ≡ x
-            → Agree (cond b (onPath s x) (refusedStep s 31 0)) part (cond b (of.onPath p links (s .taken) part x) (of.refuses (building p links (s .taken)) part 31 0))
+            → Agree (cond b (onPath s x) (refusedStep s 31 0)) part (cond b (of.onPathRead p links (s .taken) part x) (of.refuses (building p links (s .taken)) part 31 0))
         test false x e = both-refuse (building p links (s .taken)) (al, h, refl) part 31 0
         test true (Refused r q) e = both-refuse (building p links (s .taken)) (al, h, refl) part r q
         test true (Got P next) e = record { answer = refl; unread = refl; next = (al, path-building p al h part P next e, omega arith) }
 
-    both-close : Agree (closeStep s) [] (of.closed (building p links (s .taken)))
+    both-close : Agree (closeStep s) [] (of.closeCall (building p links (s .taken)))
     unfolding closeStep
     both-close = record { answer = closing-is p al h; unread = refl; next = (al, h, refl) }
 
@@ -84,7 +84,7 @@ agree s (building p links k) h (path part) = rw (sym (h .2)) (both-path p (h .0)
 agree s (building p links k) h close = rw (sym (h .2)) (both-close p (h .0) (h .1))
 
 -- what is left of the part, call by call
-rest-handed : (s : Session) (c : Call) → rest s c ≡ drop (called s c .read) (handed c)
+rest-handed : (s : Session) (c : Call) → leftOf s c ≡ drop (called s c .read) (handed c)
 unfolding closeStep
 rest-handed s (start part) = refl
 rest-handed s (path part) = refl
@@ -95,7 +95,7 @@ agree-all : (calls : List Call) (s : Session) (z : State) → At s z → heard s
 agree-all [] s z h = refl
 agree-all (c ∷ cs) s z h =
     let a = agree s z h c in
-    let first : _≡_ {A = Heard} (record { answer = called s c .answer; unread = rest s c }) (record { answer = calledOn z c .answer; unread = calledOn z c .unread }) =
+    let first : _≡_ {A = Heard} (record { answer = called s c .answer; unread = leftOf s c }) (record { answer = calledOn z c .answer; unread = calledOn z c .unread }) =
     rw (a .answer, rest-handed s c, a .unread) in
     let later = agree-all cs (called s c .session) (calledOn z c .state) (a .next) in
     λ i. first i ∷ later i
@@ -105,11 +105,11 @@ pub record OpensAt (x : Opened) (y : Gives) : Type 0 where
   pub answer : x .answer ≡ y .answer
   pub state : At (x .session) (y .state)
 
-pub opens-at : (P : List ℕ) → Bytes P → OpensAt (opening P) (of.opened P)
+pub opens-at : (P : List ℕ) → Bytes P → OpensAt (opening P) (of.openCall P)
 unfolding opening graphOf
 opens-at P bytes = go (ended plan P 0) refl
   where
-    go : (x : Read Plan) → ended plan P 0 ≡ x → OpensAt (onOpening x) (of.onOpened x)
+    go : (x : Read Plan) → ended plan P 0 ≡ x → OpensAt (onOpening x) (of.onPlanRead x)
     go (Refused r q) e = record { answer = refl; state = refl }
     go (Got p next) e = test (ltb (length (p .edges)) (p .n + 2))
       where
@@ -122,4 +122,4 @@ opens-at P bytes = go (ended plan P 0) refl
 pub demand1-sessions : Demand1Sessions
 demand1-sessions P bytes calls =
     let o = opens-at P bytes in
-    record { opens = o .answer; answers = agree-all calls (opening P .session) (of.opened P .state) (o .state); unchanged = λ c r q e. refused-same _ c r q e .0 }
+    record { opens = o .answer; answers = agree-all calls (opening P .session) (of.openCall P .state) (o .state); unchanged = λ c r q e. refused-same _ c r q e .0 }

@@ -85,11 +85,11 @@ made-decoded m f = go (m .answer) f
 pub words-are-answers : WordsAreAnswers
 words-are-answers = record {
   of-plan = λ P p. let a = wholePlan P .answer in
-      words-decode a (listed-fits listed.reading (length P) 0 refl refl refl p (omega arith) a (demand1-answers .reading P));
+      words-decode a (listed-fits listed.readingAnswers (length P) 0 refl refl refl p (omega arith) a (demand1-answers .reading P));
   of-check = λ P C p c. let a = checkOf P C in
-      words-decode a (listed-fits listed.checking (length P) (length C) refl refl refl p c a (demand1-answers .checking P C));
+      words-decode a (listed-fits listed.checkingAnswers (length P) (length C) refl refl refl p c a (demand1-answers .checking P C));
   of-certify = λ P buffer bp p. let m = madeFrom P buffer in
-      made-decoded m (listed-fits listed.making (length P) 0 refl refl refl p (omega arith) (m .answer) (demand1-answers .making P bp buffer));
+      made-decoded m (listed-fits listed.makingAnswers (length P) 0 refl refl refl p (omega arith) (m .answer) (demand1-answers .making P bp buffer));
 }
 
 -- A GRADE in a word is in its two lowest bytes

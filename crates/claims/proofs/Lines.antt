@@ -41,19 +41,19 @@ lines-printed zero s session z at (c ∷ cs) i h f = absurd (omega arith)
 lines-printed (suc k) s session z at (start part ∷ cs) i h f =
     let c = h .0 in
     let a = agree session z i (start part) in
-    let first = step-printed (startStep session part) part (of.started z part) a at in
-    let later = lines-printed k s (startStep session part .session) (of.started z part .state) (at + 3 + length part) cs (a .next) (h .1) (omega arith) in
+    let first = step-printed (startStep session part) part (of.startCall z part) a at in
+    let later = lines-printed k s (startStep session part .session) (of.startCall z part .state) (at + 3 + length part) cs (a .next) (h .1) (omega arith) in
     rw (c .inside, c .byte, c .within, c .handed) (λ j. first j ++ later j)
 lines-printed (suc k) s session z at (path part ∷ cs) i h f =
     let c = h .0 in
     let a = agree session z i (path part) in
-    let first = step-printed (pathStep session part) part (of.pathed z part) a at in
-    let later = lines-printed k s (pathStep session part .session) (of.pathed z part .state) (at + 3 + length part) cs (a .next) (h .1) (omega arith) in
+    let first = step-printed (pathStep session part) part (of.pathCall z part) a at in
+    let later = lines-printed k s (pathStep session part .session) (of.pathCall z part .state) (at + 3 + length part) cs (a .next) (h .1) (omega arith) in
     rw (c .inside, c .byte, c .within, c .handed) (λ j. first j ++ later j)
 lines-printed (suc k) s session z at (close ∷ cs) i h f =
     let c = h .0 in
     let a = agree session z i close in
-    let later = lines-printed k s session (of.closed z .state) (at + 1) cs (a .next) (h .1) (omega arith) in
+    let later = lines-printed k s session (of.closeCall z .state) (at + 1) cs (a .next) (h .1) (omega arith) in
     rw (c .inside, c .byte) (λ j. answerLine (a .answer j) ++ later j)
 
 pub session-prints : SessionPrints
@@ -62,5 +62,5 @@ session-prints P calls bytes p f short =
     let s = scriptBytes P calls in
     let e = scripts-encode P calls p f in
     let o = opens-at P bytes in
-    let later = lines-printed (length s) s (opening P .session) (of.opened P .state) (2 + length P) calls (o .state) (script-has P calls) (script-long P calls) in
+    let later = lines-printed (length s) s (opening P .session) (of.openCall P .state) (2 + length P) calls (o .state) (script-has P calls) (script-long P calls) in
     rw (le-ltb scriptLimit (length s) short, e .plan-at, e .plan) (λ j. answerLine (o .answer j) ++ later j)

@@ -35,27 +35,27 @@ abbrev pub allGrades : List ℕ
 allGrades = 0 ∷ 1 ∷ 2 ∷ 3 ∷ []
 
 -- reading a plan, checking, the checking program (7 is never a plan's there), making
-abbrev pub reading : Answers
-reading = answers true [] (7 ∷ inPlan) []
+abbrev pub readingAnswers : Answers
+readingAnswers = answers true [] (7 ∷ inPlan) []
 
-abbrev pub checking : Answers
-checking = answers false allGrades (7 ∷ inPlan) inCertificate
+abbrev pub checkingAnswers : Answers
+checkingAnswers = answers false allGrades (7 ∷ inPlan) inCertificate
 
-abbrev pub checkingBehind : Answers
-checkingBehind = answers false allGrades inPlan inCertificate
+abbrev pub programAnswers : Answers
+programAnswers = answers false allGrades inPlan inCertificate
 
-abbrev pub making : Answers
-making = answers false allGrades (7 ∷ 30 ∷ inPlan) []
+abbrev pub makingAnswers : Answers
+makingAnswers = answers false allGrades (7 ∷ 30 ∷ inPlan) []
 
 -- the session's calls
-abbrev pub opening : Answers
-opening = answers true [] (7 ∷ 29 ∷ inPlan) []
+abbrev pub openingAnswers : Answers
+openingAnswers = answers true [] (7 ∷ 29 ∷ inPlan) []
 
-abbrev pub starting : Answers
-starting = answers true [] [] (1 ∷ 2 ∷ 9 ∷ 20 ∷ 24 ∷ 25 ∷ 26 ∷ 31 ∷ [])
+abbrev pub startAnswers : Answers
+startAnswers = answers true [] [] (1 ∷ 2 ∷ 9 ∷ 20 ∷ 24 ∷ 25 ∷ 26 ∷ 31 ∷ [])
 
-abbrev pub pathing : Answers
-pathing = answers true [] [] (1 ∷ 2 ∷ 9 ∷ 24 ∷ 25 ∷ 26 ∷ 27 ∷ 31 ∷ [])
+abbrev pub pathAnswers : Answers
+pathAnswers = answers true [] [] (1 ∷ 2 ∷ 9 ∷ 24 ∷ 25 ∷ 26 ∷ 27 ∷ 31 ∷ [])
 
-abbrev pub closing : Answers
-closing = answers false (3 ∷ []) [] (28 ∷ 31 ∷ [])
+abbrev pub closingAnswers : Answers
+closingAnswers = answers false (3 ∷ []) [] (28 ∷ 31 ∷ [])

@@ -12,7 +12,7 @@ use Rattle.reading.specs.Plan.{Plan, planBytes}
 use Rattle.sessions.specs.declared.Session.{Session}
 use Rattle.sessions.specs.declared.Stepped.{Stepped}
 use Rattle.sessions.specs.Session.{opening, startStep, pathStep, closeStep, startRest, pathRest}
-use Rattle.claims.specs.Session.{State, Gives, started, pathed, closed}
+use Rattle.claims.specs.Session.{State, Gives, startCall, pathCall, closeCall}
 
 pub data Call : Type 0 where
   start : (part : List ℕ) → Call
@@ -32,16 +32,16 @@ called s (start part) = startStep s part
 called s (path part) = pathStep s part
 called s close = closeStep s
 
-abbrev pub rest : Session → Call → List ℕ
-rest s (start part) = startRest s part
-rest s (path part) = pathRest s part
-rest s close = []
+abbrev pub leftOf : Session → Call → List ℕ
+leftOf s (start part) = startRest s part
+leftOf s (path part) = pathRest s part
+leftOf s close = []
 
 -- .. and the session of document 01
 abbrev pub calledOn : State → Call → Gives
-calledOn z (start part) = started z part
-calledOn z (path part) = pathed z part
-calledOn z close = closed z
+calledOn z (start part) = startCall z part
+calledOn z (path part) = pathCall z part
+calledOn z close = closeCall z
 
 -- the session after a list of calls, refused ones among them: each gets the session that the last one returned
 abbrev pub sessionAfter : Session → List Call → Session
@@ -55,7 +55,7 @@ pub record Heard : Type 0 where
 
 abbrev pub heard : Session → List Call → List Heard
 heard s [] = []
-heard s (c ∷ cs) = record { answer = called s c .answer; unread = rest s c } ∷ heard (called s c .session) cs
+heard s (c ∷ cs) = record { answer = called s c .answer; unread = leftOf s c } ∷ heard (called s c .session) cs
 
 abbrev pub heardOn : State → List Call → List Heard
 heardOn z [] = []

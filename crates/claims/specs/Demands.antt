@@ -1,11 +1,11 @@
--- THE DEMANDS, each as a statement beside its words; proofs/Demands.antt proves them all. P, Q are plan records, C is a certificate record,
+-- THE DEMANDS, each as a statement beside its words; docs/PROOFS.md tells in which file of proofs/ each is proved. P, Q are plan records, C is a certificate record,
 -- k a grade. That every call ends and that none has a condition to be met beforehand is what the kit proves of each public function.
-use Prim.Native.Nat.{ℕ, suc, _+_, _*_, _^_, _≤_, _<_}
+use Prim.Native.Nat.{ℕ, suc, _+_, _*_, _/_, _%_, _^_, _≤_, _<_}
 use mathlib.Core.List.{List, _∷_, _++_}
 use mathlib.Core.Path.{_≡_}
 use mathlib.Core.Logic.{_↔_}
-use lib.ListN.{length, drop}
-use Rattle.record.specs.Read.{Bytes}
+use lib.ListN.{length, drop, getD}
+use Rattle.record.specs.Read.{Read.Refused, Bytes}
 use Rattle.record.specs.Number.{numberBytes, listBytes}
 use Rattle.record.specs.Write.{overwritten}
 use Rattle.record.specs.declared.Answer.{Answer}
@@ -15,7 +15,7 @@ use Rattle.connectivity.specs.Path.{Path}
 use Rattle.connectivity.specs.Build.{StartRules, BGPath, Steps, taken, final, EachEdgeOnce}
 use Rattle.connectivity.specs.TopologicalGraph.{Addition, IsSimple, topological, Offered, Adds}
 use Rattle.connectivity.specs.Connectivity.{connectivity}
-use Rattle.reading.specs.Plan.{Plan, Allowed, planBytes}
+use Rattle.reading.specs.Plan.{Plan, Allowed, plan, planBytes}
 use Rattle.reading.specs.Code.{wholePlan}
 use Rattle.sessions.specs.declared.Session.{Session}
 use Rattle.sessions.specs.Session.{opening, startStep, pathStep, closeStep}
@@ -23,11 +23,13 @@ use Rattle.checker.specs.Check.{planGraph, checkOf, gradeOf}
 use Rattle.construction.specs.Ears.{pathSpace}
 use Rattle.construction.specs.Construction.{certificate}
 use Rattle.certifier.specs.Made.{roomAsked, made, madeFrom, filledFrom}
-use Rattle.script.specs.declared.Part.the-variants.{Within}
+use Rattle.script.specs.declared.Part.the-variants.{Within, Cut}
 use Rattle.script.specs.Script.{partAt}
 use Rattle.script.specs.Replay.{answerWord, answerBytes, partOf, reply, replayOf}
-use Rattle.fikzarn.specs.Words.{madeWord}
+use Rattle.fikzarn.specs.Words.{madeWord, replayWord}
+use Rattle.lines.specs.Lines.{planWord, certificateWord, faultLine, tooLong}
 use Rattle.gradeline.specs.Line.{inputLimit, gradedLine, gradeLine}
+use Rattle.certifybytes.specs.Bytes.{certifyBytes}
 use Rattle.sessionlines.specs.Lines.{scriptLimit, answerLine, scriptLines}
 use Rattle.claims.specs.Certified.{IsPlan, HasFigure, Certified, Sequenced}
 use Rattle.claims.specs.Session as of
@@ -39,12 +41,13 @@ use Rattle.claims.specs.Printed.{callLines, GradePrinted, CertificatePri
 
 -- DEMAND 1. "a faulty record or a call out of turn gets the number and place listed in document 01; a refused session is unchanged".
 -- From the opening on, whatever calls come, the session is document 01's (specs/Session): each answers what that one answers and leaves
--- unread what that one leaves; and a call that is refused leaves the session's value as it was.
+-- unread what that one leaves; and a call that is refused, and a closing, leave the session's value as it was.
 pub record SessionIs (P : List ℕ) (calls : List Call) : Type 0 where
-  pub opens : opening P .answer ≡ of.opened P .answer
-  pub answers : heard (opening P .session) calls ≡ heardOn (of.opened P .state) calls
+  pub opens : opening P .answer ≡ of.openCall P .answer
+  pub answers : heard (opening P .session) calls ≡ heardOn (of.openCall P .state) calls
   pub unchanged : (c : Call) (r p : ℕ) → called (sessionAfter (opening P .session) calls) c .answer ≡ CertificateFault r p
       → called (sessionAfter (opening P .session) calls) c .session ≡ sessionAfter (opening P .session) calls
+  pub closed : closeStep (sessionAfter (opening P .session) calls) .session ≡ sessionAfter (opening P .session) calls
 
 abbrev pub Demand1Sessions : Type 0
 Demand1Sessions = (P : List ℕ) → Bytes P → (calls : List Call) → SessionIs P calls
@@ -52,14 +55,18 @@ Demand1Sessions = (P : List ℕ) → Bytes P → (calls : List Call) → Session
 -- Every answer is one that document 01 lists for that call: a refusal has one of its numbers and a place within the record, and where a
 -- grade is due no answer is `Accepted`. Start, path and closing, on every value of a session.
 pub record Demand1Answers : Type 0 where
-  pub reading : (P : List ℕ) → OneOf listed.reading (length P) 0 (wholePlan P .answer)
-  pub checking : (P C : List ℕ) → OneOf listed.checking (length P) (length C) (checkOf P C)
-  pub checking-behind : (s : List ℕ) → OneOf listed.checkingBehind (length s) (length s) (gradeOf s .answer)
-  pub making : (P : List ℕ) → Bytes P → (buffer : List ℕ) → OneOf listed.making (length P) 0 (madeFrom P buffer .answer)
-  pub opening : (P : List ℕ) → OneOf listed.opening (length P) 0 (opening P .answer)
-  pub starting : (s : Session) (part : List ℕ) → OneOf listed.starting 0 (length part) (startStep s part .answer)
-  pub pathing : (s : Session) (part : List ℕ) → OneOf listed.pathing 0 (length part) (pathStep s part .answer)
-  pub closing : (s : Session) → OneOf listed.closing 0 0 (closeStep s .answer)
+  pub reading : (P : List ℕ) → OneOf listed.readingAnswers (length P) 0 (wholePlan P .answer)
+  pub checking : (P C : List ℕ) → OneOf listed.checkingAnswers (length P) (length C) (checkOf P C)
+  pub checking-behind : (s : List ℕ) → OneOf listed.programAnswers (length s) (length s) (gradeOf s .answer)
+  pub making : (P : List ℕ) → Bytes P → (buffer : List ℕ) → OneOf listed.makingAnswers (length P) 0 (madeFrom P buffer .answer)
+  pub opening : (P : List ℕ) → OneOf listed.openingAnswers (length P) 0 (opening P .answer)
+  pub starting : (s : Session) (part : List ℕ) → OneOf listed.startAnswers 0 (length part) (startStep s part .answer)
+  pub pathing : (s : Session) (part : List ℕ) → OneOf listed.pathAnswers 0 (length part) (pathStep s part .answer)
+  pub closing : (s : Session) → OneOf listed.closingAnswers 0 0 (closeStep s .answer)
+
+-- "Plan faults come before certificate faults": the checker gives a plan's fault exactly where reading the plan gives it.
+abbrev pub PlanFaultsFirst : Type 0
+PlanFaultsFirst = (P C : List ℕ) (r q : ℕ) → (checkOf P C ≡ PlanFault r q) ↔ (wholePlan P .answer ≡ PlanFault r q)
 
 -- "a refused maker writes no byte". A plan's fault comes first; below 1,536 bytes an accepted plan gets 30 at 0.
 pub record MakerRefuses (P buffer : List ℕ) : Type 0 where
@@ -70,16 +77,21 @@ pub record MakerRefuses (P buffer : List ℕ) : Type 0 where
 abbrev pub RefusedKeeps : Type 0
 RefusedKeeps = (P buffer : List ℕ) → MakerRefuses P buffer
 
+-- "Maker's buffer below 1,536 bytes."
+abbrev pub RoomNamed : Type 0
+RoomNamed = roomAsked ≡ 1536
+
 -- DEMAND 2. "Beside an accepted plan, a certificate is accepted, with its kind as the grade, if every rule for that kind holds, and refused
 -- if one is broken."
 abbrev pub Demand2 : Type 0
 Demand2 = (P C : List ℕ) (k : ℕ) → Bytes P → Bytes C → (checkOf P C ≡ Grade k) ↔ Certified P C k
 
 -- "For grade 3 the rules are the three Barnette-Grünbaum additions on simple graphs, from a four-box start to the whole plan." On a build that
--- a start and further paths give, and for a path along edges whose ends are in and whose inner vertices are new, the rule for a further
--- path gives the addition (a), (b) or (c) by the places of its ends, from the topological graph to that of the build then, which is
--- simple; and wherever taking the path is any such addition, and the graph then is simple, the rule holds.
+-- a start and further paths give, whose topological graph is simple, and for a path along edges whose ends are in and whose inner vertices
+-- are new, each once, the rule for a further path gives the addition (a), (b) or (c) by the places of its ends, to the topological graph of
+-- the build then, which is simple; and wherever taking the path is any such addition, and the graph then is simple, the rule holds.
 pub record RuleIsAddition (E : ℕ → ℕ → Type 0) (links : List Path) (P : Path) : Type 0 where
+  pub before : IsSimple (topological links)
   pub there : BGPath E links P → Adds links P
   pub back : Addition (topological links) (topological (taken links P)) → IsSimple (topological (taken links P)) → BGPath E links P
 
@@ -174,11 +186,21 @@ ScriptReplies =
     (P : List ℕ) (calls : List Call) (buffer : List ℕ) → length P < 65536 → Short calls → 8 * suc (length calls) ≤ length buffer
     → replayOf (scriptBytes P calls) buffer ≡ reply (overwritten buffer 0 (listBytes answerBytes (opening P .answer ∷ answersOf (opening P .session) calls))) (suc (length calls)) 0
 
--- what the exported functions answer is read from their words, where no record has 2 to the 48 bytes;
+-- a script whose plan record is cut is answered nothing;
+abbrev pub ScriptCut : Type 0
+ScriptCut = (s buffer : List ℕ) → partAt s 0 ≡ Cut → replayOf s buffer ≡ reply buffer 0 1
+
+-- what the exported functions answer is read from their words, where no record has 2 to the 48 bytes: the answer, the certificate's
+-- length, each answer of a script, and how a replay ended with how many answers;
 pub record WordsAreAnswers : Type 0 where
   pub of-plan : (P : List ℕ) → length P < 2 ^ 48 → decoded (answerWord (wholePlan P .answer)) ≡ wholePlan P .answer
   pub of-check : (P C : List ℕ) → length P < 2 ^ 48 → length C < 2 ^ 48 → decoded (answerWord (checkOf P C)) ≡ checkOf P C
   pub of-certify : (P buffer : List ℕ) → Bytes P → length P < 2 ^ 48 → decoded (madeWord (madeFrom P buffer)) ≡ madeFrom P buffer .answer
+  pub length-of : (P buffer : List ℕ) → Bytes P → (k : ℕ) → madeFrom P buffer .answer ≡ Grade k → madeWord (madeFrom P buffer) / 65536 ≡ madeFrom P buffer .length
+  pub of-session : (s buffer : List ℕ) (a e : ℕ) → partAt s 0 ≡ Within a e → length s < 2 ^ 48 → (i : ℕ) → i < replayOf s buffer .count
+      → decoded (wordAt (replayOf s buffer .buffer) i) ≡ getD (scriptAnswers s a e) i Accepted
+  pub status-of : (s buffer : List ℕ) → replayWord (replayOf s buffer) % 256 ≡ replayOf s buffer .status
+  pub count-of : (s buffer : List ℕ) → length buffer < 2 ^ 48 → replayWord (replayOf s buffer) / 65536 ≡ replayOf s buffer .count
 
 -- and a grade in a word is the figure of the plan.
 pub record GradesInWords : Type 0 where
@@ -191,9 +213,9 @@ pub record GradesInWords : Type 0 where
 abbrev pub SessionPrints : Type 0
 SessionPrints =
     (P : List ℕ) (calls : List Call) → Bytes P → length P < 65536 → Short calls → length (scriptBytes P calls) ≤ scriptLimit
-    → scriptLines (scriptBytes P calls) ≡ answerLine (of.opened P .answer) ++ callLines (of.opened P .state) calls
+    → scriptLines (scriptBytes P calls) ≡ answerLine (of.openCall P .answer) ++ callLines (of.openCall P .state) calls
 
--- "It prints `input too long`, or one line. Its grade line is boxes, cables and grade": these are the plan's, and the grade is its figure;
+-- "Its grade line is boxes, cables and grade": these are the plan's, and the grade is its figure;
 abbrev pub GradePrints : Type 0
 GradePrints = (s : List ℕ) → Bytes s → (n m k : ℕ) → gradeLine s ≡ gradedLine (Grade k) n m → GradePrinted s n m k
 
@@ -202,6 +224,15 @@ abbrev pub PrintsGrade : Type 0
 PrintsGrade =
     (p : Plan) → Allowed p → (C : List ℕ) → length (planBytes p ++ C) ≤ inputLimit
     → gradeLine (planBytes p ++ C) ≡ gradedLine (checkOf (planBytes p) C) (p .n) (length (p .edges))
+
+-- "It prints `input too long`, or one line."; "else `plan refused R at P` or `certificate refused R at P`, with P from that record's start".
+-- The maker's program does the same with a plan that it refuses.
+pub record RefusalsPrinted : Type 0 where
+  pub too-long : (s : List ℕ) → inputLimit < length s → (gradeLine s ≡ tooLong) × (certifyBytes s ≡ tooLong)
+  pub plan-refused : (s : List ℕ) (r q : ℕ) → length s ≤ inputLimit → plan s 0 ≡ Refused r q → gradeLine s ≡ faultLine planWord r q
+  pub certificate-refused : (p : Plan) → Allowed p → (C : List ℕ) (r q : ℕ) → length (planBytes p ++ C) ≤ inputLimit → checkOf (planBytes p) C ≡ CertificateFault r q
+      → gradeLine (planBytes p ++ C) ≡ faultLine certificateWord r q
+  pub making-refused : (P : List ℕ) (r q : ℕ) → length P ≤ inputLimit → wholePlan P .answer ≡ PlanFault r q → certifyBytes P ≡ faultLine planWord r q
 
 -- The maker's program prints a certificate behind every accepted plan.
 abbrev pub CertifyPrints : Type 0

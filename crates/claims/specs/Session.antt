@@ -34,43 +34,43 @@ abbrev pub refuses : State → List ℕ → ℕ → ℕ → Gives
 refuses state part r at = gives (CertificateFault r at) state part
 
 -- OPENING takes a whole plan record; 29 comes after all plan faults. A refused opening gives a session never opened.
-abbrev pub onOpened : Read Plan → Gives
-onOpened (Got p next) = cond (ltb (length (p .edges)) (p .n + 2)) (gives (PlanFault 29 0) never []) (gives Accepted (waiting p) [])
-onOpened (Refused r at) = gives (PlanFault r at) never []
+abbrev pub onPlanRead : Read Plan → Gives
+onPlanRead (Got p next) = cond (ltb (length (p .edges)) (p .n + 2)) (gives (PlanFault 29 0) never []) (gives Accepted (waiting p) [])
+onPlanRead (Refused r at) = gives (PlanFault r at) never []
 
-abbrev pub opened : List ℕ → Gives
-opened P = onOpened (ended plan P 0)
+abbrev pub openCall : List ℕ → Gives
+openCall P = onPlanRead (ended plan P 0)
 
 -- A START is read as a certificate's is; its six paths are the first links. 31 before reading: never opened, or a second start.
-abbrev pub onStarted : Plan → List ℕ → Read ((ℕ × (ℕ × (ℕ × ℕ))) × List Path) → Gives
-onStarted p part (Got x next) = gives Accepted (building p (x .1) 0) (drop next part)
-onStarted p part (Refused r at) = refuses (waiting p) part r at
+abbrev pub onStartRead : Plan → List ℕ → Read ((ℕ × (ℕ × (ℕ × ℕ))) × List Path) → Gives
+onStartRead p part (Got x next) = gives Accepted (building p (x .1) 0) (drop next part)
+onStartRead p part (Refused r at) = refuses (waiting p) part r at
 
-abbrev pub started : State → List ℕ → Gives
-started never part = refuses never part 31 0
-started (waiting p) part = onStarted p part (start (planGraph p) part 0)
-started (building p links k) part = refuses (building p links k) part 31 0
+abbrev pub startCall : State → List ℕ → Gives
+startCall never part = refuses never part 31 0
+startCall (waiting p) part = onStartRead p part (start (planGraph p) part 0)
+startCall (building p links k) part = refuses (building p links k) part 31 0
 
 -- how many paths come after the start: m - n - 2
 abbrev pub due : Plan → ℕ
 due p = furtherCount (length (p .edges)) (p .n)
 
 -- A PATH is read beside the links, and taken in. 31 before reading: before the start, or where none is due any more.
-abbrev pub onPath : Plan → List Path → ℕ → List ℕ → Read Path → Gives
-onPath p links k part (Got P next) = gives Accepted (building p (taken links P) (suc k)) (drop next part)
-onPath p links k part (Refused r at) = refuses (building p links k) part r at
+abbrev pub onPathRead : Plan → List Path → ℕ → List ℕ → Read Path → Gives
+onPathRead p links k part (Got P next) = gives Accepted (building p (taken links P) (suc k)) (drop next part)
+onPathRead p links k part (Refused r at) = refuses (building p links k) part r at
 
-abbrev pub pathed : State → List ℕ → Gives
-pathed never part = refuses never part 31 0
-pathed (waiting p) part = refuses (waiting p) part 31 0
-pathed (building p links k) part =
-    cond (ltb k (due p)) (onPath p links k part (furtherPath (planGraph p) links part 0)) (refuses (building p links k) part 31 0)
+abbrev pub pathCall : State → List ℕ → Gives
+pathCall never part = refuses never part 31 0
+pathCall (waiting p) part = refuses (waiting p) part 31 0
+pathCall (building p links k) part =
+    cond (ltb k (due p)) (onPathRead p links k part (furtherPath (planGraph p) links part 0)) (refuses (building p links k) part 31 0)
 
 -- CLOSING: 31 before the start and all m - n - 2 paths are in, then 28 where a vertex is no branch vertex; else grade 3. The session stays.
-abbrev pub closing : Plan → List Path → ℕ → Answer
-closing p links k = cond (eqb k (due p)) (cond (allBelow (p .n) (isBranch links)) (Grade 3) (CertificateFault 28 0)) (CertificateFault 31 0)
+abbrev pub closingAnswer : Plan → List Path → ℕ → Answer
+closingAnswer p links k = cond (eqb k (due p)) (cond (allBelow (p .n) (isBranch links)) (Grade 3) (CertificateFault 28 0)) (CertificateFault 31 0)
 
-abbrev pub closed : State → Gives
-closed never = refuses never [] 31 0
-closed (waiting p) = refuses (waiting p) [] 31 0
-closed (building p links k) = gives (closing p links k) (building p links k) []
+abbrev pub closeCall : State → Gives
+closeCall never = refuses never [] 31 0
+closeCall (waiting p) = refuses (waiting p) [] 31 0
+closeCall (building p links k) = gives (closingAnswer p links k) (building p links k) []
