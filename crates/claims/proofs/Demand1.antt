@@ -24,7 +24,7 @@ use Rattle.claims.specs.Session as of
 use Rattle.claims.specs.Session.{State, State.never, State.waiting, State.building, Gives, due}
 use Rattle.claims.specs.Calls.{Call, Call.start, Call.path, Call.close, called, leftOf, calledOn, Heard, heard, heardOn}
 use Rattle.claims.specs.Demands.{Demand1Sessions}
-use Rattle.claims.proofs.Sessions.{Building, never-accepts, refused-same, start-step, start-building, early-path, second-start, path-step, path-building, closing-is}
+use Rattle.claims.proofs.Sessions.{Building, never-accepts, close-same, refused-same, start-step, start-building, early-path, second-start, path-step, path-building, closing-is}
 
 -- the code's session is at this state of document 01's
 abbrev pub At : Session → State → Type 0
@@ -122,4 +122,4 @@ opens-at P bytes = go (ended plan P 0) refl
 pub demand1-sessions : Demand1Sessions
 demand1-sessions P bytes calls =
     let o = opens-at P bytes in
-    record { opens = o .answer; answers = agree-all calls (opening P .session) (of.openCall P .state) (o .state); unchanged = λ c r q e. refused-same _ c r q e .0 }
+    record { opens = o .answer; answers = agree-all calls (opening P .session) (of.openCall P .state) (o .state); unchanged = λ c r q e. refused-same _ c r q e .0; closed = close-same _ }

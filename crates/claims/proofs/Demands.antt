@@ -3,6 +3,7 @@ use Prim.Native.Nat.{ℕ, _≤_, _<_, _+_, _*_}
 use mathlib.Core.List.{List, [], _∷_, _++_}
 use mathlib.Core.Bool.{Bool, true, false, cond}
 use mathlib.Core.Path.{_≡_, refl, sym, ap, _∙_, subst}
+use mathlib.Core.Logic.{_↔_}
 use native.Mathlib.Omega.{arith}
 use lib.Dec.{ltb}
 use lib.ListN.{length, drop}
@@ -15,8 +16,9 @@ use Rattle.record.proofs.Laws.{ended-there}
 use Rattle.connectivity.specs.Graph.{Graph, HasConnectivity, Adj}
 use Rattle.connectivity.proofs.Separators.{connectivity-unique}
 use Rattle.connectivity.proofs.Main.{connectivity-exactly}
+use Rattle.connectivity.proofs.Additions.{topological-simple}
 use Rattle.connectivity.proofs.Sequence.{build-tally, rule-adds, adds-rule}
-use Rattle.connectivity.specs.Certificate.{Rules}
+use Rattle.connectivity.specs.Certificate.{Certificate, Rules}
 use Rattle.reading.specs.Plan.{Plan, Allowed, plan, planBytes}
 use Rattle.reading.specs.Code.{graphOf, wholePlan, planRead}
 use Rattle.reading.specs.declared.PlanRead.{PlanRead}
@@ -26,11 +28,12 @@ use Rattle.construction.proofs.PlanLaws.{plan-drawn, plan-edges}
 use Rattle.construction.proofs.CertificateLaws as construction
 use Rattle.construction.proofs.CertificateLaws.{certified}
 use Rattle.construction.proofs.AnyWords.{plan-any-steps}
-use Rattle.checker.specs.Check.{planGraph, checkOf}
+use Rattle.certificates.specs.Records.{certificate}
+use Rattle.checker.specs.Check.{planGraph, onCertificate, certificateAnswer, onPlan, checkOf}
 use Rattle.certifier.specs.declared.Made.{Made}
 use Rattle.certifier.specs.Made.{roomAsked, made, madeBy, madeFrom, filledBy, filledFrom, certificateOf, gradeMade}
 use Rattle.claims.specs.Certified.{IsPlan, HasFigure, Certified}
-use Rattle.claims.specs.Demands.{Demand2, RulesAreAdditions, Demand2Sequence, EdgesOnce, AcceptedByCalls, FigureComputed, PlanAccepted, AcceptedGrade.checked, AcceptedGrade.made-for, AcceptedGrade.closed-on, GradeIsFigure, SameGrades, Writes, MakerWrites, SameCertificate, CertificateOfPlan, RefusedKeeps}
+use Rattle.claims.specs.Demands.{PlanFaultsFirst, RoomNamed, Demand2, RulesAreAdditions, Demand2Sequence, EdgesOnce, AcceptedByCalls, FigureComputed, PlanAccepted, AcceptedGrade.checked, AcceptedGrade.made-for, AcceptedGrade.closed-on, GradeIsFigure, SameGrades, Writes, MakerWrites, SameCertificate, CertificateOfPlan, RefusedKeeps}
 use Rattle.claims.proofs.Checking.{plan-simple, demand-2, grade-certified, certified-grade, certified-sound, grade-sound, certified-sequenced, sequenced-certified, sequenced-once}
 use Rattle.claims.proofs.Sessions.{closing-sound}
 use Rattle.claims.proofs.Replay.{kind3-calls}
@@ -43,6 +46,7 @@ pub rules-are-additions : RulesAreAdditions
 rules-are-additions g simple p q r s start further first steps P offered =
     let t = build-tally g simple p q r s start further first steps in
     record {
+      before = topological-simple (Adj g) _ (length further) t;
       there = rule-adds (Adj g) (simple .symmetric) _ (length further) t P;
       back = adds-rule (Adj g) _ (length further) t P offered;
     }
@@ -59,6 +63,22 @@ accepted-by-calls = kind3-calls
 
 pub plan-accepted : PlanAccepted
 plan-accepted P bp = (λ e. let r = accepted P bp e in (r .0, record { allowed = r .1; bytes = r .2 }), λ q. rw (q .1 .bytes) (ap (λ (x : PlanRead). x .answer) (accepts (q .0) (q .1 .allowed))))
+
+-- a plan's fault is the checker's, and no other is a plan's
+not-a-plan-fault : (x : Read Certificate) {r q : ℕ} → onCertificate x ≡ PlanFault r q → ⊥
+not-a-plan-fault (Got x next) e = let z : _≡_ {A = ℕ} 0 1 = cc in omega arith
+not-a-plan-fault (Refused n at) e = let z : _≡_ {A = ℕ} 0 1 = cc in omega arith
+
+pub plan-faults-first : PlanFaultsFirst
+unfolding checkOf certificateAnswer planRead
+plan-faults-first P C r q = go (ended plan P 0)
+  where
+    go : (x : Read Plan) → (onPlan x C ≡ PlanFault r q) ↔ (planRead x .answer ≡ PlanFault r q)
+    go (Got p next) = (λ e. absurd (not-a-plan-fault (ended (certificate (planGraph p)) C 0) e), λ e. let z : _≡_ {A = ℕ} 0 1 = cc in absurd (omega arith))
+    go (Refused n at) = (λ e. e, λ e. e)
+
+pub room-named : RoomNamed
+room-named = refl
 
 -- THE MAKER'S CERTIFICATE of an allowed plan keeps every rule, so the checker accepts it.
 module _ (p : Plan) (a : Allowed p) where

@@ -7,25 +7,26 @@ use native.Mathlib.Omega.{arith}
 use lib.Dec.{ltb}
 use lib.ListN.{length, drop, length-replicate}
 use lib.Seq.{take-at, drop-append-seam, getD-drop}
-use borrow.Author.Tests.{le-ltb}
+use borrow.Author.Tests.{le-ltb, lt-ltb}
 use Rattle.record.specs.Read.{Read, Read.Got, Read.Refused, Bytes}
 use Rattle.record.specs.declared.Answer.{Answer}
 use Rattle.record.specs.declared.Answer.the-variants.{Accepted, Grade, PlanFault, CertificateFault}
 use Rattle.record.proofs.Laws.{ended-back}
 use Rattle.record.proofs.Parts.{leads-there, leads-back}
 use Rattle.reading.specs.Plan.{Plan, Allowed, plan, planBytes}
+use Rattle.reading.specs.Code.{wholePlan}
 use Rattle.reading.proofs.Plans.{plan-law}
 use Rattle.checker.specs.Check.{checkOf, onLeading, gradeOf}
 use Rattle.checker.specs.declared.Graded.{Graded}
-use Rattle.certifier.specs.Made.{roomAsked}
+use Rattle.certifier.specs.Made.{roomAsked, madeFrom}
 use Rattle.lines.specs.Lines.{decimal, newline, boxesWord, cablesWord, gradeWord, tooLong, faultLine}
 use Rattle.gradeline.specs.Line.{inputLimit, gradedLine, gradeLine}
 use Rattle.certifybytes.specs.Bytes.{zeros, certifyBytes}
 use Rattle.claims.specs.Printed.{GradePrinted}
-use Rattle.claims.specs.Demands.{PrintsGrade, GradePrints, CertifyPrints}
+use Rattle.claims.specs.Demands.{PrintsGrade, GradePrints, RefusalsPrinted, CertifyPrints}
 use Rattle.claims.proofs.Checking.{answer-there, certified-sound}
 use Rattle.claims.proofs.Decimal.{decimal-apart}
-use Rattle.claims.proofs.Demands.{maker-writes}
+use Rattle.claims.proofs.Demands.{maker-writes, refused-keeps}
 
 -- THE CHECKING PROGRAM answers what the checker answers to the two records apart, with the plan's counts
 program-checks : (p : Plan) → Allowed p → (C : List ℕ) → _≡_ {A = Graded} (gradeOf (planBytes p ++ C)) (record { answer = checkOf (planBytes p) C; n = p .n; m = length (p .edges) })
@@ -93,3 +94,20 @@ certify-prints P bp e h =
       bytes = rw (le-ltb inputLimit (length P) h, w .answer, w .begins) (ap (λ (l : List ℕ). P ++ l) (take-at (w .certificate) (drop (length (w .certificate)) zeros) (length (w .certificate)) refl));
       accepted = w .accepted;
     }
+
+-- WHAT IS PRINTED ELSE: the input is too long, or a record is refused
+leading-refused : (s : List ℕ) (r q : ℕ) → plan s 0 ≡ Refused r q → gradeOf s .answer ≡ PlanFault r q
+unfolding gradeOf
+leading-refused s r q e = ap (λ (x : Read Plan). onLeading x s .answer) e
+
+made-refused : (P : List ℕ) (r q : ℕ) → wholePlan P .answer ≡ PlanFault r q → madeFrom P zeros .answer ≡ PlanFault r q
+made-refused P r q e = refused-keeps P zeros .fault r q e
+
+pub refusals-printed : RefusalsPrinted
+unfolding gradeLine certifyBytes
+refusals-printed = record {
+  too-long = λ s h. (rw (lt-ltb inputLimit (length s) h), rw (lt-ltb inputLimit (length s) h));
+  plan-refused = λ s r q h e. rw (le-ltb inputLimit (length s) h, leading-refused s r q e);
+  certificate-refused = λ p a C r q h e. prints-grade p a C h ∙ ap (λ (x : Answer). gradedLine x (p .n) (length (p .edges))) e;
+  making-refused = λ P r q h e. rw (le-ltb inputLimit (length P) h, made-refused P r q e);
+}
