@@ -1,24 +1,28 @@
--- THE EXPORTS: a word stands for its answer, every answer of an exported function fits, and a grade in a word is the figure of the plan. Assumes nothing.
-use Prim.Native.Nat.{ℕ, zero, suc, _+_, _*_, _-_, _/_, _%_, _<_, _^_, min}
+-- THE EXPORTS: a word stands for its answer, every answer of an exported function fits, those of a script among them, lengths and counts are
+-- read from their words, and a grade in a word is the figure of the plan. Assumes nothing.
+use Prim.Native.Nat.{ℕ, zero, suc, _+_, _*_, _-_, _/_, _%_, _≤_, _<_, _^_, min}
 use mathlib.Core.List.{List, [], _∷_, _++_, append-assoc}
 use mathlib.Core.Bool.{Bool, true, false, cond, _&&_, _||_}
 use mathlib.Core.Path.{_≡_, refl, sym, ap, _∙_, subst}
 use mathlib.Core.Logic.{⊎-elim}
+use native.Mathlib.Nat.{pow-suc}
 use native.Mathlib.Omega.{arith}
 use lib.Dec.{leb, ltb, eqb}
-use lib.ListN.{length, getD, take, drop, length-take, List·getD-eq-default}
+use lib.ListN.{length, getD, take, drop, length-take, length-drop, List·getD-eq-default}
 use lib.Seq.{getD-take, getD-drop, take-at, drop-drop, drop-at}
 use borrow.Author.Tests.{ltb-true, ltb-false}
 use Rattle.record.specs.Read.{Read, Read.Got, Read.Refused, Bytes, ended}
 use Rattle.record.specs.Number.{listBytes}
 use Rattle.record.specs.declared.Answer.{Answer}
 use Rattle.record.specs.declared.Answer.the-variants.{Accepted, Grade, PlanFault, CertificateFault}
+use Rattle.record.proofs.Laws.{ended-there}
 use Rattle.connectivity.specs.Lists.{In, all}
 use Rattle.connectivity.proofs.Lists.{all-true}
-use Rattle.reading.specs.Plan.{plan}
-use Rattle.reading.specs.Code.{wholePlan}
+use Rattle.reading.specs.Plan.{Plan, plan}
+use Rattle.reading.specs.Code.{graphOf, planRead, wholePlan}
+use Rattle.reading.proofs.Plans.{plan-law}
 use Rattle.certifier.specs.declared.Made.{Made}
-use Rattle.certifier.specs.Made.{madeFrom}
+use Rattle.certifier.specs.Made.{roomAsked, certificateOf, gradeMade, made, madeBy, madeFrom}
 use Rattle.checker.specs.Check.{checkOf}
 use Rattle.graph.specs.Rows.{rowsGraph}
 use Rattle.paths.specs.Items.{limited}
@@ -40,9 +44,9 @@ use Rattle.claims.specs.Answers.{Answers, OneOf}
 use Rattle.claims.specs.Exports.{inWord, decoded, Fits, wordOf, wordAt, onPartCalls, callsFrom, answersOf, scriptAnswers}
 use Rattle.claims.specs.Demands.{WordsDecode, WordsAreAnswers, GradesInWords, AcceptedGrade, AcceptedGrade.checked, AcceptedGrade.made-for, AcceptedGrade.closed-on}
 use Rattle.claims.proofs.Sessions.{Opens, Opens.refused, Opens.accepted, opens}
-use Rattle.claims.proofs.Demands.{grade-is-figure}
+use Rattle.claims.proofs.Demands.{made-short, grade-is-figure}
 use Rattle.claims.proofs.Answers.{demand1-answers}
-use Rattle.claims.proofs.Scripts.{scripts-replay}
+use Rattle.claims.proofs.Scripts.{scripts-replay, replay-bounded}
 
 -- A WORD taken apart gives what it was put together from, the place cut to six bytes
 word-decoded : (kind number place : ℕ) → kind < 256 → number < 256 → decoded (word kind number place) ≡ inWord kind number (place % 281474976710656)
@@ -82,15 +86,21 @@ made-decoded m f = go (m .answer) f
     go (PlanFault r p) h = words-decode (PlanFault r p) h
     go (CertificateFault r p) h = words-decode (CertificateFault r p) h
 
-pub words-are-answers : WordsAreAnswers
-words-are-answers = record {
-  of-plan = λ P p. let a = wholePlan P .answer in
-      words-decode a (listed-fits listed.readingAnswers (length P) 0 refl refl refl p (omega arith) a (demand1-answers .reading P));
-  of-check = λ P C p c. let a = checkOf P C in
-      words-decode a (listed-fits listed.checkingAnswers (length P) (length C) refl refl refl p c a (demand1-answers .checking P C));
-  of-certify = λ P buffer bp p. let m = madeFrom P buffer in
-      made-decoded m (listed-fits listed.makingAnswers (length P) 0 refl refl refl p (omega arith) (m .answer) (demand1-answers .making P bp buffer));
-}
+-- where it is a grade: the length is at most the room that is asked for
+made-length : (P : List ℕ) → Bytes P → (buffer : List ℕ) → madeFrom P buffer .length ≤ roomAsked
+unfolding madeBy planRead
+made-length P bp buffer = go (ended plan P 0) refl
+  where
+    go : (x : Read Plan) → ended plan P 0 ≡ x → madeBy buffer (planRead x .answer) (planRead x .graph) .length ≤ roomAsked
+    go (Refused r q) e = omega arith
+    go (Got p next) e = test (ltb (length buffer) roomAsked)
+      where
+        test : (b : Bool) → cond b (made (PlanFault 30 0) 0) (made (Grade (gradeMade (graphOf p))) (length (certificateOf (graphOf p)))) .length ≤ roomAsked
+        test true = omega arith
+        test false = made-short p (ended-there plan-law bp e .1)
+
+made-placed : (m : Made) (k : ℕ) → k < 256 → m .length < 2 ^ 48 → m .answer ≡ Grade k → madeWord m / 65536 ≡ m .length
+made-placed m k f h e = ap (λ (a : Answer). gradeWord a (m .length) / 65536) e ∙ omega arith
 
 -- A GRADE in a word is in its two lowest bytes
 in-word : (c n p : ℕ) {k : ℕ} → inWord c n p ≡ Grade k → (c ≡ 1) × (n ≡ k)
@@ -150,20 +160,62 @@ part-bytes s bytes a e i = go (ltb i (e - a)) refl
         let n = length-take (e - a) (drop a s) in
         let z : getD (partOf s a e) i 0 ≡ 0 = List·getD-eq-default (partOf s a e) 0 (omega arith) in omega (arith, z)
 
-calls-bytes : (k : ℕ) (s : List ℕ) → Bytes s → (at : ℕ) → CallBytes (callsFrom k s at)
+part-short : (s : List ℕ) (a e : ℕ) → length (partOf s a e) ≤ length s
+part-short s a e = omega (arith, length-take (e - a) (drop a s), length-drop a s)
+
+-- what holds of every part of a script holds of each part that its calls are handed
+abbrev Each : (List ℕ → Type 0) → List Call → Type 0
+Each Q [] = Unit {0}
+Each Q (start part ∷ cs) = Q part × Each Q cs
+Each Q (path part ∷ cs) = Q part × Each Q cs
+Each Q (close ∷ cs) = Each Q cs
+
+calls-each : (Q : List ℕ → Type 0) (k : ℕ) (s : List ℕ) → ((a e : ℕ) → Q (partOf s a e)) → (at : ℕ) → Each Q (callsFrom k s at)
 unfolding callsFrom
-calls-bytes zero s bytes at = tt
-calls-bytes (suc k) s bytes at =
-    go (leb (length s) at) (eqb (getD s at 0) 99) (eqb (getD s at 0) 115 || eqb (getD s at 0) 112) (eqb (getD s at 0) 115) (partAt s (at + 1)) (calls-bytes k s bytes)
+calls-each Q zero s part at = tt
+calls-each Q (suc k) s part at =
+    go (leb (length s) at) (eqb (getD s at 0) 99) (eqb (getD s at 0) 115 || eqb (getD s at 0) 112) (eqb (getD s at 0) 115) (partAt s (at + 1)) (calls-each Q k s part)
   where
-    go : (b c d t : Bool) (p : Part) → ((e : ℕ) → CallBytes (callsFrom k s e)) → CallBytes
+    go : (b c d t : Bool) (p : Part) → ((e : ℕ) → Each Q (callsFrom k s e)) → Each Q
         (cond b [] (cond c (close ∷ callsFrom k s (at + 1)) (cond d (onPartCalls p (λ a e. cond t (start (partOf s a e)) (path (partOf s a e)) ∷ callsFrom k s e)) [])))
     go true c d t p rest = tt
     go false true d t p rest = rest (at + 1)
-    go false false true true (Within a e) rest = (part-bytes s bytes a e, rest e)
-    go false false true false (Within a e) rest = (part-bytes s bytes a e, rest e)
+    go false false true true (Within a e) rest = (part a e, rest e)
+    go false false true false (Within a e) rest = (part a e, rest e)
     go false false true t Cut rest = tt
     go false false false t p rest = tt
+
+each-bytes : (calls : List Call) → Each Bytes calls → CallBytes calls
+each-bytes [] h = tt
+each-bytes (start part ∷ cs) h = (h .0, each-bytes cs (h .1))
+each-bytes (path part ∷ cs) h = (h .0, each-bytes cs (h .1))
+each-bytes (close ∷ cs) h = each-bytes cs h
+
+calls-bytes : (k : ℕ) (s : List ℕ) → Bytes s → (at : ℕ) → CallBytes (callsFrom k s at)
+calls-bytes k s bytes at = each-bytes (callsFrom k s at) (calls-each Bytes k s (part-bytes s bytes) at)
+
+-- and short, so every answer of a script fits
+abbrev Small : List ℕ → Type 0
+Small part = length part < 2 ^ 48
+
+answers-fit : (s : Session) (calls : List Call) → Each Small calls → (i : ℕ) → Fits (getD (answersOf s calls) i Accepted)
+answers-fit s [] h i = tt
+answers-fit s (start part ∷ cs) h zero =
+    listed-fits listed.startAnswers 0 (length part) refl refl refl (omega arith) (h .0) (startStep s part .answer) (demand1-answers .starting s part)
+answers-fit s (path part ∷ cs) h zero =
+    listed-fits listed.pathAnswers 0 (length part) refl refl refl (omega arith) (h .0) (pathStep s part .answer) (demand1-answers .pathing s part)
+answers-fit s (close ∷ cs) h zero = listed-fits listed.closingAnswers 0 0 refl refl refl (omega arith) (omega arith) (closeStep s .answer) (demand1-answers .closing s)
+answers-fit s (start part ∷ cs) h (suc i) = answers-fit (startStep s part .session) cs (h .1) i
+answers-fit s (path part ∷ cs) h (suc i) = answers-fit (pathStep s part .session) cs (h .1) i
+answers-fit s (close ∷ cs) h (suc i) = answers-fit (closeStep s .session) cs h i
+
+script-fits : (s : List ℕ) → length s < 2 ^ 48 → (a e i : ℕ) → Fits (getD (scriptAnswers s a e) i Accepted)
+script-fits s h a e zero =
+    let P = partOf s a e in
+    listed-fits listed.openingAnswers (length P) 0 refl refl refl (omega (arith, part-short s a e)) (omega arith) (opening P .answer) (demand1-answers .opening P)
+script-fits s h a e (suc i) =
+    answers-fit (opening (partOf s a e) .session) (callsFrom (length s) s e)
+    (calls-each Small (length s) s (λ b c. let z : length (partOf s b c) < 2 ^ 48 = omega (arith, part-short s b c) in z) e) i
 
 -- ONLY CLOSING answers a grade
 opening-no-grade : (P : List ℕ) (j : ℕ) → opening P .answer ≡ Grade j → ⊥
@@ -230,6 +282,37 @@ told-word s buffer a e w i h =
     let g : getD (take room answers) i Accepted ≡ getD answers i Accepted = getD-take room answers i Accepted (omega arith) in
     ap (λ (b : List ℕ). wordAt b i) (t .buffer-then)
     ∙ ap wordOf (nth-word (take room answers) _ i (omega arith) ∙ ap answerBytes g)
+
+-- all bytes of an answer that fits are told
+word-back : (k w : ℕ) → w < 256 ^ k → wordOf (wordBytes k w) ≡ w
+unfolding wordBytes
+word-back zero w h = omega arith
+word-back (suc k) w h = let e = word-back k (w / 256) (omega (arith, pow-suc 256 k)) in omega (arith, e)
+
+fits-below : (a : Answer) → Fits a → answerWord a < 256 ^ 8
+fits-below Accepted f = omega arith
+fits-below (Grade k) f = omega arith
+fits-below (PlanFault r p) f = omega arith
+fits-below (CertificateFault r p) f = omega arith
+
+told-decoded : (a : Answer) → Fits a → decoded (wordOf (answerBytes a)) ≡ a
+told-decoded a f = ap decoded (word-back 8 (answerWord a) (fits-below a f)) ∙ words-decode a f
+
+pub words-are-answers : WordsAreAnswers
+words-are-answers = record {
+  of-plan = λ P p. let a = wholePlan P .answer in
+      words-decode a (listed-fits listed.readingAnswers (length P) 0 refl refl refl p (omega arith) a (demand1-answers .reading P));
+  of-check = λ P C p c. let a = checkOf P C in
+      words-decode a (listed-fits listed.checkingAnswers (length P) (length C) refl refl refl p c a (demand1-answers .checking P C));
+  of-certify = λ P buffer bp p. let m = madeFrom P buffer in
+      made-decoded m (listed-fits listed.makingAnswers (length P) 0 refl refl refl p (omega arith) (m .answer) (demand1-answers .making P bp buffer));
+  length-of = λ P buffer bp k e.
+      let g : In k (listed.makingAnswers .grades) = subst (λ (a : Answer). OneOf listed.makingAnswers (length P) 0 a) e (demand1-answers .making P bp buffer) in
+      made-placed (madeFrom P buffer) k (byte-number (listed.makingAnswers .grades) refl k g) (omega (arith, made-length P bp buffer)) e;
+  of-session = λ s buffer a e w h i c. ap decoded (told-word s buffer a e w i c) ∙ told-decoded (getD (scriptAnswers s a e) i Accepted) (script-fits s h a e i);
+  status-of = λ s buffer. let b = replay-bounded s buffer in omega (arith, b .status);
+  count-of = λ s buffer h. let b = replay-bounded s buffer in omega (arith, b .status, b .count);
+}
 
 pub grades-in-words : GradesInWords
 grades-in-words = record {

@@ -1,5 +1,5 @@
 -- SCRIPTS: a plan record and its calls are read back from their script, which is bytes; a replay tells the answers of the script's calls,
--- and where they all have room the whole reply is known.
+-- none where its plan record is cut, and where they all have room the whole reply is known.
 -- Assumes nothing.
 use Prim.Native.Nat.{ℕ, zero, suc, _+_, _*_, _-_, _/_, _%_, _≤_, _<_, min}
 use mathlib.Core.List.{List, [], _∷_, _++_, append-assoc}
@@ -24,7 +24,7 @@ use Rattle.script.specs.Replay.{answerWord, answerBytes, Reply, reply, hasRoomF
 use Rattle.script.proofs.Answers.{word-length}
 use Rattle.claims.specs.Calls.{Call, Call.start, Call.path, Call.close, CallBytes, called}
 use Rattle.claims.specs.Exports.{partBytes, callBytes, scriptBytes, Short, callOf, onPartCalls, callsFrom, answersOf, scriptAnswers}
-use Rattle.claims.specs.Demands.{ScriptsEncode, ScriptsReplay, ScriptReplies}
+use Rattle.claims.specs.Demands.{ScriptsEncode, ScriptsReplay, ScriptReplies, ScriptCut}
 use Rattle.claims.proofs.Sessions.{close-same}
 
 -- A PART behind other bytes is found, and is what was written
@@ -169,10 +169,11 @@ scripts-encode P calls h f =
       calls-behind = calls-back (length (scriptBytes P calls)) (scriptBytes P calls) (2 + length P) calls (script-has P calls) (script-long P calls);
     }
 
--- A REPLAY from a place on: where count answers stand in the buffer and room more go into it, it tells these
+-- A REPLAY from a place on: where count answers stand in the buffer and room more go into it, it tells these, and it ends in one of four ways
 record TellsOn (r : Reply) (buffer : List ℕ) (count room : ℕ) (answers : List Answer) : Type 0 where
   count-then : r .count ≡ count + min (length answers) room
   buffer-then : r .buffer ≡ overwritten buffer (8 * count) (listBytes answerBytes (take room answers))
+  ended : r .status ≤ 3
 
 module _ (buffer : List ℕ) (count : ℕ) where
   room-for : 8 * (count + 1) ≤ length buffer → hasRoomFor buffer count ≡ true
@@ -184,9 +185,9 @@ module _ (buffer : List ℕ) (count : ℕ) where
   room-left : (a : Answer) (more : ℕ) → 8 * (count + suc more) ≤ length buffer → 8 * (count + 1 + more) ≤ length (withAnswer buffer count a)
   room-left a more h = rw (answer-kept a (omega arith)) (omega arith)
 
-  tells-none : (room status : ℕ) → TellsOn (reply buffer count status) buffer count room []
+  tells-none : (room status : ℕ) → status ≤ 3 → TellsOn (reply buffer count status) buffer count room []
   unfolding listBytes
-  tells-none room status = record { count-then = omega arith; buffer-then = rw (take-nil {A = Answer} room) (sym (overwritten-none buffer (8 * count))) }
+  tells-none room status h = record { count-then = omega arith; buffer-then = rw (take-nil {A = Answer} room) (sym (overwritten-none buffer (8 * count))); ended = h }
 
   -- one more answer, where there is room
   one-more : (room : ℕ) → count + room ≡ length buffer / 8 → (a : Answer) (answers : List Answer) (r : Reply)
@@ -195,7 +196,7 @@ module _ (buffer : List ℕ) (count : ℕ) where
   unfolding listBytes
   one-more zero h a answers r next =
       let f : hasRoomFor buffer count ≡ false = lt-leb (8 * count + 8) (length buffer) (omega arith) in
-      rw f (record { count-then = omega arith; buffer-then = sym (overwritten-none buffer (8 * count)) })
+      rw f (record { count-then = omega arith; buffer-then = sym (overwritten-none buffer (8 * count)); ended = omega arith })
   one-more (suc left) h a answers r next =
       let n = word-length 8 (answerWord a) in
       let t = next left (rw (answer-kept a (omega arith)) (omega arith)) in
@@ -203,6 +204,7 @@ module _ (buffer : List ℕ) (count : ℕ) where
       rw (room-for (omega arith)) (record {
         count-then = t .count-then ∙ omega arith;
         buffer-then = t .buffer-then ∙ rw at (overwritten-more buffer (8 * count) (answerBytes a) (omega arith) (listBytes answerBytes (take left answers)));
+        ended = t .ended;
       })
 
 -- a call by its byte is the call that this byte says
@@ -232,22 +234,37 @@ turn-tells k s rest session at buffer count room h = go (leb (length s) at) (eqb
         (reply buffer count 3))) (reply buffer count 2))))
         buffer count room (answersOf session (cond b [] (cond c (close ∷ callsFrom k s (at + 1))
         (cond d (onPartCalls p (λ a e. callOf (getD s at 0) (partOf s a e) ∷ callsFrom k s e)) []))))
-    go true c d p = tells-none buffer count room 0
+    go true c d p = tells-none buffer count room 0 (omega arith)
     go false true d p = one-more buffer count room h (closeStep session .answer) _ _ (λ left e. rw (close-same session) (rest session (at + 1) _ (count + 1) left e))
-    go false false true Cut = tells-none buffer count room 1
+    go false false true Cut = tells-none buffer count room 1 (omega arith)
     go false false true (Within a e) = rw (step-called (getD s at 0) session (partOf s a e)) (one-more buffer count room h _ _ _ (λ left f. rest _ e _ (count + 1) left f))
-    go false false false p = tells-none buffer count room 2
+    go false false false p = tells-none buffer count room 2 (omega arith)
 
 replay-tells : (k : ℕ) (s : List ℕ) → Replays k s
 unfolding replayOn callsFrom
-replay-tells zero s = λ session at buffer count room h. tells-none buffer count room 0
+replay-tells zero s = λ session at buffer count room h. tells-none buffer count room 0 (omega arith)
 replay-tells (suc k) s = turn-tells k s (replay-tells k s)
 
+opened-tells : (s buffer : List ℕ) (a e : ℕ) → TellsOn (opened s buffer a e) buffer 0 (length buffer / 8) (scriptAnswers s a e)
+opened-tells s buffer a e = one-more buffer 0 (length buffer / 8) (omega arith) (opening (partOf s a e) .answer) _ _ (λ left f. replay-tells (length s) s _ e _ 1 left f)
+
 pub scripts-replay : ScriptsReplay
-scripts-replay s buffer a e w = record { count = rw w (t .count-then ∙ omega arith); buffer-then = rw w (t .buffer-then) }
+scripts-replay s buffer a e w = let t = opened-tells s buffer a e in record { count = rw w (t .count-then ∙ omega arith); buffer-then = rw w (t .buffer-then) }
+
+pub script-cut : ScriptCut
+script-cut s buffer e = rw e
+
+-- so, cut or not: no more answers than have room, and one of the four endings
+pub record Bounded (buffer : List ℕ) (r : Reply) : Type 0 where
+  pub count : r .count ≤ length buffer / 8
+  pub status : r .status ≤ 3
+
+pub replay-bounded : (s buffer : List ℕ) → Bounded buffer (replayOf s buffer)
+replay-bounded s buffer = go (partAt s 0)
   where
-    t : TellsOn (opened s buffer a e) buffer 0 (length buffer / 8) (scriptAnswers s a e)
-    t = one-more buffer 0 (length buffer / 8) (omega arith) (opening (partOf s a e) .answer) _ _ (λ left f. replay-tells (length s) s _ e _ 1 left f)
+    go : (p : Part) → Bounded buffer (onPart p (reply buffer 0 1) (opened s buffer))
+    go Cut = record { count = omega arith; status = omega arith }
+    go (Within a e) = let t = opened-tells s buffer a e in record { count = omega (arith, t .count-then); status = t .ended }
 
 -- as many answers as calls
 answers-many : (s : Session) (calls : List Call) → length (answersOf s calls) ≡ length calls
