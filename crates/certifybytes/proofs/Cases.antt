@@ -14,9 +14,9 @@ use Rattle.record.proofs.Write.{overwritten-length}
 use Rattle.certifier.specs.declared.Made.{Made}
 use Rattle.certifier.specs.Made.{roomAsked, made, madeFrom, filledFrom, draftFrom}
 use Rattle.certifier.proofs.Drafts.{made-room, made-done}
-use Rattle.lines.specs.Lines.{tooLong, refusalLine, placeAfter, written}
+use Rattle.lines.specs.Lines.{tooLong, refusalLine, inputLimit, placeAfter, written}
 use Rattle.lines.proofs.Put.{Put, put-as}
-use Rattle.certifybytes.specs.Bytes.{inputLimit, room, zeros, madeBytes, certifyBytes}
+use Rattle.certifybytes.specs.Bytes.{room, zeros, madeBytes, certifyBytes}
 use Rattle.certifybytes.proofs.Lengths.{made-short}
 
 module _ (s : List ℕ) where

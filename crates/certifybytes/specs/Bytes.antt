@@ -8,11 +8,7 @@ use Rattle.record.specs.declared.Answer.{Answer}
 use Rattle.record.specs.declared.Answer.the-variants.{Accepted, Grade, PlanFault, CertificateFault}
 use Rattle.graph.specs.Limits.{maxEdges}
 use Rattle.certifier.specs.Made.{roomAsked, madeFrom, filledFrom}
-use Rattle.lines.specs.Lines.{tooLong, refusalLine}
-
--- the longest input, in bytes
-abbrev pub inputLimit : ℕ
-inputLimit = 4096
+use Rattle.lines.specs.Lines.{tooLong, refusalLine, inputLimit}
 
 -- an accepted plan has two numbers of two bytes at most, and two vertices of a byte for each edge; its certificate stands behind it
 abbrev pub room : ℕ

@@ -8,9 +8,6 @@ use certifier::Made;
 use graph::GraphTable;
 use record::Answer;
 
-// the longest input, in bytes
-pub const LIMIT: usize = 4096;
-
 // An accepted plan has two numbers of two bytes at most, and two vertices of a byte for each edge.
 const PLAN_ROOM: usize = 4 + 2 * GraphTable::MAX_EDGES as usize;
 
@@ -24,7 +21,7 @@ pub fn bytes<'a>(input: &'a [u8], out: &'a mut [u8]) -> usize
     ensures { λ r. ⌜ now (out .exit) ≡ written (now (out .entry)) 0 (certifyBytes (now (input .entry))) ⌝ }
     ensures { λ r. ⌜ length (certifyBytes (now (input .entry))) ≤ room ⌝ }
 {
-    if LIMIT < input.len() {
+    if lines::LIMIT < input.len() {
         return lines::put_bytes(out, 0, b"input too long\n");
     }
     let mut certificate = [0u8; Made::ROOM];

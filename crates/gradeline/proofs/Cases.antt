@@ -9,10 +9,10 @@ use Rattle.record.specs.declared.Answer.{Answer}
 use Rattle.record.specs.declared.Answer.the-variants.{Grade}
 use Rattle.checker.specs.declared.Graded.{Graded}
 use Rattle.checker.specs.Check.{gradeOf}
-use Rattle.lines.specs.Lines.{decimal, tooLong, refusalLine}
+use Rattle.lines.specs.Lines.{decimal, tooLong, refusalLine, inputLimit}
 use Rattle.lines.proofs.Digits.{decimal-short}
 use Rattle.lines.proofs.Lengths.{size-short}
-use Rattle.gradeline.specs.Line.{inputLimit, gradedLine, gradeLine}
+use Rattle.gradeline.specs.Line.{gradedLine, gradeLine}
 
 module _ (s : List ℕ) where
   pub long-line : inputLimit < length s → tooLong ≡ gradeLine s

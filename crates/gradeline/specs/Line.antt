@@ -7,16 +7,12 @@ use lib.Dec.{ltb}
 use Rattle.record.specs.declared.Answer.{Answer}
 use Rattle.record.specs.declared.Answer.the-variants.{Accepted, Grade, PlanFault, CertificateFault}
 use Rattle.checker.specs.Check.{gradeOf}
-use Rattle.lines.specs.Lines.{decimal, newline, tooLong, sizeText, gradeWord, refusalLine}
-
--- document 01: "up to 4,096 bytes together"
-abbrev pub inputLimit : ℕ
-inputLimit = 4096
+use Rattle.lines.specs.Lines.{decimal, newline, tooLong, sizeText, gradeText, refusalLine, inputLimit}
 
 -- the grade line is boxes, cables and grade; else the line of the refusal
 abbrev pub gradedLine : Answer → ℕ → ℕ → List ℕ
 gradedLine Accepted n m = refusalLine Accepted
-gradedLine (Grade k) n m = sizeText n m ++ gradeWord ++ decimal k ++ newline
+gradedLine (Grade k) n m = sizeText n m ++ gradeText ++ decimal k ++ newline
 gradedLine (PlanFault r p) n m = refusalLine (PlanFault r p)
 gradedLine (CertificateFault r p) n m = refusalLine (CertificateFault r p)
 

@@ -7,9 +7,6 @@ ghost use Rattle.lines.specs.Lines.{placeAfter, written, longest};
 ghost use Rattle.gradeline.specs.Line.{gradedLine, gradeLine};
 use record::Answer;
 
-// the longest input, in bytes
-pub const LIMIT: usize = 4096;
-
 // By way of a line of its own: the buffer changes only where the whole line has room.
 fn put_grade(out: &mut [u8], n: u16, m: u16, grade: u8) -> usize
     ensures { λ r. ⌜ r ≡ placeAfter (now (out .entry)) 0 (gradedLine (Grade grade) n m) ⌝ }
@@ -30,7 +27,7 @@ pub fn line<'a>(input: &'a [u8], out: &'a mut [u8]) -> usize
     ensures { λ r. ⌜ now (out .exit) ≡ written (now (out .entry)) 0 (gradeLine (now (input .entry))) ⌝ }
     ensures { λ r. ⌜ length (gradeLine (now (input .entry))) ≤ longest ⌝ }
 {
-    if LIMIT < input.len() {
+    if lines::LIMIT < input.len() {
         return lines::put_bytes(out, 0, b"input too long\n");
     }
     let graded = checker::grade(input);

@@ -45,21 +45,25 @@ refusalLine (PlanFault r p) = faultLine planWord r p
 refusalLine (CertificateFault r p) = faultLine certificateWord r p
 
 -- `boxes `, ` cables ` and ` grade `; the line `input too long`
-abbrev pub boxesWord : List ℕ
-boxesWord = 98 ∷ 111 ∷ 120 ∷ 101 ∷ 115 ∷ 32 ∷ []
+abbrev pub boxesText : List ℕ
+boxesText = 98 ∷ 111 ∷ 120 ∷ 101 ∷ 115 ∷ 32 ∷ []
 
-abbrev pub cablesWord : List ℕ
-cablesWord = 32 ∷ 99 ∷ 97 ∷ 98 ∷ 108 ∷ 101 ∷ 115 ∷ 32 ∷ []
+abbrev pub cablesText : List ℕ
+cablesText = 32 ∷ 99 ∷ 97 ∷ 98 ∷ 108 ∷ 101 ∷ 115 ∷ 32 ∷ []
 
-abbrev pub gradeWord : List ℕ
-gradeWord = 32 ∷ 103 ∷ 114 ∷ 97 ∷ 100 ∷ 101 ∷ 32 ∷ []
+abbrev pub gradeText : List ℕ
+gradeText = 32 ∷ 103 ∷ 114 ∷ 97 ∷ 100 ∷ 101 ∷ 32 ∷ []
 
 abbrev pub tooLong : List ℕ
 tooLong = 105 ∷ 110 ∷ 112 ∷ 117 ∷ 116 ∷ 32 ∷ 116 ∷ 111 ∷ 111 ∷ 32 ∷ 108 ∷ 111 ∷ 110 ∷ 103 ∷ 10 ∷ []
 
 -- a plan's numbers of boxes and cables
 abbrev pub sizeText : ℕ → ℕ → List ℕ
-sizeText n m = boxesWord ++ decimal n ++ cablesWord ++ decimal m
+sizeText n m = boxesText ++ decimal n ++ cablesText ++ decimal m
+
+-- document 01: "up to 4,096 bytes together"; the other programs that read a plan keep to it
+abbrev pub inputLimit : ℕ
+inputLimit = 4096
 
 -- a buffer that has room for every line
 abbrev pub longest : ℕ

@@ -6,6 +6,9 @@ ghost use lib.ListN.{length};
 ghost use Rattle.lines.specs.Lines.{decimal, faultLine, refusalLine, sizeText, placeAfter, written, longest};
 use record::Answer;
 
+// the longest input of a program that reads a plan, in bytes
+pub const LIMIT: usize = 4096;
+
 // No line that a program prints is longer.
 pub const LONGEST: usize = 48;
 

@@ -9,9 +9,9 @@ use Rattle.record.specs.declared.Answer.{Answer}
 use Rattle.record.specs.declared.Answer.the-variants.{Accepted}
 use Rattle.reading.specs.declared.PlanRead.{PlanRead}
 use Rattle.reading.specs.Code.{wholePlan}
-use Rattle.lines.specs.Lines.{newline, sizeText, tooLong, refusalLine}
+use Rattle.lines.specs.Lines.{newline, sizeText, tooLong, refusalLine, inputLimit}
 use Rattle.lines.proofs.Lengths.{size-short}
-use Rattle.plan.specs.Line.{inputLimit, sizeLine, planLine}
+use Rattle.plan.specs.Line.{sizeLine, planLine}
 
 module _ (s : List ℕ) where
   pub long-line : inputLimit < length s → tooLong ≡ planLine s

@@ -7,11 +7,7 @@ use lib.Dec.{ltb}
 use Rattle.record.specs.declared.Answer.{Answer}
 use Rattle.record.specs.declared.Answer.the-variants.{Accepted, Grade, PlanFault, CertificateFault}
 use Rattle.reading.specs.Code.{wholePlan}
-use Rattle.lines.specs.Lines.{newline, tooLong, sizeText, refusalLine}
-
--- the longest input, in bytes
-abbrev pub inputLimit : ℕ
-inputLimit = 4096
+use Rattle.lines.specs.Lines.{newline, tooLong, sizeText, refusalLine, inputLimit}
 
 -- the plan's boxes and cables, or the line of the refusal
 abbrev pub sizeLine : Answer → ℕ → ℕ → List ℕ

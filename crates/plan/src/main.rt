@@ -9,9 +9,6 @@ use libc::STDIN_FILENO;
 use libc::STDOUT_FILENO;
 use record::Answer;
 
-// the longest input, in bytes
-const LIMIT: usize = 4096;
-
 // By way of a line of its own: the buffer changes only where the whole line has room.
 fn put_size(out: &mut [u8], n: u16, m: u16) -> usize
     ensures { λ r. ⌜ r ≡ placeAfter (now (out .entry)) 0 (sizeLine Accepted n m) ⌝ }
@@ -31,7 +28,7 @@ fn line<'a>(input: &'a [u8], out: &'a mut [u8]) -> usize
     ensures { λ r. ⌜ now (out .exit) ≡ written (now (out .entry)) 0 (planLine (now (input .entry))) ⌝ }
     ensures { λ r. ⌜ length (planLine (now (input .entry))) ≤ longest ⌝ }
 {
-    if LIMIT < input.len() {
+    if lines::LIMIT < input.len() {
         return lines::put_bytes(out, 0, b"input too long\n");
     }
     let read = reading::read_plan(input);
@@ -46,7 +43,7 @@ fn line<'a>(input: &'a [u8], out: &'a mut [u8]) -> usize
 
 // One byte more than the limit tells that the input is too long.
 fn main() {
-    let mut input = [0u8; LIMIT + 1];
+    let mut input = [0u8; lines::LIMIT + 1];
     let n = io::read_full(STDIN_FILENO, &mut input);
     let mut out = [0u8; lines::LONGEST];
     let len = line(&input[..n], &mut out);

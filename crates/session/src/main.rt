@@ -12,7 +12,7 @@ fn main() {
     let mut turn = sessionlines::open(&input[..n], &mut out);
     io::write_all(STDOUT_FILENO, &out[..turn.len]);
     while turn.at < n {
-        turn = sessionlines::call(&input[..n], turn.session, turn.at, &mut out);
+        turn = sessionlines::call(&input[..n], turn, &mut out);
         io::write_all(STDOUT_FILENO, &out[..turn.len]);
     }
 }

@@ -130,12 +130,14 @@ pub fn open<'a>(script: &'a [u8], out: &'a mut [u8]) -> Turn
     }
 }
 
-// The call at a place of the script.
-pub fn call<'a>(script: &'a [u8], session: Session, at: usize, out: &'a mut [u8]) -> Turn
-    ensures { λ r. ⌜ r ≡ turnIn (now (out .entry)) (callTurn (now (script .entry)) session at) ⌝ }
-    ensures { λ r. ⌜ now (out .exit) ≡ written (now (out .entry)) 0 (callTurn (now (script .entry)) session at .bytes) ⌝ }
-    ensures { λ r. ⌜ length (callTurn (now (script .entry)) session at .bytes) ≤ longest ⌝ }
+// The call where the script goes on after a turn.
+pub fn call<'a>(script: &'a [u8], turn: Turn, out: &'a mut [u8]) -> Turn
+    ensures { λ r. ⌜ r ≡ turnIn (now (out .entry)) (callTurn (now (script .entry)) (turn .session) (turn .at)) ⌝ }
+    ensures { λ r. ⌜ now (out .exit) ≡ written (now (out .entry)) 0 (callTurn (now (script .entry)) (turn .session) (turn .at) .bytes) ⌝ }
+    ensures { λ r. ⌜ length (callTurn (now (script .entry)) (turn .session) (turn .at) .bytes) ≤ longest ⌝ }
 {
+    let session = turn.session;
+    let at = turn.at;
     if script.len() <= at {
         return Turn {
             session,

@@ -2,7 +2,7 @@
 use lib.ListN.{replicate}
 use native.Mathlib.Omega.{arith}
 use Rattle.record.specs.declared.Answer.the-variants.{Grade}
-use Rattle.lines.specs.Lines.{decimal, gradeWord, newline, sizeText}
+use Rattle.lines.specs.Lines.{decimal, gradeText, newline, sizeText}
 use Rattle.lines.proofs.Put.{Puts.none, Puts.more, Begins, more-both, begins, lined}
 use Rattle.gradeline.specs.Line.{gradedLine}
 use Rattle.gradeline.proofs.Cases.{graded-short}
@@ -25,7 +25,7 @@ text c =
     let a = s .args in
     let l = graded-short (a .n) (a .m) (a .grade) (omega (arith, s .fits)) (omega (arith, s .fits)) (omega (arith, s .fits)) in
     let p = more none (sizeText (a .n) (a .m)) (c .before .before .before .before .before .before .before .before .before .before .put-size .ensures) in
-    let q = more-both p gradeWord (decimal (a .grade)) (c .before .before .before .before .before .before .put-numbered .ensures) in
+    let q = more-both p gradeText (decimal (a .grade)) (c .before .before .before .before .before .before .put-numbered .ensures) in
     let r = more q newline (c .before .before .put-bytes .ensures) in
     begins {buffer = replicate 48 0} r l
 

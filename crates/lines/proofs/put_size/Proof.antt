@@ -1,7 +1,7 @@
 -- `lines::put_size` meets its contract. Assumes nothing.
 use lib.ListN.{replicate}
 use native.Mathlib.Omega.{arith}
-use Rattle.lines.specs.Lines.{decimal, boxesWord, cablesWord, sizeText}
+use Rattle.lines.specs.Lines.{decimal, boxesText, cablesText, sizeText}
 use Rattle.lines.proofs.Lengths.{size-short}
 use Rattle.lines.proofs.Put.{Puts.none, Begins, more-both, begins}
 use borrow.Author.Needs.{needs}
@@ -21,8 +21,8 @@ text c =
     let s = c .before .before .before .before .before .before .before .before .before .before in
     let a = s .args in
     let l = size-short (a .n) (a .m) (omega (arith, s .fits)) (omega (arith, s .fits)) in
-    let p = more-both none boxesWord (decimal (a .n)) (c .before .before .before .before .before .before .put-numbered .ensures) in
-    let q = more-both p cablesWord (decimal (a .m)) (c .before .before .put-numbered2 .ensures) in
+    let p = more-both none boxesText (decimal (a .n)) (c .before .before .before .before .before .before .put-numbered .ensures) in
+    let q = more-both p cablesText (decimal (a .m)) (c .before .before .put-numbered2 .ensures) in
     begins {buffer = replicate 48 0} q (omega arith)
 
 array-share-prefix-text : tie.Need-array-share-prefix-text

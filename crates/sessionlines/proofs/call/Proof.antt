@@ -13,26 +13,26 @@ use Rattle.sessionlines.proofs.call.Tie as tie
 
 returns : tie.Need-returns
 returns c =
-    let a = c .before .before .before .args in
-    said-as (a .out .now) (call-none (a .script .now) (a .session) (a .at) (c .if1 .taken)) (said (a .out .now) [] (a .session) (a .at) (lined (a .out .now) 0 [] (put-none (a .out .now) 0) (omega arith)))
+    let a = c .before .before .before .before .args in
+    said-as (a .out .now) (call-none (a .script .now) (a .turn .session) (a .turn .at) (c .if1 .taken)) (said (a .out .now) [] (a .turn .session) (a .turn .at) (lined (a .out .now) 0 [] (put-none (a .out .now) 0) (omega arith)))
 
 returns-2 : tie.Need-returns-2
 returns-2 c =
-    let a = c .before .before .before .before .before .before .before .before .before .before .args in
+    let a = c .before .before .before .before .before .before .before .before .before .before .before .args in
     let x = c .before .before .before .before .close in
-    said-as (a .out .now) (call-close (a .script .now) (a .session) (a .at) (c .before .before .before .before .before .before .before .if1 .left) (c .before .before .before .before .before .if2 .taken) (x .ensures))
-    (said (a .out .now) (answerLine (x .result .answer)) (a .session) (a .at + 1) (c .before .before .put-answer .ensures))
+    said-as (a .out .now) (call-close (a .script .now) (a .turn .session) (a .turn .at) (c .before .before .before .before .before .before .before .if1 .left) (c .before .before .before .before .before .if2 .taken) (x .ensures))
+    (said (a .out .now) (answerLine (x .result .answer)) (a .turn .session) (a .turn .at + 1) (c .before .before .put-answer .ensures))
 
 returns-3 : tie.Need-returns-3
 returns-3 c =
-    let a = c .before .before .before .before .before .before .before .before .before .before .before .args in
-    said-as (a .out .now) (call-unknown (a .script .now) (a .session) (a .at) (c .before .before .before .before .before .before .before .before .if1 .left) (c .before .before .before .before .before .before .if2 .left) (not-true _ (c .before .before .before .before .before .if3 .taken))) (c .before .before .say .ensures)
+    let a = c .before .before .before .before .before .before .before .before .before .before .before .before .args in
+    said-as (a .out .now) (call-unknown (a .script .now) (a .turn .session) (a .turn .at) (c .before .before .before .before .before .before .before .before .if1 .left) (c .before .before .before .before .before .before .if2 .left) (not-true _ (c .before .before .before .before .before .if3 .taken))) (c .before .before .say .ensures)
 
 returns-4 : tie.Need-returns-4
 returns-4 c =
-    let a = c .before .before .before .before .before .before .before .before .before .before .before .before .before .before .args in
+    let a = c .before .before .before .before .before .before .before .before .before .before .before .before .before .before .before .args in
     said-as (a .out .now)
-    (call-cut (a .script .now) (a .session) (a .at) (c .before .before .before .before .before .before .before .before .before .before .before .if1 .left) (c .before .before .before .before .before .before .before .before .before .if2 .left) (not-false _ (c .before .before .before .before .before .before .before .before .if3 .left)) (c .before .before .before .before .before .before .before .part-at .ensures) (c .before .before .before .before .before .enum-told .given .1))
+    (call-cut (a .script .now) (a .turn .session) (a .turn .at) (c .before .before .before .before .before .before .before .before .before .before .before .if1 .left) (c .before .before .before .before .before .before .before .before .before .if2 .left) (not-false _ (c .before .before .before .before .before .before .before .before .if3 .left)) (c .before .before .before .before .before .before .before .part-at .ensures) (c .before .before .before .before .before .enum-told .given .1))
     (c .before .before .say2 .ensures)
 
 sub-step : tie.Need-sub-step
@@ -49,9 +49,9 @@ step-requires c κs = let w = part-within _ _ (c .before .before .before .before
 
 returns-5 : tie.Need-returns-5
 returns-5 c =
-    let a = c .before .before .before .before .before .before .before .before .before .before .before .before .before .before .before .args in
+    let a = c .before .before .before .before .before .before .before .before .before .before .before .before .before .before .before .before .args in
     said-as (a .out .now)
-    (call-part (a .script .now) (a .session) (a .at) (c .before .before .before .before .before .before .before .before .before .before .before .before .if1 .left) (c .before .before .before .before .before .before .before .before .before .before .if2 .left) (not-false _ (c .before .before .before .before .before .before .before .before .before .if3 .left)) (c .before .before .before .before .before .before .before .before .part-at .ensures) (c .before .before .before .before .before .before .part .given .1))
+    (call-part (a .script .now) (a .turn .session) (a .turn .at) (c .before .before .before .before .before .before .before .before .before .before .before .before .if1 .left) (c .before .before .before .before .before .before .before .before .before .before .if2 .left) (not-false _ (c .before .before .before .before .before .before .before .before .before .if3 .left)) (c .before .before .before .before .before .before .before .before .part-at .ensures) (c .before .before .before .before .before .before .part .given .1))
     (c .before .before .step .ensures)
 
 pub call-spec : {M : Type 1} → statement M
