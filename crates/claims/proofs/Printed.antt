@@ -19,8 +19,8 @@ use Rattle.reading.proofs.Plans.{plan-law}
 use Rattle.checker.specs.Check.{checkOf, onLeading, gradeOf}
 use Rattle.checker.specs.declared.Graded.{Graded}
 use Rattle.certifier.specs.Made.{roomAsked, madeFrom}
-use Rattle.lines.specs.Lines.{decimal, newline, boxesWord, cablesWord, gradeWord, tooLong, faultLine}
-use Rattle.gradeline.specs.Line.{inputLimit, gradedLine, gradeLine}
+use Rattle.lines.specs.Lines.{inputLimit, decimal, newline, boxesText, cablesText, gradeText, tooLong, faultLine}
+use Rattle.gradeline.specs.Line.{gradedLine, gradeLine}
 use Rattle.certifybytes.specs.Bytes.{zeros, certifyBytes}
 use Rattle.claims.specs.Printed.{GradePrinted}
 use Rattle.claims.specs.Demands.{PrintsGrade, GradePrints, RefusalsPrinted, CertifyPrints}
@@ -38,7 +38,7 @@ unfolding gradeLine
 prints-grade p a C h = rw (le-ltb inputLimit (length (planBytes p ++ C)) h, program-checks p a C)
 
 -- the grade line, piece by piece
-in-pieces : (n m k : ℕ) → gradedLine (Grade k) n m ≡ boxesWord ++ (decimal n ++ (cablesWord ++ (decimal m ++ (gradeWord ++ (decimal k ++ newline)))))
+in-pieces : (n m k : ℕ) → gradedLine (Grade k) n m ≡ boxesText ++ (decimal n ++ (cablesText ++ (decimal m ++ (gradeText ++ (decimal k ++ newline)))))
 in-pieces n m k = simp append-assoc
 
 -- two such lines of the same bytes say the same numbers

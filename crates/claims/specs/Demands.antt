@@ -27,8 +27,8 @@ use Rattle.script.specs.declared.Part.the-variants.{Within, Cut}
 use Rattle.script.specs.Script.{partAt}
 use Rattle.script.specs.Replay.{answerWord, answerBytes, partOf, reply, replayOf}
 use Rattle.fikzarn.specs.Words.{madeWord, replayWord}
-use Rattle.lines.specs.Lines.{planWord, certificateWord, faultLine, tooLong}
-use Rattle.gradeline.specs.Line.{inputLimit, gradedLine, gradeLine}
+use Rattle.lines.specs.Lines.{inputLimit, planWord, certificateWord, faultLine, tooLong}
+use Rattle.gradeline.specs.Line.{gradedLine, gradeLine}
 use Rattle.certifybytes.specs.Bytes.{certifyBytes}
 use Rattle.sessionlines.specs.Lines.{scriptLimit, answerLine, scriptLines}
 use Rattle.claims.specs.Certified.{IsPlan, HasFigure, Certified, Sequenced}
