@@ -15,7 +15,7 @@ pub const LIMIT: usize = 65536;
 
 // The session after a turn, where its script goes on, and how many bytes at the start of the buffer are the line.
 pub struct Turn {
-    pub session: Session,
+    session: Session,
     pub at: usize,
     pub len: usize,
 }
