@@ -38,7 +38,7 @@ edges-short n h before [] x = refl
 edges-short n h before (e ∷ l) x =
     omega (arith, length-append (edgeBytes e) (listBytes edgeBytes l), edge-short e n h (x .0 .0), edges-short n h e l (x .1))
 
-plan-short : (p : Plan) → Allowed p → length (planBytes p) ≤ 1028
+pub plan-short : (p : Plan) → Allowed p → length (planBytes p) ≤ 1028
 plan-short p a =
     let e = edges-short (p .n) (a .most) (0, 0) (p .edges) (a .each) in
     let l = length-append (numberBytes (p .n)) (numberBytes (length (p .edges)) ++ listBytes edgeBytes (p .edges)) in

@@ -35,8 +35,9 @@ use Rattle.sessions.specs.Session.{noSession, openedOn, onOpening, opening, ref
 use Rattle.certifier.specs.Made.{made, madeBy, madeFrom, roomAsked, gradeMade, certificateOf}
 use Rattle.claims.specs.Answers as listed
 use Rattle.claims.specs.Answers.{OneOf, answers, inPlan, inCertificate, allGrades}
-use Rattle.claims.specs.Demands.{Demand1Answers}
-use Rattle.claims.proofs.Demands.{made-accepted}
+use Rattle.claims.specs.Demands.{Demand1Answers, RefusedElse}
+use Rattle.claims.proofs.Demands.{made-accepted, plan-faults-first}
+use Rattle.claims.proofs.Checking.{grade-certified}
 
 -- a reader whose numbers are in a list; as a test, so that a number's being there is computed
 abbrev By : {A : Type 0} → List ℕ → Reader A → Type 0
@@ -281,3 +282,13 @@ demand1-answers = record {
   pathing = pathing;
   closing = closes;
 }
+
+-- DEMAND 2, the other way: what is not accepted beside an accepted plan is refused as a certificate
+pub refused-else : RefusedElse
+refused-else P C bp bc a n = go (checkOf P C) refl (checking P C)
+  where
+    go : (x : Answer) → checkOf P C ≡ x → OneOf listed.checkingAnswers (length P) (length C) x → (r : ℕ) × (q : ℕ) × (checkOf P C ≡ CertificateFault r q)
+    go Accepted e h = let z : _≡_ {A = ℕ} 0 1 = cc in absurd (omega arith)
+    go (Grade k) e h = absurd (n k (grade-certified P C k bp bc e))
+    go (PlanFault r q) e h = let z : _≡_ {A = ℕ} 0 1 = cc (plan-faults-first P C r q .0 e) in absurd (omega arith)
+    go (CertificateFault r q) e h = (r, q, e)

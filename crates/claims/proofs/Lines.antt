@@ -5,8 +5,9 @@ use mathlib.Core.Bool.{true}
 use mathlib.Core.Path.{_≡_, refl, ap}
 use native.Mathlib.Omega.{arith}
 use lib.Dec.{leb}
-use lib.ListN.{length, length-drop}
+use lib.ListN.{length, length-drop, length-append}
 use borrow.Author.Tests.{le-ltb}
+use Rattle.record.specs.Number.{listBytes}
 use Rattle.sessions.specs.declared.Session.{Session}
 use Rattle.sessions.specs.declared.Stepped.{Stepped}
 use Rattle.sessions.specs.Session.{opening, startStep, pathStep, closeStep}
@@ -14,7 +15,7 @@ use Rattle.sessionlines.specs.Lines.{scriptLimit, answerLine, stepLine, stepTur
 use Rattle.claims.specs.Session as of
 use Rattle.claims.specs.Session.{State, Gives}
 use Rattle.claims.specs.Calls.{Call, Call.start, Call.path, Call.close}
-use Rattle.claims.specs.Exports.{scriptBytes}
+use Rattle.claims.specs.Exports.{partBytes, callBytes, scriptBytes, Short}
 use Rattle.claims.specs.Printed.{callLines}
 use Rattle.claims.specs.Demands.{SessionPrints}
 use Rattle.claims.proofs.Demand1.{At, Agree, agree, opens-at}
@@ -56,11 +57,20 @@ lines-printed (suc k) s session z at (close ∷ cs) i h f =
     let later = lines-printed k s session (of.closeCall z .state) (at + 1) cs (a .next) (h .1) (omega arith) in
     rw (c .inside, c .byte) (λ j. answerLine (a .answer j) ++ later j)
 
+-- no part of a script within the limit is too long
+short-calls : (calls : List Call) → length (listBytes callBytes calls) ≤ scriptLimit → Short calls
+unfolding listBytes
+short-calls [] h = tt
+short-calls (start part ∷ cs) h = let l = length-append (callBytes (start part)) (listBytes callBytes cs) in (omega arith, short-calls cs (omega arith))
+short-calls (path part ∷ cs) h = let l = length-append (callBytes (path part)) (listBytes callBytes cs) in (omega arith, short-calls cs (omega arith))
+short-calls (close ∷ cs) h = let l = length-append (callBytes close) (listBytes callBytes cs) in short-calls cs (omega arith)
+
 pub session-prints : SessionPrints
 unfolding openTurn
-session-prints P calls bytes p f short =
+session-prints P calls bytes short =
     let s = scriptBytes P calls in
-    let e = scripts-encode P calls p f in
+    let l = length-append (partBytes P) (listBytes callBytes calls) in
+    let e = scripts-encode P calls (omega arith) (short-calls calls (omega arith)) in
     let o = opens-at P bytes in
     let later = lines-printed (length s) s (opening P .session) (of.openCall P .state) (2 + length P) calls (o .state) (script-has P calls) (script-long P calls) in
     rw (le-ltb scriptLimit (length s) short, e .plan-at, e .plan) (λ j. answerLine (o .answer j) ++ later j)

@@ -1,5 +1,5 @@
 -- What the checking and the making program print. Assumes nothing.
-use Prim.Native.Nat.{ℕ, _+_}
+use Prim.Native.Nat.{ℕ, _+_, _≤_}
 use mathlib.Core.List.{List, [], _++_, append-assoc}
 use mathlib.Core.Bool.{Bool, true, false, cond}
 use mathlib.Core.Path.{_≡_, refl, sym, ap, _∙_}
@@ -15,13 +15,14 @@ use Rattle.record.proofs.Laws.{ended-back}
 use Rattle.record.proofs.Parts.{leads-there, leads-back}
 use Rattle.reading.specs.Plan.{Plan, Allowed, plan, planBytes}
 use Rattle.reading.specs.Code.{wholePlan}
-use Rattle.reading.proofs.Plans.{plan-law}
+use Rattle.reading.proofs.Plans.{plan-law, accepted}
 use Rattle.checker.specs.Check.{checkOf, onLeading, gradeOf}
 use Rattle.checker.specs.declared.Graded.{Graded}
 use Rattle.certifier.specs.Made.{roomAsked, madeFrom}
 use Rattle.lines.specs.Lines.{inputLimit, decimal, newline, boxesText, cablesText, gradeText, tooLong, faultLine}
 use Rattle.gradeline.specs.Line.{gradedLine, gradeLine}
 use Rattle.certifybytes.specs.Bytes.{zeros, certifyBytes}
+use Rattle.certifybytes.proofs.Lengths.{plan-short}
 use Rattle.claims.specs.Printed.{GradePrinted}
 use Rattle.claims.specs.Demands.{PrintsGrade, GradePrints, RefusalsPrinted, CertifyPrints}
 use Rattle.claims.proofs.Checking.{answer-there, certified-sound}
@@ -86,7 +87,9 @@ grade-prints s bytes n m k e = let g = graded-line s n m k e in go (plan s 0) re
 -- THE MAKING PROGRAM
 pub certify-prints : CertifyPrints
 unfolding certifyBytes
-certify-prints P bp e h =
+certify-prints P bp e =
+    let a = accepted P bp e in
+    let h : length P ≤ inputLimit = omega (arith, plan-short (a .0) (a .1), ap length (a .2)) in
     let w = maker-writes P bp e zeros (omega (arith, length-replicate {A = ℕ} roomAsked 0)) in
     record {
       certificate = w .certificate;

@@ -86,6 +86,11 @@ RoomNamed = roomAsked ≡ 1536
 abbrev pub Demand2 : Type 0
 Demand2 = (P C : List ℕ) (k : ℕ) → Bytes P → Bytes C → (checkOf P C ≡ Grade k) ↔ Certified P C k
 
+-- so beside an accepted plan every other certificate gets a certificate's fault.
+abbrev pub RefusedElse : Type 0
+RefusedElse =
+    (P C : List ℕ) → Bytes P → Bytes C → wholePlan P .answer ≡ Accepted → ((k : ℕ) → ¬ Certified P C k) → (r : ℕ) × (q : ℕ) × (checkOf P C ≡ CertificateFault r q)
+
 -- "For grade 3 the rules are the three Barnette-Grünbaum additions on simple graphs, from a four-box start to the whole plan." On a build that
 -- a start and further paths give, whose topological graph is simple, and for a path along edges whose ends are in and whose inner vertices
 -- are new, each once, the rule for a further path gives the addition (a), (b) or (c) by the places of its ends, to the topological graph of
@@ -212,7 +217,7 @@ pub record GradesInWords : Type 0 where
 -- THE PROGRAMS. The session program prints a line for each call of its script, the opening's first: those of document 01's session.
 abbrev pub SessionPrints : Type 0
 SessionPrints =
-    (P : List ℕ) (calls : List Call) → Bytes P → length P < 65536 → Short calls → length (scriptBytes P calls) ≤ scriptLimit
+    (P : List ℕ) (calls : List Call) → Bytes P → length (scriptBytes P calls) ≤ scriptLimit
     → scriptLines (scriptBytes P calls) ≡ answerLine (of.openCall P .answer) ++ callLines (of.openCall P .state) calls
 
 -- "Its grade line is boxes, cables and grade": these are the plan's, and the grade is its figure;
@@ -236,4 +241,4 @@ pub record RefusalsPrinted : Type 0 where
 
 -- The maker's program prints a certificate behind every accepted plan.
 abbrev pub CertifyPrints : Type 0
-CertifyPrints = (P : List ℕ) → Bytes P → wholePlan P .answer ≡ Accepted → length P ≤ inputLimit → CertificatePrinted P
+CertifyPrints = (P : List ℕ) → Bytes P → wholePlan P .answer ≡ Accepted → CertificatePrinted P
