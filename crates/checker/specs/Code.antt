@@ -15,12 +15,12 @@ use Rattle.paths.specs.Items.{endRead}
 use Rattle.paths.specs.declared.Item.{Item}
 use Rattle.build.specs.State.{buildBody}
 
--- where the body of a certificate of kind k ends, beside a graph with m edges
+-- where the body of a certificate of kind k ends, beside a graph with d edges
 unfoldable pub bodyEnd : Graph → ℕ → ℕ → List ℕ → ℕ → Item
-bodyEnd g m zero s at = endRead (body g 0 s at)
-bodyEnd g m (suc zero) s at = endRead (body g 1 s at)
-bodyEnd g m (suc (suc zero)) s at = endRead (body g 2 s at)
-bodyEnd g m (suc (suc (suc k))) s at = endRead (buildBody g (furtherCount m (g .n)) s at)
+bodyEnd g d zero s at = endRead (body g 0 s at)
+bodyEnd g d (suc zero) s at = endRead (body g 1 s at)
+bodyEnd g d (suc (suc zero)) s at = endRead (body g 2 s at)
+bodyEnd g d (suc (suc (suc k))) s at = endRead (buildBody g (furtherCount d (g .n)) s at)
 
 -- after the body nothing may be left
 abbrev pub onAnswer : ℕ → ℕ → ℕ → Answer → Answer
@@ -34,9 +34,9 @@ onEnd len k x = onAnswer len k (x .next) (x .answer)
 
 -- the kind is read and tested for 8 and 29, then the body is read
 abbrev pub onKind : Graph → ℕ → List ℕ → Read ℕ → Answer
-onKind g m s (Got k at) =
-    cond (leb k 3) (cond (ltb k 3 || leb (g .n + 2) m) (onEnd (length s) k (bodyEnd g m k s at)) (CertificateFault 29 0)) (CertificateFault 8 0)
-onKind g m s (Refused r p) = CertificateFault r p
+onKind g d s (Got k at) =
+    cond (leb k 3) (cond (ltb k 3 || leb (g .n + 2) d) (onEnd (length s) k (bodyEnd g d k s at)) (CertificateFault 29 0)) (CertificateFault 8 0)
+onKind g d s (Refused r p) = CertificateFault r p
 
 unfoldable pub rowsAnswer : Graph → ℕ → List ℕ → Answer
-rowsAnswer g m s = onKind g m s (number s 0)
+rowsAnswer g d s = onKind g d s (number s 0)

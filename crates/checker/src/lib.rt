@@ -9,6 +9,7 @@ ghost use Rattle.checker.specs.Check.{checkOf, gradeOf};
 ghost use Rattle.checker.specs.Code.{bodyEnd, onEnd, rowsAnswer};
 use graph::GraphTable;
 use paths::Item;
+use reading::PlanTable;
 use record::Answer;
 use record::Number;
 
@@ -19,15 +20,15 @@ pub struct Graded {
     pub m: u16,
 }
 
-// Kind 3 asks for at least n + 2 edges.
-fn enough(n: u16, m: u16, k: u16) -> bool
+// Kind 3 asks for at least n + 2 pairs of adjacent vertices.
+fn enough(n: u16, d: u16, k: u16) -> bool
     requires { ⌜ n ≤ capacity ⌝ }
-    ensures { λ r. ⌜ r ≡ (ltb k 3 || leb (n + 2) m) ⌝ }
+    ensures { λ r. ⌜ r ≡ (ltb k 3 || leb (n + 2) d) ⌝ }
 {
     if k < 3 {
         return true;
     }
-    n + 2 <= m
+    n + 2 <= d
 }
 
 // The body of a certificate of kind k, after the kind.
@@ -35,12 +36,12 @@ fn read_body<'a>(
     s: &'a [u8],
     rows: &'a [u64; GraphTable::ROW_WORDS],
     n: u16,
-    m: u16,
+    d: u16,
     k: u16,
     at: usize,
 ) -> Item
     requires { ⌜ n ≤ capacity ⌝ }
-    ensures { λ r. ⌜ r ≡ bodyEnd (rowsGraph n (now (rows .entry))) m k (now (s .entry)) at ⌝ }
+    ensures { λ r. ⌜ r ≡ bodyEnd (rowsGraph n (now (rows .entry))) d k (now (s .entry)) at ⌝ }
 {
     if k == 0 {
         return sides::read_separation(s, rows, n, at);
@@ -51,7 +52,7 @@ fn read_body<'a>(
     if k == 2 {
         return ears::read_ears(s, rows, n, at);
     }
-    build::read_build(s, rows, n, build::further_count(m, n), at)
+    build::read_build(s, rows, n, build::further_count(d, n), at)
 }
 
 fn ended(len: usize, k: u16, end: Item) -> Answer
@@ -69,15 +70,15 @@ fn ended(len: usize, k: u16, end: Item) -> Answer
     Answer::Grade(k as u8)
 }
 
-// A whole certificate beside a graph of n vertices and m edges.
+// A whole certificate beside a graph of n vertices, d pairs of them adjacent.
 fn check_certificate<'a>(
     s: &'a [u8],
     rows: &'a [u64; GraphTable::ROW_WORDS],
     n: u16,
-    m: u16,
+    d: u16,
 ) -> Answer
     requires { ⌜ n ≤ capacity ⌝ }
-    ensures { λ r. ⌜ r ≡ rowsAnswer (rowsGraph n (now (rows .entry))) m (now (s .entry)) ⌝ }
+    ensures { λ r. ⌜ r ≡ rowsAnswer (rowsGraph n (now (rows .entry))) d (now (s .entry)) ⌝ }
 {
     let x = record::read_number(s, 0);
     let Number::Value(k, at) = x else {
@@ -86,8 +87,8 @@ fn check_certificate<'a>(
     if 3 < k {
         return Answer::CertificateFault(8, 0);
     }
-    if enough(n, m, k) {
-        return ended(s.len(), k, read_body(s, rows, n, m, k, at));
+    if enough(n, d, k) {
+        return ended(s.len(), k, read_body(s, rows, n, d, k, at));
     }
     Answer::CertificateFault(29, 0)
 }
@@ -97,12 +98,13 @@ pub fn check(plan: &[u8], certificate: &[u8]) -> Answer
     ensures { λ r. ⌜ r ≡ checkOf (now (plan .entry)) (now (certificate .entry)) ⌝ }
 {
     let mut rows = [0u64; GraphTable::ROW_WORDS];
-    let read = reading::read_plan_rows(plan, &mut rows);
+    let mut ends = [0u16; PlanTable::ENDS];
+    let read = reading::read_plan_arrays(plan, &mut rows, &mut ends);
     let answer = read.answer;
     let Answer::Accepted = answer else {
         return answer;
     };
-    check_certificate(certificate, &rows, read.n, read.m)
+    check_certificate(certificate, &rows, read.n, read.d)
 }
 
 // The checking program's answer: a plan and, directly after it, a certificate.
@@ -110,7 +112,8 @@ pub fn grade(input: &[u8]) -> Graded
     ensures { λ r. ⌜ r ≡ gradeOf (now (input .entry)) ⌝ }
 {
     let mut rows = [0u64; GraphTable::ROW_WORDS];
-    let read = reading::read_leading_rows(input, &mut rows);
+    let mut ends = [0u16; PlanTable::ENDS];
+    let read = reading::read_leading_arrays(input, &mut rows, &mut ends);
     let answer = read.answer;
     let Answer::Accepted = answer else {
         return Graded { answer, n: 0, m: 0 };
@@ -120,7 +123,7 @@ pub fn grade(input: &[u8]) -> Graded
         return Graded { answer, n: 0, m: 0 };
     }
     Graded {
-        answer: check_certificate(&input[next..], &rows, read.n, read.m),
+        answer: check_certificate(&input[next..], &rows, read.n, read.d),
         n: read.n,
         m: read.m,
     }

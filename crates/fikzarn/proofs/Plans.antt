@@ -14,8 +14,8 @@ module _ (s out : List ℕ) (r : PlanRead) (e : r ≡ wholePlan s) {w : ℕ} (f 
   word-told : w ≡ answerWord (wholePlan s .answer)
   word-told = f ∙ ap (λ (q : PlanRead). answerWord (q .answer)) e
 
-  pub plan-accepted : r .answer ≡ Accepted → {after : List ℕ} → after ≡ withPlan out (r .graph) → (w ≡ answerWord (wholePlan s .answer)) × (after ≡ planRewritten s out)
-  plan-accepted a {after} g = (word-told, g ∙ ap (λ (x : Answer). rewritten x out (withPlan out (r .graph))) (sym a) ∙ ap (λ (q : PlanRead). rewritten (q .answer) out (withPlan out (q .graph))) e)
+  pub plan-accepted : r .answer ≡ Accepted → {after : List ℕ} → after ≡ withPlan out (r .plan) → (w ≡ answerWord (wholePlan s .answer)) × (after ≡ planRewritten s out)
+  plan-accepted a {after} g = (word-told, g ∙ ap (λ (x : Answer). rewritten x out (withPlan out (r .plan))) (sym a) ∙ ap (λ (q : PlanRead). rewritten (q .answer) out (withPlan out (q .plan))) e)
 
   pub plan-refused : ((written : List ℕ) → out ≡ rewritten (r .answer) out written) → (w ≡ answerWord (wholePlan s .answer)) × (out ≡ planRewritten s out)
-  plan-refused g = (word-told, g (withPlan out (r .graph)) ∙ ap (λ (q : PlanRead). rewritten (q .answer) out (withPlan out (q .graph))) e)
+  plan-refused g = (word-told, g (withPlan out (r .plan)) ∙ ap (λ (q : PlanRead). rewritten (q .answer) out (withPlan out (q .plan))) e)

@@ -16,7 +16,7 @@ rewritten (PlanFault r p) buffer written = buffer
 rewritten (CertificateFault r p) buffer written = buffer
 
 abbrev pub planRewritten : List ℕ → List ℕ → List ℕ
-planRewritten s buffer = rewritten (wholePlan s .answer) buffer (withPlan buffer (wholePlan s .graph))
+planRewritten s buffer = rewritten (wholePlan s .answer) buffer (withPlan buffer (wholePlan s .plan))
 
 -- the maker's answer as one word: a grade has the certificate's length in the place
 abbrev pub gradeWord : Answer → ℕ → ℕ
@@ -34,4 +34,4 @@ replayWord r = word (r .status) 0 (r .count)
 
 -- the edition of the format
 abbrev pub edition : ℕ
-edition = 0
+edition = 1

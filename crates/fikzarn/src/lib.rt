@@ -17,7 +17,7 @@ pub extern "C" fn fikzarn_plan(input: &[u8], out: &mut [u8]) -> u64
 {
     let read = reading::read_plan(input);
     let answer = read.answer;
-    let found = read.graph;
+    let found = read.plan;
     match answer {
         Answer::Accepted => {
             writing::write_plan(found, out);
@@ -71,7 +71,7 @@ pub extern "C" fn fikzarn_session(script: &[u8], out: &mut [u8]) -> u64
 pub extern "C" fn fikzarn_edition() -> u64
     ensures { λ r. ⌜ r ≡ edition ⌝ }
 {
-    0
+    1
 }
 
 #[no_mangle]

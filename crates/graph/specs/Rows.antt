@@ -53,4 +53,4 @@ rowsGraph n rows = record { n = n; adj = adjacentIn rows }
 
 -- what stands beside a refusal: a graph without vertices
 abbrev pub noGraph : GraphTable
-noGraph = record { n = 0; m = 0; rows = bareRows }
+noGraph = record { n = 0; d = 0; rows = bareRows }

@@ -5,10 +5,10 @@ ghost use Rattle.vertexset.specs.Set.{withBit, capacity};
 ghost use Rattle.graph.specs.Rows.{adjacentIn, rowOf, noGraph, joinedRows, withoutBit, partedRows};
 use vertexset::VertexSet;
 
-// n vertices, m edges, and for each vertex a row of bits: the vertices adjacent to it.
+// n vertices, d pairs of adjacent ones, and for each vertex a row of bits: the vertices adjacent to it.
 pub struct GraphTable {
     pub n: u16,
-    pub m: u16,
+    pub d: u16,
     pub rows: [u64; GraphTable::ROW_WORDS],
 }
 
@@ -29,7 +29,7 @@ impl GraphTable {
     {
         GraphTable {
             n: 0,
-            m: 0,
+            d: 0,
             rows: [0u64; GraphTable::ROW_WORDS],
         }
     }

@@ -17,4 +17,4 @@ sizeLine (PlanFault r p) n m = refusalLine (PlanFault r p)
 sizeLine (CertificateFault r p) n m = refusalLine (CertificateFault r p)
 
 unfoldable pub planLine : List ℕ → List ℕ
-planLine s = cond (ltb inputLimit (length s)) tooLong (sizeLine (wholePlan s .answer) (wholePlan s .graph .n) (wholePlan s .graph .m))
+planLine s = cond (ltb inputLimit (length s)) tooLong (sizeLine (wholePlan s .answer) (wholePlan s .plan .graph .n) (wholePlan s .plan .m))

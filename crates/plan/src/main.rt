@@ -34,7 +34,7 @@ fn line<'a>(input: &'a [u8], out: &'a mut [u8]) -> usize
     let read = reading::read_plan(input);
     let answer = read.answer;
     match answer {
-        Answer::Accepted => put_size(out, read.graph.n, read.graph.m),
+        Answer::Accepted => put_size(out, read.plan.graph.n, read.plan.m),
         Answer::Grade(_) => lines::put_refusal(out, 0, answer),
         Answer::PlanFault(_, _) => lines::put_refusal(out, 0, answer),
         Answer::CertificateFault(_, _) => lines::put_refusal(out, 0, answer),

@@ -1,8 +1,8 @@
 -- What the functions of this crate give.
-use Prim.Native.Nat.{ℕ}
-use mathlib.Core.List.{List}
+use Prim.Native.Nat.{ℕ, _+_, _-_, _*_}
+use mathlib.Core.List.{List, [], _∷_, _++_}
 use mathlib.Core.Bool.{cond}
-use lib.ListN.{length}
+use lib.ListN.{length, replicate, set}
 use Rattle.record.specs.Read.{Read, Read.Got, Read.Refused, Reader, within, _needs⟨_⟩_, orKept, led, ended, folded}
 use Rattle.record.specs.Number.{number}
 use Rattle.record.specs.Loop.{Loop}
@@ -11,23 +11,49 @@ use Rattle.record.specs.declared.Answer.the-variants.{Accepted, Grade, PlanFaul
 use Rattle.graph.specs.Limits.{minVertices, maxVertices, maxEdges}
 use Rattle.graph.specs.Rows.{noGraph, bareRows, joined}
 use Rattle.graph.specs.declared.GraphTable.{GraphTable}
+use Rattle.connectivity.specs.Graph.{isPair, fromEdges, edgeCount}
 use Rattle.reading.specs.Plan.{Plan, proper, follows, edge, plan}
 use Rattle.reading.specs.declared.Edge.{Edge}
 use Rattle.reading.specs.declared.Edge.the-variants.{Joins, Fault}
 use Rattle.reading.specs.declared.PlanHead.{PlanHead}
+use Rattle.reading.specs.declared.PlanTable.{PlanTable}
 use Rattle.reading.specs.declared.PlanRead.{PlanRead}
 
--- the graph of a plan
+-- the graph of a plan: its vertices, how many pairs of them are adjacent, and its rows
 unfoldable pub graphOf : Plan → GraphTable
-graphOf p = record { n = p .n; m = length (p .edges); rows = folded joined bareRows (p .edges) }
+graphOf p = record { n = p .n; d = edgeCount (fromEdges (p .n) (p .edges)); rows = folded joined bareRows (p .edges) }
+
+-- an array for the two vertices of each edge
+abbrev pub endCount : ℕ
+endCount = 2 * maxEdges
+
+abbrev pub noEnds : List ℕ
+noEnds = replicate endCount 0
+
+-- the edges in the order of the record: the lower and the higher vertex of each
+unfoldable pub flat : List (ℕ × ℕ) → List ℕ
+flat [] = []
+flat (e ∷ es) = e .0 ∷ e .1 ∷ flat es
+
+-- those in the array, zeros behind them
+abbrev pub endsOf : List (ℕ × ℕ) → List ℕ
+endsOf es = flat es ++ replicate (endCount - length (flat es)) 0
+
+-- a plan by value: its graph, how many edges its record has, and those
+unfoldable pub tableOf : Plan → PlanTable
+tableOf p = record { graph = graphOf p; m = length (p .edges); ends = endsOf (p .edges) }
+
+-- what stands beside a refusal
+abbrev pub noPlan : PlanTable
+noPlan = record { graph = noGraph; m = 0; ends = noEnds }
 
 -- a refused plan: no graph, and nothing read
 abbrev pub refusedPlan : ℕ → ℕ → PlanRead
-refusedPlan r p = record { answer = PlanFault r p; graph = noGraph; next = 0 }
+refusedPlan r p = record { answer = PlanFault r p; plan = noPlan; next = 0 }
 
--- document 01's number and place for what was read: the graph and the place after it, or the plan's fault
+-- document 01's number and place for what was read: the plan and the place after it, or the plan's fault
 unfoldable pub planRead : Read Plan → PlanRead
-planRead (Got p next) = record { answer = Accepted; graph = graphOf p; next = next }
+planRead (Got p next) = record { answer = Accepted; plan = tableOf p; next = next }
 planRead (Refused r p) = refusedPlan r p
 
 -- a whole plan record: a byte left over is 7
@@ -38,36 +64,48 @@ wholePlan s = planRead (ended plan s 0)
 abbrev pub leadingPlan : List ℕ → PlanRead
 leadingPlan s = planRead (plan s 0)
 
--- the same without the rows of the graph
+-- the same without the arrays
 abbrev pub headOf : PlanRead → PlanHead
-headOf r = record { answer = r .answer; n = r .graph .n; m = r .graph .m; next = r .next }
+headOf r = record { answer = r .answer; n = r .plan .graph .n; m = r .plan .m; d = r .plan .graph .d; next = r .next }
 
--- an edge is read beside the edge before it, and joined in the rows
-abbrev pub edgeAfter : ℕ → (ℕ × ℕ) × List ℕ → Reader (ℕ × ℕ)
+-- an edge is read beside the edge before it, and taken in by a step
+abbrev pub edgeAfter : {T : Type 0} → ℕ → (ℕ × ℕ) × T → Reader (ℕ × ℕ)
 edgeAfter n st = edge n (st .0)
 
-abbrev pub edgeJoined : (ℕ × ℕ) × List ℕ → ℕ × ℕ → (ℕ × ℕ) × List ℕ
-edgeJoined st e = (e, joined (st .1) e)
+abbrev pub edgeTaken : {T : Type 0} → (T → ℕ × ℕ → T) → (ℕ × ℕ) × T → ℕ × ℕ → (ℕ × ℕ) × T
+edgeTaken step st e = (e, step (st .1) e)
 
--- the rows with the edges joined that stand before a fault, or all m of them
-unfoldable pub edgesIn : ℕ → ℕ → List ℕ → List ℕ → ℕ → List ℕ
-edgesIn n m rows s at = led (edgeAfter n) edgeJoined m ((0, 0), rows) s at .1
+-- what the edges that stand before a fault lead to, or all m of them
+unfoldable pub edgesIn : {T : Type 0} → (T → ℕ × ℕ → T) → ℕ → ℕ → T → List ℕ → ℕ → T
+edgesIn step n m t s at = led (edgeAfter n) (edgeTaken step) m ((0, 0), t) s at .1
 
--- what reading a plan leaves of the rows that it is lent; where n or m is refused, the rows as they were
-unfoldable pub rowsLeft : List ℕ → List ℕ → List ℕ
-rowsLeft rows s =
+-- what reading a plan leads to; where n or m is refused, nothing changes
+unfoldable pub planLeft : {T : Type 0} → (T → ℕ × ℕ → T) → T → List ℕ → T
+planLeft step t s =
     orKept ((number needs⟨ 3 ⟩ within minVertices maxVertices) s 0) (λ n mid.
-    orKept ((number needs⟨ 4 ⟩ within 0 maxEdges) s mid) (λ m at. edgesIn n m rows s at) rows) rows
+    orKept ((number needs⟨ 4 ⟩ within 0 maxEdges) s mid) (λ m at. edgesIn step n m t s at) t) t
 
--- the graph with these rows; none where it was refused
-abbrev pub tableOf : Answer → ℕ → ℕ → List ℕ → GraphTable
-tableOf Accepted n m rows = record { n = n; m = m; rows = rows }
-tableOf (Grade k) n m rows = noGraph
-tableOf (PlanFault r p) n m rows = noGraph
-tableOf (CertificateFault r p) n m rows = noGraph
+-- what it leaves of the rows that it is lent: each edge is joined in them
+abbrev pub rowsLeft : List ℕ → List ℕ → List ℕ
+rowsLeft rows s = planLeft joined rows s
 
-abbrev pub byValue : PlanHead → List ℕ → PlanRead
-byValue h rows = record { answer = h .answer; graph = tableOf (h .answer) (h .n) (h .m) rows; next = h .next }
+-- the next edge in the array, behind the i before it
+abbrev pub laid : ℕ × List ℕ → ℕ × ℕ → ℕ × List ℕ
+laid st e = (st .0 + 1, set (set (st .1) (2 * st .0) (e .0)) (2 * st .0 + 1) (e .1))
+
+-- what it leaves of the array that it is lent: the edges one after the other
+abbrev pub endsLeft : List ℕ → List ℕ → List ℕ
+endsLeft ends s = planLeft laid (0, ends) s .1
+
+-- a plan with these arrays; none where it was refused
+abbrev pub withArrays : Answer → PlanHead → List ℕ → List ℕ → PlanTable
+withArrays Accepted h rows ends = record { graph = record { n = h .n; d = h .d; rows = rows }; m = h .m; ends = ends }
+withArrays (Grade k) h rows ends = noPlan
+withArrays (PlanFault r p) h rows ends = noPlan
+withArrays (CertificateFault r p) h rows ends = noPlan
+
+abbrev pub byValue : PlanHead → List ℕ → List ℕ → PlanRead
+byValue h rows ends = record { answer = h .answer; plan = withArrays (h .answer) h rows ends; next = h .next }
 
 -- document 01's number and place for one edge
 unfoldable pub edgeRead : Read (ℕ × ℕ) → Edge
@@ -85,12 +123,16 @@ abbrev pub edgeFault : Edge → PlanHead
 edgeFault (Joins u v next) = refusedHead 0 0
 edgeFault (Fault r p) = refusedHead r p
 
--- the loop over the edges of a plan of n vertices and m edges
-abbrev pub edgeLoop : ℕ → ℕ → Loop (ℕ × ℕ) (ℕ × ℕ) (Unit {0}) PlanHead
+-- an edge counts where it differs from the one before it
+abbrev pub countedPair : ℕ × ℕ → ℕ → ℕ × ℕ → ℕ
+countedPair before d e = cond (isPair before (e .0) (e .1)) d (d + 1)
+
+-- the loop over the edges of a plan of n vertices and m edges; it keeps the edge before and the count
+abbrev pub edgeLoop : ℕ → ℕ → Loop (ℕ × ℕ) (ℕ × ℕ) ((ℕ × ℕ) × ℕ) PlanHead
 edgeLoop n m = record {
   item = edge n;
   after = λ before e. e;
-  step = λ u e. u;
-  ok = λ u next. record { answer = Accepted; n = n; m = m; next = next };
+  step = λ st e. (e, countedPair (st .0) (st .1) e);
+  ok = λ st next. record { answer = Accepted; n = n; m = m; d = st .1; next = next };
   bad = refusedHead;
 }

@@ -1,14 +1,15 @@
 -- The plan record: which bytes are a plan, and which one.
 use Prim.Native.Nat.{ℕ, _≤_}
-use mathlib.Core.List.{List, _++_}
-use mathlib.Core.Bool.{Bool, _&&_, _||_}
+use mathlib.Core.List.{List, [], _∷_, _++_}
+use mathlib.Core.Bool.{Bool, cond, _&&_, _||_}
 use mathlib.Core.Path.{_≡_}
 use mathlib.Core.Bool.{true}
-use lib.Dec.{ltb, eqb}
+use lib.Dec.{ltb, leb, eqb}
 use lib.ListN.{length}
 use Rattle.graph.specs.Limits.{minVertices, maxVertices, maxEdges}
 use Rattle.record.specs.Read.{within, Reader, Each, _needs⟨_⟩_, _▸_, into, counted}
 use Rattle.record.specs.Number.{number, numberBytes, listBytes}
+use Rattle.connectivity.specs.Graph.{isPair}
 
 -- a plan, as its record has it: n vertices (document 01: boxes) and the edges (cables), each lower vertex first
 pub record Plan : Type 0 where
@@ -19,15 +20,15 @@ pub record Plan : Type 0 where
 abbrev pub proper : ℕ → ℕ × ℕ → Bool
 proper n e = ltb (e .0) (e .1) && ltb (e .1) n
 
--- the edge e stands after the edge d: by lower vertex and then by higher
+-- the edge e does not come before the edge d: by lower vertex and then by higher
 abbrev pub follows : ℕ × ℕ → ℕ × ℕ → Bool
-follows d e = ltb (d .0) (e .0) || (eqb (d .0) (e .0) && ltb (d .1) (e .1))
+follows d e = ltb (d .0) (e .0) || (eqb (d .0) (e .0) && leb (d .1) (e .1))
 
 -- an edge is read whole, then tested for 5 and 6
 unfoldable pub edge : ℕ → ℕ × ℕ → Reader (ℕ × ℕ)
 edge n before = (number ▸ λ lower. number) needs⟨ 5 ⟩ proper n needs⟨ 6 ⟩ follows before
 
--- n, m, then m edges; every proper edge stands after (0, 0)
+-- n, m, then m edges; every proper edge comes after (0, 0)
 unfoldable pub plan : Reader Plan
 plan = into (λ p. record { n = p .0; edges = p .1 })
     (number needs⟨ 3 ⟩ within minVertices maxVertices ▸ λ n. counted (number needs⟨ 4 ⟩ within 0 maxEdges) (edge n) (λ before e. e) (0, 0))
@@ -48,3 +49,12 @@ pub record Allowed (p : Plan) : Type 0 where
   pub most : p .n ≤ maxVertices
   pub few : length (p .edges) ≤ maxEdges
   pub each : Each (EdgeAllowed (p .n)) (λ before e. e) (0, 0) (p .edges)
+
+-- the edges that differ from the one before them
+unfoldable pub onceAfter : ℕ × ℕ → List (ℕ × ℕ) → List (ℕ × ℕ)
+onceAfter before [] = []
+onceAfter before (e ∷ es) = cond (isPair before (e .0) (e .1)) (onceAfter e es) (e ∷ onceAfter e es)
+
+-- the plan with each double written once
+abbrev pub once : Plan → Plan
+once p = record { n = p .n; edges = onceAfter (0, 0) (p .edges) }

@@ -1,26 +1,41 @@
-// The plan record, read into lent rows or into a graph by value.
+// The plan record, read into lent arrays or into a plan by value.
 ghost use mathlib.Core.Path.{_≡_};
-ghost use Prim.Native.Nat.{_≤_};
+ghost use Prim.Native.Nat.{_≤_, _<_};
 ghost use Rattle.record.specs.Loop.{runs};
 ghost use Rattle.vertexset.specs.Set.{capacity};
-ghost use Rattle.reading.specs.Plan.{edge};
-ghost use Rattle.reading.specs.Code.{wholePlan, leadingPlan, headOf, rowsLeft, byValue, edgeRead, testedEdge, edgeFault, refusedHead, edgeLoop, edgesIn};
+ghost use Rattle.graph.specs.Limits.{maxEdges};
+ghost use Rattle.graph.specs.Rows.{joined};
+ghost use Rattle.reading.specs.Plan.{edge, proper, follows};
+ghost use Rattle.reading.specs.Code.{wholePlan, leadingPlan, headOf, rowsLeft, endsLeft, byValue, edgeRead, testedEdge, edgeFault, refusedHead, edgeLoop, edgesIn, laid, countedPair};
 use graph::GraphTable;
 use record::Answer;
 use record::Number;
 
-// An accepted plan with the place after its last edge; or the plan's fault, beside a graph without vertices.
+// A plan by value: its graph, and the m edges of its record in their order, doubles among them: of each the lower and the higher vertex.
+pub struct PlanTable {
+    pub graph: GraphTable,
+    pub m: u16,
+    pub ends: [u16; PlanTable::ENDS],
+}
+
+impl PlanTable {
+    pub const ENDS: usize = 2 * GraphTable::MAX_EDGES as usize;
+}
+
+// An accepted plan with the place after its last edge; or the plan's fault, beside a plan without vertices.
 pub struct PlanRead {
     pub answer: Answer,
-    pub graph: GraphTable,
+    pub plan: PlanTable,
     pub next: usize,
 }
 
-// The numbers of an accepted plan and the place after its last edge; or the plan's fault, beside zeros.
+// The numbers of an accepted plan (vertices, edges, pairs of adjacent vertices) and the place after its last edge; or the plan's
+// fault, beside zeros.
 pub struct PlanHead {
     pub answer: Answer,
     pub n: u16,
     pub m: u16,
+    pub d: u16,
     pub next: usize,
 }
 
@@ -29,25 +44,40 @@ enum Edge {
     Fault(u8, usize),
 }
 
+// The lower vertex comes first, and the higher is one of n.
+pub fn proper(n: u16, u: u16, v: u16) -> bool
+    ensures { λ r. ⌜ r ≡ proper n (u, v) ⌝ }
+{
+    if v <= u {
+        return false;
+    }
+    v < n
+}
+
+// The edge from u to v does not come before the edge from lower to higher.
+pub fn follows(lower: u16, higher: u16, u: u16, v: u16) -> bool
+    ensures { λ r. ⌜ r ≡ follows (lower, higher) (u, v) ⌝ }
+{
+    if lower < u {
+        return true;
+    }
+    if lower == u {
+        return higher <= v;
+    }
+    false
+}
+
 // The edge from u to v that was read at a place, tested.
 fn tested_edge(n: u16, lower: u16, higher: u16, at: usize, u: u16, v: u16, next: usize) -> Edge
     ensures { λ r. ⌜ r ≡ edgeRead (testedEdge n (lower, higher) at (u, v) next) ⌝ }
 {
-    if v <= u {
+    if !proper(n, u, v) {
         return Edge::Fault(5, at);
     }
-    if n <= v {
-        return Edge::Fault(5, at);
+    if !follows(lower, higher, u, v) {
+        return Edge::Fault(6, at);
     }
-    if lower < u {
-        return Edge::Joins(u, v, next);
-    }
-    if lower == u {
-        if higher < v {
-            return Edge::Joins(u, v, next);
-        }
-    }
-    Edge::Fault(6, at)
+    Edge::Joins(u, v, next)
 }
 
 // An edge at a place, after the edge from lower to higher.
@@ -72,6 +102,7 @@ fn refused(r: u8, p: usize) -> PlanHead
         answer: Answer::PlanFault(r, p),
         n: 0,
         m: 0,
+        d: 0,
         next: 0,
     }
 }
@@ -85,21 +116,47 @@ fn edge_fault(x: Edge) -> PlanHead
     }
 }
 
-// The edges of a plan, joined in the rows as they come.
+// The edge from u to v comes after i others.
+fn lay(ends: &mut [u16; PlanTable::ENDS], i: u16, u: u16, v: u16)
+    requires { ⌜ i < maxEdges ⌝ }
+    ensures { λ r. ⌜ now (ends .exit) ≡ laid (i, now (ends .entry)) (u, v) .1 ⌝ }
+{
+    let k = 2 * i as usize;
+    ends[k] = u;
+    ends[k + 1] = v;
+}
+
+// A pair more, where the edge from u to v is not the one before it.
+fn count_pair(d: u16, lower: u16, higher: u16, u: u16, v: u16) -> u16
+    requires { ⌜ d < maxEdges ⌝ }
+    ensures { λ r. ⌜ r ≡ countedPair (lower, higher) d (u, v) ⌝ }
+{
+    if lower == u {
+        if higher == v {
+            return d;
+        }
+    }
+    d + 1
+}
+
+// The edges of a plan, joined in the rows and laid in the array as they come.
 fn read_edges<'a>(
     s: &'a [u8],
     n: u16,
     m: u16,
     from: usize,
     rows: &'a mut [u64; GraphTable::ROW_WORDS],
+    ends: &'a mut [u16; PlanTable::ENDS],
 ) -> PlanHead
-    requires { ⌜ n ≤ capacity ⌝ }
-    ensures { λ r. ⌜ r ≡ runs (edgeLoop n m) m (0, 0) tt (now (s .entry)) from ⌝ }
-    ensures { λ r. ⌜ now (rows .exit) ≡ edgesIn n m (now (rows .entry)) (now (s .entry)) from ⌝ }
+    requires { ⌜ (n ≤ capacity) × (m ≤ maxEdges) ⌝ }
+    ensures { λ r. ⌜ r ≡ runs (edgeLoop n m) m (0, 0) ((0, 0), 0) (now (s .entry)) from ⌝ }
+    ensures { λ r. ⌜ now (rows .exit) ≡ edgesIn joined n m (now (rows .entry)) (now (s .entry)) from ⌝ }
+    ensures { λ r. ⌜ now (ends .exit) ≡ edgesIn laid n m (0, now (ends .entry)) (now (s .entry)) from .1 ⌝ }
 {
     let mut at = from;
     let mut lower: u16 = 0;
     let mut higher: u16 = 0;
+    let mut d: u16 = 0;
     let mut left = m;
     while 0 < left {
         let x = read_edge(s, n, lower, higher, at);
@@ -107,6 +164,8 @@ fn read_edges<'a>(
             return edge_fault(x);
         };
         graph::join(rows, u, v);
+        lay(ends, m - left, u, v);
+        d = count_pair(d, lower, higher, u, v);
         lower = u;
         higher = v;
         at = next;
@@ -116,15 +175,21 @@ fn read_edges<'a>(
         answer: Answer::Accepted,
         n,
         m,
+        d,
         next: at,
     }
 }
 
-// A plan at the start of s, up to its last edge, whatever follows. Its edges are joined in the rows as they come, so those before
-// a fault stay in them.
-pub fn read_leading_rows<'a>(s: &'a [u8], rows: &'a mut [u64; GraphTable::ROW_WORDS]) -> PlanHead
+// A plan at the start of s, up to its last edge, whatever follows. Its edges are joined in the rows and laid in the array as they
+// come, so those before a fault stay in them.
+pub fn read_leading_arrays<'a>(
+    s: &'a [u8],
+    rows: &'a mut [u64; GraphTable::ROW_WORDS],
+    ends: &'a mut [u16; PlanTable::ENDS],
+) -> PlanHead
     ensures { λ r. ⌜ r ≡ headOf (leadingPlan (now (s .entry))) ⌝ }
     ensures { λ r. ⌜ now (rows .exit) ≡ rowsLeft (now (rows .entry)) (now (s .entry)) ⌝ }
+    ensures { λ r. ⌜ now (ends .exit) ≡ endsLeft (now (ends .entry)) (now (s .entry)) ⌝ }
 {
     let x = record::read_number(s, 0);
     let Number::Value(n, m_at) = x else {
@@ -143,15 +208,20 @@ pub fn read_leading_rows<'a>(s: &'a [u8], rows: &'a mut [u64; GraphTable::ROW_WO
     if GraphTable::MAX_EDGES < m {
         return refused(4, m_at);
     }
-    read_edges(s, n, m, at, rows)
+    read_edges(s, n, m, at, rows, ends)
 }
 
 // A whole plan record: a byte after its last edge is refused.
-pub fn read_plan_rows<'a>(s: &'a [u8], rows: &'a mut [u64; GraphTable::ROW_WORDS]) -> PlanHead
+pub fn read_plan_arrays<'a>(
+    s: &'a [u8],
+    rows: &'a mut [u64; GraphTable::ROW_WORDS],
+    ends: &'a mut [u16; PlanTable::ENDS],
+) -> PlanHead
     ensures { λ r. ⌜ r ≡ headOf (wholePlan (now (s .entry))) ⌝ }
     ensures { λ r. ⌜ now (rows .exit) ≡ rowsLeft (now (rows .entry)) (now (s .entry)) ⌝ }
+    ensures { λ r. ⌜ now (ends .exit) ≡ endsLeft (now (ends .entry)) (now (s .entry)) ⌝ }
 {
-    let head = read_leading_rows(s, rows);
+    let head = read_leading_arrays(s, rows, ends);
     let answer = head.answer;
     let next = head.next;
     let Answer::Accepted = answer else {
@@ -163,26 +233,40 @@ pub fn read_plan_rows<'a>(s: &'a [u8], rows: &'a mut [u64; GraphTable::ROW_WORDS
     head
 }
 
-// What was read into rows that were bare, with its graph by value.
-fn by_value(head: PlanHead, rows: [u64; GraphTable::ROW_WORDS]) -> PlanRead
-    ensures { λ r. ⌜ r ≡ byValue head rows ⌝ }
+// What was read into arrays that were bare, as a plan by value.
+fn by_value(
+    head: PlanHead,
+    rows: [u64; GraphTable::ROW_WORDS],
+    ends: [u16; PlanTable::ENDS],
+) -> PlanRead
+    ensures { λ r. ⌜ r ≡ byValue head rows ends ⌝ }
 {
     let answer = head.answer;
     let Answer::Accepted = answer else {
+        let plan = PlanTable {
+            graph: GraphTable::none(),
+            m: 0,
+            ends: [0u16; PlanTable::ENDS],
+        };
         return PlanRead {
             answer,
-            graph: GraphTable::none(),
+            plan,
             next: head.next,
         };
     };
     let graph = GraphTable {
         n: head.n,
-        m: head.m,
+        d: head.d,
         rows,
+    };
+    let plan = PlanTable {
+        graph,
+        m: head.m,
+        ends,
     };
     PlanRead {
         answer,
-        graph,
+        plan,
         next: head.next,
     }
 }
@@ -191,14 +275,16 @@ pub fn read_leading_plan(s: &[u8]) -> PlanRead
     ensures { λ r. ⌜ r ≡ leadingPlan (now (s .entry)) ⌝ }
 {
     let mut rows = [0u64; GraphTable::ROW_WORDS];
-    let head = read_leading_rows(s, &mut rows);
-    by_value(head, rows)
+    let mut ends = [0u16; PlanTable::ENDS];
+    let head = read_leading_arrays(s, &mut rows, &mut ends);
+    by_value(head, rows, ends)
 }
 
 pub fn read_plan(s: &[u8]) -> PlanRead
     ensures { λ r. ⌜ r ≡ wholePlan (now (s .entry)) ⌝ }
 {
     let mut rows = [0u64; GraphTable::ROW_WORDS];
-    let head = read_plan_rows(s, &mut rows);
-    by_value(head, rows)
+    let mut ends = [0u16; PlanTable::ENDS];
+    let head = read_plan_arrays(s, &mut rows, &mut ends);
+    by_value(head, rows, ends)
 }

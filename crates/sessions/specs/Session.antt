@@ -31,7 +31,7 @@ openedOn g = record { graph = g; ready = true; started = false; taken = 0; build
 -- opening takes a whole plan record; 29 after all plan faults
 abbrev pub onOpening : Read Plan → Opened
 onOpening (Got p next) =
-    cond (ltb (graphOf p .m) (p .n + 2)) (record { answer = PlanFault 29 0; session = noSession }) (record { answer = Accepted; session = openedOn (graphOf p) })
+    cond (ltb (graphOf p .d) (p .n + 2)) (record { answer = PlanFault 29 0; session = noSession }) (record { answer = Accepted; session = openedOn (graphOf p) })
 onOpening (Refused r q) = record { answer = PlanFault r q; session = noSession }
 
 unfoldable pub opening : List ℕ → Opened
@@ -57,7 +57,7 @@ startStep s part =
 
 -- how many paths come after the start
 abbrev pub pathCount : Session → ℕ
-pathCount s = furtherCount (s .graph .m) (s .graph .n)
+pathCount s = furtherCount (s .graph .d) (s .graph .n)
 
 -- a path: number 31 before reading
 abbrev pub onPath : Session → Read Path → Stepped

@@ -114,7 +114,7 @@ impl Session {
             return self.refused(31, 0);
         }
         let graph = self.graph;
-        if build::further_count(graph.m, graph.n) <= self.taken {
+        if build::further_count(graph.d, graph.n) <= self.taken {
             return self.refused(31, 0);
         }
         self.take(part)
@@ -166,7 +166,7 @@ impl Session {
             return Answer::CertificateFault(31, 0);
         }
         let graph = self.graph;
-        if self.taken != build::further_count(graph.m, graph.n) {
+        if self.taken != build::further_count(graph.d, graph.n) {
             return Answer::CertificateFault(31, 0);
         }
         let build = self.build;
@@ -200,8 +200,8 @@ pub fn open(plan: &[u8]) -> Opened
         let session = Session::none();
         return Opened { answer, session };
     };
-    let graph = x.graph;
-    if (graph.m as usize) < graph.n as usize + 2 {
+    let graph = x.plan.graph;
+    if (graph.d as usize) < graph.n as usize + 2 {
         let session = Session::none();
         return Opened {
             answer: Answer::PlanFault(29, 0),

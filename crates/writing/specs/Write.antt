@@ -1,56 +1,57 @@
--- The record of a graph by value, and what writing it gives.
-use Prim.Native.Nat.{ℕ, zero, suc, _+_, _*_, _/_, _%_}
+-- The record of a plan by value, and what writing it gives.
+use Prim.Native.Nat.{ℕ, zero, suc, _+_, _*_}
 use mathlib.Core.List.{List, [], _∷_}
-use mathlib.Core.Bool.{Bool, cond, _&&_}
+use mathlib.Core.Bool.{Bool, true, false, cond, _&&_}
 use lib.Dec.{leb}
-use lib.ListN.{length}
+use lib.ListN.{length, getD}
 use Rattle.record.specs.Read.{within}
 use Rattle.record.specs.Number.{listBytes}
 use Rattle.record.specs.Write.{overwritten, hasRoom}
 use Rattle.record.specs.declared.Written.{Written}
 use Rattle.record.specs.declared.Written.the-variants.{Next, Nothing}
-use Rattle.vertexset.specs.Set.{has, capacity}
 use Rattle.graph.specs.Limits.{minVertices, maxVertices, maxEdges}
-use Rattle.graph.specs.declared.GraphTable.{GraphTable}
-use Rattle.reading.specs.Plan.{Plan, proper, edgeBytes, planBytes}
+use Rattle.reading.specs.declared.PlanTable.{PlanTable}
+use Rattle.reading.specs.Plan.{Plan, proper, follows, edgeBytes, planBytes}
 use Rattle.writing.specs.declared.Size.{Size}
 
--- the two vertices that a place of the rows stands for
-abbrev pub pairAt : ℕ → ℕ × ℕ
-pairAt k = (k / capacity, k % capacity)
+-- the edge behind k others in the array
+abbrev pub edgeAt : List ℕ → ℕ → ℕ × ℕ
+edgeAt ends k = (getD ends (2 * k) 0, getD ends (2 * k + 1) 0)
 
--- they are adjacent, the lower first
-abbrev pub edgeAt : List ℕ → ℕ → ℕ → Bool
-edgeAt rows n k = proper n (pairAt k) && has rows k
+-- the next j edges, behind k others
+unfoldable pub edgesFrom : List ℕ → ℕ → ℕ → List (ℕ × ℕ)
+edgesFrom ends zero k = []
+edgesFrom ends (suc j) k = edgeAt ends k ∷ edgesFrom ends j (k + 1)
 
--- the edges at the next j places from k on
-unfoldable pub edgesFrom : List ℕ → ℕ → ℕ → ℕ → List (ℕ × ℕ)
-edgesFrom rows n zero k = []
-edgesFrom rows n (suc j) k = cond (edgeAt rows n k) (pairAt k ∷ edgesFrom rows n j (k + 1)) (edgesFrom rows n j (k + 1))
-
--- the edges in the rows of n vertices, in the order of a record
+-- the first m edges of the array
 abbrev pub edgesOf : List ℕ → ℕ → List (ℕ × ℕ)
-edgesOf rows n = edgesFrom rows n (n * capacity) 0
+edgesOf ends m = edgesFrom ends m 0
 
--- the plan of a graph
-unfoldable pub planOf : GraphTable → Plan
-planOf g = record { n = g .n; edges = edgesOf (g .rows) (g .n) }
+-- the plan that the value stands for
+unfoldable pub planOf : PlanTable → Plan
+planOf p = record { n = p .graph .n; edges = edgesOf (p .ends) (p .m) }
 
--- the bytes of the edges in the rows of n vertices
+-- the bytes of the first m edges
 abbrev pub edgesBytes : List ℕ → ℕ → List ℕ
-edgesBytes rows n = listBytes edgeBytes (edgesOf rows n)
+edgesBytes ends m = listBytes edgeBytes (edgesOf ends m)
 
--- how many edges there are, and how many bytes they take
-abbrev pub sizeOf : List (ℕ × ℕ) → Size
-sizeOf es = record { edges = length es; bytes = length (listBytes edgeBytes es) }
+-- every edge is allowed behind the one before it
+unfoldable pub inOrder : ℕ → ℕ × ℕ → List (ℕ × ℕ) → Bool
+inOrder n before [] = true
+inOrder n before (e ∷ es) = proper n e && (follows before e && inOrder n e es)
 
--- the graph can be written: it is within the limits, and its record has room
-abbrev pub canWritePlan : List ℕ → GraphTable → Bool
-canWritePlan buffer g =
-    within minVertices maxVertices (g .n) && (leb (length (planOf g .edges)) maxEdges && hasRoom buffer 0 (planBytes (planOf g)))
+-- whether the edges are allowed, and how many bytes they then take
+abbrev pub sizeOf : ℕ → List (ℕ × ℕ) → Size
+sizeOf n es = cond (inOrder n (0, 0) es) (record { allowed = true; bytes = length (listBytes edgeBytes es) }) (record { allowed = false; bytes = 0 })
 
-abbrev pub writtenPlan : List ℕ → GraphTable → Written
-writtenPlan buffer g = cond (canWritePlan buffer g) (Next (length (planBytes (planOf g)))) Nothing
+-- the plan can be written: Records allows it, and its record has room
+abbrev pub canWritePlan : List ℕ → PlanTable → Bool
+canWritePlan buffer p =
+    within minVertices maxVertices (p .graph .n)
+    && (leb (p .m) maxEdges && (inOrder (p .graph .n) (0, 0) (planOf p .edges) && hasRoom buffer 0 (planBytes (planOf p))))
 
-abbrev pub withPlan : List ℕ → GraphTable → List ℕ
-withPlan buffer g = cond (canWritePlan buffer g) (overwritten buffer 0 (planBytes (planOf g))) buffer
+abbrev pub writtenPlan : List ℕ → PlanTable → Written
+writtenPlan buffer p = cond (canWritePlan buffer p) (Next (length (planBytes (planOf p)))) Nothing
+
+abbrev pub withPlan : List ℕ → PlanTable → List ℕ
+withPlan buffer p = cond (canWritePlan buffer p) (overwritten buffer 0 (planBytes (planOf p))) buffer

@@ -1,19 +1,20 @@
-// The plan record, written from a graph by value.
+// The plan record, written from a plan by value.
 ghost use mathlib.Core.Path.{_≡_};
-ghost use Prim.Native.Nat.{_+_, _*_, _≤_, _<_};
+ghost use mathlib.Core.Bool.{true};
+ghost use Prim.Native.Nat.{_+_, _≤_, _<_};
 ghost use lib.ListN.{length};
 ghost use Rattle.record.specs.Number.{numberBytes, numberLimit};
 ghost use Rattle.record.specs.Write.{overwritten};
-ghost use Rattle.vertexset.specs.Set.{capacity};
-ghost use Rattle.graph.specs.Rows.{rowWords};
+ghost use Rattle.graph.specs.Limits.{maxVertices, maxEdges};
 ghost use Rattle.reading.specs.Plan.{edgeBytes};
-ghost use Rattle.writing.specs.Write.{pairAt, edgeAt, edgesOf, sizeOf, edgesBytes, writtenPlan, withPlan};
+ghost use Rattle.writing.specs.Write.{edgesOf, sizeOf, inOrder, edgesBytes, writtenPlan, withPlan};
 use graph::GraphTable;
+use reading::PlanTable;
 use record::Number;
 use record::Written;
 
 struct Size {
-    edges: usize,
+    allowed: bool,
     bytes: usize,
 }
 
@@ -27,49 +28,34 @@ fn number_length(v: u16) -> usize
     2
 }
 
-// An edge stands at a place of the rows, lower vertex first.
-fn edge_at(rows: &[u64; GraphTable::ROW_WORDS], n: u16, k: usize) -> bool
-    requires { ⌜ k < rowWords * 64 ⌝ }
-    ensures { λ r. ⌜ r ≡ edgeAt (now (rows .entry)) n k ⌝ }
+// Whether each of the first m edges is allowed behind the one before it, and how many bytes they then take.
+fn measure(ends: &[u16; PlanTable::ENDS], n: u16, m: u16) -> Size
+    requires { ⌜ m ≤ maxEdges ⌝ }
+    ensures { λ r. ⌜ r ≡ sizeOf n (edgesOf (now (ends .entry)) m) ⌝ }
 {
-    let v = k % GraphTable::ROW_BITS;
-    if v <= k / GraphTable::ROW_BITS {
-        return false;
-    }
-    if n as usize <= v {
-        return false;
-    }
-    let w = rows[k / 64];
-    (w >> (k % 64)) % 2 == 1
-}
-
-// How many bytes the edge at a place takes.
-fn edge_length(k: usize) -> usize
-    requires { ⌜ k < rowWords * 64 ⌝ }
-    ensures { λ r. ⌜ r ≡ length (edgeBytes (pairAt k)) ⌝ }
-{
-    number_length((k / GraphTable::ROW_BITS) as u16)
-        + number_length((k % GraphTable::ROW_BITS) as u16)
-}
-
-// How many edges the rows hold, and how many bytes they take.
-fn measure(rows: &[u64; GraphTable::ROW_WORDS], n: u16) -> Size
-    requires { ⌜ n ≤ capacity ⌝ }
-    ensures { λ r. ⌜ r ≡ sizeOf (edgesOf (now (rows .entry)) n) ⌝ }
-{
-    let end = n as usize * GraphTable::ROW_BITS;
-    let mut edges: usize = 0;
     let mut bytes: usize = 0;
-    let mut at: usize = 0;
-    while at < end {
-        let k = at;
-        at += 1;
-        if edge_at(rows, n, k) {
-            edges += 1;
-            bytes += edge_length(k);
+    let mut lower: u16 = 0;
+    let mut higher: u16 = 0;
+    let mut i: u16 = 0;
+    while i < m {
+        let k = 2 * i as usize;
+        let u = ends[k];
+        let v = ends[k + 1];
+        if !reading::proper(n, u, v) || !reading::follows(lower, higher, u, v) {
+            return Size {
+                allowed: false,
+                bytes: 0,
+            };
         }
+        bytes = bytes + number_length(u) + number_length(v);
+        lower = u;
+        higher = v;
+        i += 1;
     }
-    Size { edges, bytes }
+    Size {
+        allowed: true,
+        bytes,
+    }
 }
 
 // Writes a number that has room, and gives the place after it.
@@ -84,54 +70,59 @@ fn put_number(out: &mut [u8], at: usize, v: u16) -> usize
     }
 }
 
-// The same for the edge at a place of the rows.
-fn put_edge(out: &mut [u8], at: usize, k: usize) -> usize
-    requires { ⌜ (k < rowWords * 64) × (at + length (edgeBytes (pairAt k)) ≤ length (now out)) ⌝ }
-    ensures { λ r. ⌜ (r ≡ at + length (edgeBytes (pairAt k))) × (now (out .exit) ≡ overwritten (now (out .entry)) at (edgeBytes (pairAt k))) ⌝ }
+// The same for the edge from u to v.
+fn put_edge(out: &mut [u8], at: usize, u: u16, v: u16) -> usize
+    requires { ⌜ (u < numberLimit) × (v < numberLimit) × (at + length (edgeBytes (u, v)) ≤ length (now out)) ⌝ }
+    ensures { λ r. ⌜ (r ≡ at + length (edgeBytes (u, v))) × (now (out .exit) ≡ overwritten (now (out .entry)) at (edgeBytes (u, v))) ⌝ }
 {
-    let mid = put_number(out, at, (k / GraphTable::ROW_BITS) as u16);
-    put_number(out, mid, (k % GraphTable::ROW_BITS) as u16)
+    let mid = put_number(out, at, u);
+    put_number(out, mid, v)
 }
 
-// Writes the edges of the rows, which have room, and gives the place after them.
-fn put_edges(rows: &[u64; GraphTable::ROW_WORDS], n: u16, out: &mut [u8], from: usize) -> usize
-    requires { ⌜ (n ≤ capacity) × (from + length (edgesBytes (now rows) n) ≤ length (now out)) ⌝ }
-    ensures { λ r. ⌜ (r ≡ from + length (edgesBytes (now (rows .entry)) n)) × (now (out .exit) ≡ overwritten (now (out .entry)) from (edgesBytes (now (rows .entry)) n)) ⌝ }
+// Writes the first m edges, which are allowed and have room, and gives the place after them.
+fn put_edges(
+    ends: &[u16; PlanTable::ENDS],
+    n: u16,
+    m: u16,
+    out: &mut [u8],
+    from: usize,
+) -> usize
+    requires { ⌜ (n ≤ maxVertices) × (m ≤ maxEdges) × (inOrder n (0, 0) (edgesOf (now ends) m) ≡ true) × (from + length (edgesBytes (now ends) m) ≤ length (now out)) ⌝ }
+    ensures { λ r. ⌜ (r ≡ from + length (edgesBytes (now (ends .entry)) m)) × (now (out .exit) ≡ overwritten (now (out .entry)) from (edgesBytes (now (ends .entry)) m)) ⌝ }
 {
-    let end = n as usize * GraphTable::ROW_BITS;
     let mut next = from;
-    let mut at: usize = 0;
-    while at < end {
-        let k = at;
-        at += 1;
-        if edge_at(rows, n, k) {
-            next = put_edge(out, next, k);
-        }
+    let mut i: u16 = 0;
+    while i < m {
+        let k = 2 * i as usize;
+        next = put_edge(out, next, ends[k], ends[k + 1]);
+        i += 1;
     }
     next
 }
 
-// Writes the record of a graph at the start of a buffer, where it is within the limits and has room.
-pub fn write_plan(g: GraphTable, out: &mut [u8]) -> Written
-    ensures { λ r. ⌜ (r ≡ writtenPlan (now (out .entry)) g) × (now (out .exit) ≡ withPlan (now (out .entry)) g) ⌝ }
+// Writes the record of a plan at the start of a buffer, where Records allows it and it has room.
+pub fn write_plan(p: PlanTable, out: &mut [u8]) -> Written
+    ensures { λ r. ⌜ (r ≡ writtenPlan (now (out .entry)) p) × (now (out .exit) ≡ withPlan (now (out .entry)) p) ⌝ }
 {
-    let vertices = g.n;
-    if vertices < GraphTable::MIN_VERTICES {
+    let n = p.graph.n;
+    let m = p.m;
+    if n < GraphTable::MIN_VERTICES {
         return Written::Nothing;
     }
-    if GraphTable::MAX_VERTICES < vertices {
+    if GraphTable::MAX_VERTICES < n {
         return Written::Nothing;
     }
-    let size = measure(&g.rows, vertices);
-    if size.edges > GraphTable::MAX_EDGES as usize {
+    if GraphTable::MAX_EDGES < m {
         return Written::Nothing;
     }
-    let edges = size.edges as u16;
-    let total = number_length(vertices) + number_length(edges) + size.bytes;
-    if out.len() < total {
+    let size = measure(&p.ends, n, m);
+    if !size.allowed {
         return Written::Nothing;
     }
-    let m_at = put_number(out, 0, vertices);
-    let from = put_number(out, m_at, edges);
-    Written::Next(put_edges(&g.rows, vertices, out, from))
+    if out.len() < number_length(n) + number_length(m) + size.bytes {
+        return Written::Nothing;
+    }
+    let m_at = put_number(out, 0, n);
+    let from = put_number(out, m_at, m);
+    Written::Next(put_edges(&p.ends, n, m, out, from))
 }

@@ -10,7 +10,7 @@ returns : tie.Need-returns
 returns c =
     let k = c .before in
     let s = k .before .before .before .args .s .now in
-    c .by-value .ensures ∙ valued (plan s 0) (k .read-leading-rows .ensures .0) (λ e. k .read-leading-rows .ensures .1 ∙ leading-rows s e)
+    c .by-value .ensures ∙ valued (plan s 0) (k .read-leading-arrays .ensures .0) (λ e. k .read-leading-arrays .ensures .1 ∙ leading-rows s e)
 
 pub read-leading-plan-spec : {M : Type 1} → statement M
 read-leading-plan-spec = tie.close (tie.spec (λ c κs. search needs) (λ c κs. search needs) returns)

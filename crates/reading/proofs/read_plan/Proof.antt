@@ -11,7 +11,7 @@ returns : tie.Need-returns
 returns c =
     let k = c .before in
     let s = k .before .before .before .args .s .now in
-    c .by-value .ensures ∙ valued (ended plan s 0) (k .read-plan-rows .ensures .0) (λ e. k .read-plan-rows .ensures .1 ∙ whole-rows s e)
+    c .by-value .ensures ∙ valued (ended plan s 0) (k .read-plan-arrays .ensures .0) (λ e. k .read-plan-arrays .ensures .1 ∙ whole-rows s e)
 
 pub read-plan-spec : {M : Type 1} → statement M
 read-plan-spec = tie.close (tie.spec (λ c κs. search needs) (λ c κs. search needs) returns)

@@ -1,4 +1,4 @@
--- `reading::read_leading_rows` meets its contract: a number that can't be read, or is out of its range, ends the reading. Assumes nothing.
+-- `reading::read_leading_arrays` meets its contract: a number that can't be read, or is out of its range, ends the reading. Assumes nothing.
 use mathlib.Core.Path.{_∙_, sym, ap}
 use borrow.Author.Needs.{needs}
 use native.Mathlib.Omega.{arith}
@@ -9,8 +9,8 @@ use Rattle.reading.specs.Plan.{Plan}
 use Rattle.reading.specs.Code.{planRead, headOf}
 use Rattle.record.proofs.Bounds.{true-within, below-within, above-within}
 use Rattle.reading.proofs.Reading.{plan-first, plan-range, plan-second, plan-many, plan-edges, rows-first, rows-range, rows-second, rows-many, rows-edges}
-use Rattle.reading.proofs.read_leading_rows.Statement.{statement}
-use Rattle.reading.proofs.read_leading_rows.Tie as tie
+use Rattle.reading.proofs.read_leading_arrays.Statement.{statement}
+use Rattle.reading.proofs.read_leading_arrays.Tie as tie
 
 returns : tie.Need-returns
 unfolding planRead
@@ -69,8 +69,8 @@ returns-6 c =
     let m = true-within 0 maxEdges _ (omega arith) (c .before .before .if3 .left) in
     (c .read-edges .ensures .0 ∙ plan-edges _ e r f m, c .read-edges .ensures .1 ∙ rows-edges _ _ e r f m)
 
-pub read-leading-rows-spec : {M : Type 1} → statement M
-read-leading-rows-spec = tie.close (tie.spec
+pub read-leading-arrays-spec : {M : Type 1} → statement M
+read-leading-arrays-spec = tie.close (tie.spec
     (λ c κs. search needs) (λ c. search needs) (λ c κs. search needs) (λ c κs. search needs) (λ c κs. search needs) returns
     (λ c κs. search needs) returns-2 (λ c κs. search needs) returns-3
     (λ c κs. search needs) (λ c. search needs) (λ c κs. search needs) (λ c κs. search needs) (λ c κs. search needs) returns-4
