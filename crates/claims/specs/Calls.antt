@@ -3,7 +3,6 @@ use Prim.Native.Nat.{ℕ, zero, suc, _-_}
 use mathlib.Core.List.{List, [], _∷_}
 use mathlib.Core.Path.{_≡_}
 use lib.ListN.{length, drop}
-use Rattle.connectivity.specs.Build.{furtherCount}
 use Rattle.record.specs.Read.{Read.Got, Bytes}
 use Rattle.record.specs.Number.{number}
 use Rattle.record.specs.declared.Answer.{Answer}
@@ -12,7 +11,7 @@ use Rattle.reading.specs.Plan.{Plan, planBytes}
 use Rattle.sessions.specs.declared.Session.{Session}
 use Rattle.sessions.specs.declared.Stepped.{Stepped}
 use Rattle.sessions.specs.Session.{opening, startStep, pathStep, closeStep, startRest, pathRest}
-use Rattle.claims.specs.Session.{State, Gives, startCall, pathCall, closeCall}
+use Rattle.claims.specs.Session.{State, Gives, due, startCall, pathCall, closeCall}
 
 pub data Call : Type 0 where
   start : (part : List ℕ) → Call
@@ -67,7 +66,7 @@ Finishes zero s part = (closeStep s .answer ≡ Grade 3) × (part ≡ [])
 Finishes (suc k) s part = (pathStep s part .answer ≡ Accepted) × Finishes k (pathStep s part .session) (pathRest s part)
 
 -- the calls accept the certificate C: a session is opened on the plan's record; C begins with the kind, which is 3; what comes
--- after it begins with a start, and then with the m - n - 2 paths
+-- after it begins with a start, and then with the d - n - 2 paths
 abbrev pub sessionOn : Plan → Session
 sessionOn p = opening (planBytes p) .session
 
@@ -75,4 +74,4 @@ pub record Replayed (p : Plan) (C : List ℕ) : Type 0 where
   pub opened : opening (planBytes p) .answer ≡ Accepted
   pub three : number C 0 ≡ Got 3 1
   pub started : startStep (sessionOn p) (drop 1 C) .answer ≡ Accepted
-  pub finishes : Finishes (furtherCount (length (p .edges)) (p .n)) (startStep (sessionOn p) (drop 1 C) .session) (startRest (sessionOn p) (drop 1 C))
+  pub finishes : Finishes (due p) (startStep (sessionOn p) (drop 1 C) .session) (startRest (sessionOn p) (drop 1 C))

@@ -10,9 +10,10 @@ use Rattle.record.specs.Number.{numberBytes, listBytes}
 use Rattle.record.specs.Write.{overwritten}
 use Rattle.record.specs.declared.Answer.{Answer}
 use Rattle.record.specs.declared.Answer.the-variants.{Accepted, Grade, PlanFault, CertificateFault}
+use Rattle.connectivity.specs.Lists.{In, NoDup}
 use Rattle.connectivity.specs.Graph.{Graph, Adj, Simple, listed, HasConnectivity}
-use Rattle.connectivity.specs.Path.{Path}
-use Rattle.connectivity.specs.Build.{StartRules, BGPath, Steps, taken, final, EachEdgeOnce}
+use Rattle.connectivity.specs.Path.{Path, usedEdges}
+use Rattle.connectivity.specs.Build.{StartRules, BGPath, Steps, taken, final}
 use Rattle.connectivity.specs.TopologicalGraph.{Addition, IsSimple, topological, Offered, Adds}
 use Rattle.connectivity.specs.Connectivity.{connectivity}
 use Rattle.reading.specs.Plan.{Plan, Allowed, plan, planBytes}
@@ -110,9 +111,14 @@ RulesAreAdditions =
 abbrev pub Demand2Sequence : Type 0
 Demand2Sequence = (P C : List ℕ) → Bytes P → Bytes C → (checkOf P C ≡ Grade 3) ↔ Sequenced P C
 
--- "It follows, and is to be shown, that every cable is then used just once."
-abbrev pub EdgesOnce : Type 0
-EdgesOnce = (P C : List ℕ) (c : Sequenced P C) → EachEdgeOnce (planGraph (c .plan)) (c .start ++ c .further)
+-- "What a finished build of kind 3 uses just once is then each cabled pair.", and it uses nothing else.
+pub record EachPairOnce (p : Plan) (paths : List Path) : Type 0 where
+  pub nodup : NoDup (usedEdges paths)
+  pub is-pair : (e : ℕ × ℕ) → In e (usedEdges paths) → In e (p .edges)
+  pub used : (e : ℕ × ℕ) → In e (p .edges) → In e (usedEdges paths)
+
+abbrev pub PairsOnce : Type 0
+PairsOnce = (P C : List ℕ) (c : Sequenced P C) → EachPairOnce (c .plan) (c .start ++ c .further)
 
 -- "A certificate of kind 3 is accepted exactly when these calls accept it and no byte is left."
 abbrev pub AcceptedByCalls : Type 0

@@ -6,3 +6,4 @@ pub mod Answers
 pub mod Exports
 pub mod Printed
 pub mod Demands
+pub mod Doubles

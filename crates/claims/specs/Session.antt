@@ -3,10 +3,11 @@ use Prim.Native.Nat.{ℕ, suc, _+_}
 use mathlib.Core.List.{List, []}
 use mathlib.Core.Bool.{cond}
 use lib.Dec.{ltb, eqb}
-use lib.ListN.{length, drop}
+use lib.ListN.{drop}
 use Rattle.record.specs.Read.{Read, Read.Got, Read.Refused, ended}
 use Rattle.record.specs.declared.Answer.{Answer}
 use Rattle.record.specs.declared.Answer.the-variants.{Accepted, Grade, PlanFault, CertificateFault}
+use Rattle.connectivity.specs.Graph.{edgeCount}
 use Rattle.connectivity.specs.Path.{Path}
 use Rattle.connectivity.specs.Build.{taken, furtherCount}
 use Rattle.reading.specs.Plan.{Plan, plan}
@@ -33,9 +34,13 @@ gives answer state unread = record { answer = answer; state = state; unread = un
 abbrev pub refuses : State → List ℕ → ℕ → ℕ → Gives
 refuses state part r at = gives (CertificateFault r at) state part
 
+-- d, "the number of cabled pairs, that is of different pairs of boxes with at least one cable between them"
+abbrev pub pairCount : Plan → ℕ
+pairCount p = edgeCount (planGraph p)
+
 -- OPENING takes a whole plan record; 29 comes after all plan faults. A refused opening gives a session never opened.
 abbrev pub onPlanRead : Read Plan → Gives
-onPlanRead (Got p next) = cond (ltb (length (p .edges)) (p .n + 2)) (gives (PlanFault 29 0) never []) (gives Accepted (waiting p) [])
+onPlanRead (Got p next) = cond (ltb (pairCount p) (p .n + 2)) (gives (PlanFault 29 0) never []) (gives Accepted (waiting p) [])
 onPlanRead (Refused r at) = gives (PlanFault r at) never []
 
 abbrev pub openCall : List ℕ → Gives
@@ -51,9 +56,9 @@ startCall never part = refuses never part 31 0
 startCall (waiting p) part = onStartRead p part (start (planGraph p) part 0)
 startCall (building p links k) part = refuses (building p links k) part 31 0
 
--- how many paths come after the start: m - n - 2
+-- how many paths come after the start: d - n - 2
 abbrev pub due : Plan → ℕ
-due p = furtherCount (length (p .edges)) (p .n)
+due p = furtherCount (pairCount p) (p .n)
 
 -- A PATH is read beside the links, and taken in. 31 before reading: before the start, or where none is due any more.
 abbrev pub onPathRead : Plan → List Path → ℕ → List ℕ → Read Path → Gives
@@ -66,7 +71,7 @@ pathCall (waiting p) part = refuses (waiting p) part 31 0
 pathCall (building p links k) part =
     cond (ltb k (due p)) (onPathRead p links k part (furtherPath (planGraph p) links part 0)) (refuses (building p links k) part 31 0)
 
--- CLOSING: 31 before the start and all m - n - 2 paths are in, then 28 where a vertex is no branch vertex; else grade 3. The session stays.
+-- CLOSING: 31 before the start and all d - n - 2 paths are in, then 28 where a vertex is no branch vertex; else grade 3. The session stays.
 abbrev pub closingAnswer : Plan → List Path → ℕ → Answer
 closingAnswer p links k = cond (eqb k (due p)) (cond (allBelow (p .n) (isBranch links)) (Grade 3) (CertificateFault 28 0)) (CertificateFault 31 0)
 

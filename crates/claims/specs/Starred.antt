@@ -51,7 +51,10 @@ starred =
     -- the starred plans
     example [] [] (PlanFault 1 0) ∷
     example (132 ∷ 0 ∷ []) [] (PlanFault 2 0) ∷
-    example (4 ∷ 2 ∷ 0 ∷ 1 ∷ 0 ∷ 1 ∷ []) [] (PlanFault 6 4) ∷ []
+    -- document 01 had 6 at 4 here; by request 1 of document 02 it is a good plan, so what is at fault is the certificate, which is empty
+    example (4 ∷ 2 ∷ 0 ∷ 1 ∷ 0 ∷ 1 ∷ []) [] (CertificateFault 1 0) ∷
+    -- and a cable before its predecessor is 6
+    example (4 ∷ 2 ∷ 0 ∷ 2 ∷ 0 ∷ 1 ∷ []) [] (PlanFault 6 4) ∷ []
 
 -- the checker answers each as document 01 says
 abbrev pub AllAnswered : List Example → Type 0
