@@ -8,32 +8,18 @@ use native.Mathlib.Omega.{arith}
 use lib.ListN.{length, length-set, length-replicate}
 use lib.Dec.{ltb, eqb}
 use borrow.Author.Tests.{ltb-true, ltb-false, eqb-true, eqb-false, eq-eqb, ne-eqb}
-use Rattle.record.specs.Read.{Each, folded}
+use Rattle.record.specs.Read.{folded}
 use Rattle.vertexset.specs.Set.{has, withBit, capacity}
 use Rattle.vertexset.proofs.Laws.{has-insert, has-empty}
 use Rattle.connectivity.specs.Lists.{In}
 use Rattle.connectivity.specs.Graph.{isPair, listed, fromEdges, Simple, edgeCount}
-use Rattle.connectivity.proofs.Edges.{EdgeList, AscendingEdges, listed-in, ascending-nodup, fromEdges-simple, fromEdges-count}
-use Rattle.reading.specs.Plan.{Plan, Allowed, EdgeAllowed}
+use Rattle.connectivity.proofs.Edges.{listed-in}
+use Rattle.reading.specs.Plan.{Plan, Allowed}
+use Rattle.graph.specs.Limits.{maxEdges}
 use Rattle.graph.specs.Rows.{rowWords, adjacentIn, joined, bareRows, rowsGraph}
 use Rattle.reading.specs.Code.{graphOf}
-use Rattle.reading.proofs.EdgeTests.{proper-true, follows-true}
-
--- every edge has its lower vertex first, and its higher below n
-abbrev pub Proper : ℕ → List (ℕ × ℕ) → Type 0
-Proper n es = (e : ℕ × ℕ) → In e es → (e .0 < e .1) × (e .1 < n)
-
-pub each-proper : (n : ℕ) (before : ℕ × ℕ) (es : List (ℕ × ℕ)) → Each (EdgeAllowed n) (λ before e. e) before es → Proper n es
-unfolding Each
-each-proper n before [] h e i = absurd i
-each-proper n before (d ∷ es) h e (inl i) = rw i (proper-true n d (h .0 .0))
-each-proper n before (d ∷ es) h e (inr i) = each-proper n d es (h .1) e i
-
-each-ascending : (n : ℕ) (before : ℕ × ℕ) (es : List (ℕ × ℕ)) → Each (EdgeAllowed n) (λ before e. e) before es → AscendingEdges es
-unfolding Each
-each-ascending n before [] h = tt
-each-ascending n before (d ∷ []) h = tt
-each-ascending n before (d ∷ (e ∷ es)) h = (follows-true d e (h .1 .0 .1), each-ascending n d (e ∷ es) (h .1))
+use Rattle.reading.proofs.EdgeTests.{Proper, each-proper}
+use Rattle.reading.proofs.Doubles.{plan-simple, pairs-most}
 
 -- the bits that the edges set
 unfoldable pub bits : List (ℕ × ℕ) → ℕ → Bool
@@ -99,13 +85,6 @@ module _ (p : Plan) (a : Allowed p) where
   edges-low : Proper capacity (p .edges)
   edges-low e i = let b = each-proper (p .n) (0, 0) (p .edges) (a .each) e i in (b .0, omega arith)
 
-  pub edge-list : EdgeList (p .n) (p .edges)
-  edge-list = record {
-    big = a .least;
-    each = each-proper (p .n) (0, 0) (p .edges) (a .each);
-    once = ascending-nodup (p .edges) (each-ascending (p .n) (0, 0) (p .edges) (a .each));
-  }
-
   pub has-edges : (x : ℕ) → has (graphOf p .rows) x ≡ bits (p .edges) x
   unfolding graphOf
   has-edges x = has-joined (p .edges) bareRows edges-low (length-replicate {A = ℕ} rowWords 0) x ∙ ap (λ (b : Bool). b || bits (p .edges) x) (has-empty rowWords x)
@@ -124,10 +103,14 @@ module _ (p : Plan) (a : Allowed p) where
   unfolding graphOf
   graph-listed = ap (λ (f : ℕ → ℕ → Bool). record { n = p .n; adj = f }) (fun-ext (λ u. fun-ext (λ v. adjacent-listed u v)))
 
-  -- .. which is simple and has as many edges as the list
+  -- .. which is simple, and has as many edges as the table says, no more than the record
   pub graph-simple : Simple (rowsGraph (graphOf p .n) (graphOf p .rows))
-  graph-simple = rw graph-listed (fromEdges-simple (p .n) (p .edges) edge-list)
+  graph-simple = rw graph-listed (plan-simple (p .n) (p .edges) (a .least) (a .each))
 
-  pub graph-count : edgeCount (rowsGraph (graphOf p .n) (graphOf p .rows)) ≡ length (p .edges)
+  pub graph-count : edgeCount (rowsGraph (graphOf p .n) (graphOf p .rows)) ≡ graphOf p .d
   unfolding graphOf
-  graph-count = rw graph-listed (fromEdges-count (p .n) (p .edges) edge-list)
+  graph-count = rw graph-listed
+
+  pub graph-few : graphOf p .d ≤ maxEdges
+  unfolding graphOf
+  graph-few = omega (arith, pairs-most (p .n) (p .edges) (a .least) (a .each), a .few)

@@ -1,4 +1,6 @@
 pub mod EdgeTests
+pub mod Doubles
+pub mod Ends
 pub mod Reading
 pub mod Plans
 pub mod Adjacency

@@ -11,13 +11,15 @@ use Rattle.record.proofs.Groups.{number-law}
 use Rattle.record.proofs.Parts.{one-value, leads-there, leads-back}
 use Rattle.reading.specs.Plan.{Plan, Allowed, proper, follows, edge, plan, planBytes}
 use Rattle.graph.specs.Limits.{minVertices, maxVertices, maxEdges}
-use Rattle.graph.specs.Rows.{bareRows}
-use Rattle.reading.specs.Code.{graphOf, planRead, wholePlan, leadingPlan, headOf, rowsLeft, byValue}
+use Rattle.graph.specs.Rows.{bareRows, joined}
+use Rattle.reading.specs.Code.{graphOf, noEnds, tableOf, planRead, wholePlan, leadingPlan, headOf, rowsLeft, endsLeft, byValue, laid}
 use Rattle.reading.specs.declared.PlanHead.{PlanHead}
+use Rattle.reading.specs.declared.PlanTable.{PlanTable}
 use Rattle.reading.specs.declared.PlanRead.{PlanRead}
 use Rattle.record.proofs.Bounds.{within-true, true-within}
 use Rattle.reading.proofs.EdgeTests.{proper-true}
-use Rattle.reading.proofs.Reading.{rows-got}
+use Rattle.reading.proofs.Reading.{plan-few, left-got}
+use Rattle.reading.proofs.Ends.{ends-laid}
 use Rattle.record.specs.Number.{numberLimit}
 
 pub plan-law : Reads plan planBytes Allowed
@@ -56,50 +58,58 @@ unfolding planRead
 told (Got p next) e = (p, next, refl)
 told (Refused r q) e = let z : _≡_ {A = ℕ} 0 1 = cc in absurd (omega arith)
 
-got : (x : Read Plan) (p : Plan) (next : ℕ) → x ≡ Got p next → planRead x ≡ record { answer = Accepted; graph = graphOf p; next = next }
+got : (x : Read Plan) (p : Plan) (next : ℕ) → x ≡ Got p next → planRead x ≡ record { answer = Accepted; plan = tableOf p; next = next }
 unfolding planRead
 got x p next e = rw e
 
--- rows that were bare when they were lent are then the graph's
-got-rows : (s : List ℕ) {p : Plan} {next : ℕ} → plan s 0 ≡ Got p next → rowsLeft bareRows s ≡ graphOf p .rows
-unfolding graphOf
-got-rows s e = rows-got bareRows s e
+-- arrays that were bare when they were lent are then the plan's
+abbrev pub Arrays : List ℕ → PlanTable → Type 0
+Arrays s t = (rowsLeft bareRows s ≡ t .graph .rows) × (endsLeft noEnds s ≡ t .ends)
 
-pub leading-rows : (s : List ℕ) → leadingPlan s .answer ≡ Accepted → rowsLeft bareRows s ≡ leadingPlan s .graph .rows
-leading-rows s e =
+got-arrays : (s : List ℕ) {p : Plan} {next : ℕ} → plan s 0 ≡ Got p next → Arrays s (tableOf p)
+unfolding graphOf tableOf
+got-arrays s {p} e = (left-got joined bareRows s e, ap (λ (t : ℕ × List ℕ). t .1) (left-got laid (0, noEnds) s e) ∙ ends-laid (p .edges) (plan-few s e))
+
+pub leading-arrays : (s : List ℕ) → leadingPlan s .answer ≡ Accepted → Arrays s (leadingPlan s .plan)
+leading-arrays s e =
     let t = told (plan s 0) e in
-    got-rows s (t .2) ∙ ap (λ (r : PlanRead). r .graph .rows) (sym (got (plan s 0) (t .0) (t .1) (t .2)))
+    let g = sym (got (plan s 0) (t .0) (t .1) (t .2)) in
+    let a = got-arrays s (t .2) in
+    (a .0 ∙ ap (λ (r : PlanRead). r .plan .graph .rows) g, a .1 ∙ ap (λ (r : PlanRead). r .plan .ends) g)
 
-pub whole-rows : (s : List ℕ) → wholePlan s .answer ≡ Accepted → rowsLeft bareRows s ≡ wholePlan s .graph .rows
-whole-rows s e =
+pub whole-arrays : (s : List ℕ) → wholePlan s .answer ≡ Accepted → Arrays s (wholePlan s .plan)
+whole-arrays s e =
     let t = told (ended plan s 0) e in
-    got-rows s (ended-got plan (t .2) .0) ∙ ap (λ (r : PlanRead). r .graph .rows) (sym (got (ended plan s 0) (t .0) (t .1) (t .2)))
+    let g = sym (got (ended plan s 0) (t .0) (t .1) (t .2)) in
+    let a = got-arrays s (ended-got plan (t .2) .0) in
+    (a .0 ∙ ap (λ (r : PlanRead). r .plan .graph .rows) g, a .1 ∙ ap (λ (r : PlanRead). r .plan .ends) g)
 
--- the plan by value from its numbers and those rows
-pub valued : (x : Read Plan) {h : PlanHead} {rows : List ℕ} → h ≡ headOf (planRead x) → (planRead x .answer ≡ Accepted → rows ≡ planRead x .graph .rows) → byValue h rows ≡ planRead x
+-- the plan by value from its numbers and those arrays
+pub valued : (x : Read Plan) {h : PlanHead} {rows ends : List ℕ} → h ≡ headOf (planRead x)
+    → (planRead x .answer ≡ Accepted → (rows ≡ planRead x .plan .graph .rows) × (ends ≡ planRead x .plan .ends)) → byValue h rows ends ≡ planRead x
 unfolding planRead
-valued (Got p next) {rows = rows} e f = ap (λ (h : PlanHead). byValue h rows) e ∙ rw (f refl)
-valued (Refused r p) {rows = rows} e f = ap (λ (h : PlanHead). byValue h rows) e
+valued (Got p next) {rows = rows} {ends = ends} e f = ap (λ (h : PlanHead). byValue h rows ends) e ∙ rw (f refl .0, f refl .1)
+valued (Refused r p) {rows = rows} {ends = ends} e f = ap (λ (h : PlanHead). byValue h rows ends) e
 
-pub accepted : (s : List ℕ) → Bytes s → wholePlan s .answer ≡ Accepted → (p : Plan) × Allowed p × (s ≡ planBytes p) × (wholePlan s .graph ≡ graphOf p)
+pub accepted : (s : List ℕ) → Bytes s → wholePlan s .answer ≡ Accepted → (p : Plan) × Allowed p × (s ≡ planBytes p) × (wholePlan s .plan ≡ tableOf p)
 accepted s bytes e =
     let t = told (ended plan s 0) e in
     let q = ended-there plan-law bytes (t .2) in
-    (t .0, q .1, q .0, ap (λ (r : PlanRead). r .graph) (got (ended plan s 0) (t .0) (t .1) (t .2)))
+    (t .0, q .1, q .0, ap (λ (r : PlanRead). r .plan) (got (ended plan s 0) (t .0) (t .1) (t .2)))
 
-pub accepts : (p : Plan) → Allowed p → wholePlan (planBytes p) ≡ record { answer = Accepted; graph = graphOf p; next = length (planBytes p) }
+pub accepts : (p : Plan) → Allowed p → wholePlan (planBytes p) ≡ record { answer = Accepted; plan = tableOf p; next = length (planBytes p) }
 accepts p a = got (ended plan (planBytes p) 0) p (length (planBytes p)) (ended-back plan-law {v = p} refl a)
 
 -- the same for a plan that other bytes follow
 pub led : (s : List ℕ) → Bytes s → leadingPlan s .answer ≡ Accepted
-    → (p : Plan) × (rest : List ℕ) × Allowed p × (s ≡ planBytes p ++ rest) × (leadingPlan s .graph ≡ graphOf p) × (leadingPlan s .next ≡ length (planBytes p))
+    → (p : Plan) × (rest : List ℕ) × Allowed p × (s ≡ planBytes p ++ rest) × (leadingPlan s .plan ≡ tableOf p) × (leadingPlan s .next ≡ length (planBytes p))
 led s bytes e =
     let t = told (plan s 0) e in
     let q = leads-there plan-law bytes (t .2) in
     let g = got (plan s 0) (t .0) (t .1) (t .2) in
-    (t .0, drop (t .1) s, q .2, q .0, ap (λ (r : PlanRead). r .graph) g, ap (λ (r : PlanRead). r .next) g ∙ q .1)
+    (t .0, drop (t .1) s, q .2, q .0, ap (λ (r : PlanRead). r .plan) g, ap (λ (r : PlanRead). r .next) g ∙ q .1)
 
-pub leads : (p : Plan) (rest : List ℕ) → Allowed p → leadingPlan (planBytes p ++ rest) ≡ record { answer = Accepted; graph = graphOf p; next = length (planBytes p) }
+pub leads : (p : Plan) (rest : List ℕ) → Allowed p → leadingPlan (planBytes p ++ rest) ≡ record { answer = Accepted; plan = tableOf p; next = length (planBytes p) }
 leads p rest a = got (plan (planBytes p ++ rest) 0) p (length (planBytes p)) (leads-back plan-law p rest a)
 
 pub injective : (p q : Plan) → Allowed p → Allowed q → planBytes p ≡ planBytes q → p ≡ q

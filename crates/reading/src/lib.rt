@@ -131,12 +131,13 @@ fn count_pair(d: u16, lower: u16, higher: u16, u: u16, v: u16) -> u16
     requires { ⌜ d < maxEdges ⌝ }
     ensures { λ r. ⌜ r ≡ countedPair (lower, higher) d (u, v) ⌝ }
 {
-    if lower == u {
-        if higher == v {
-            return d;
-        }
+    if lower != u {
+        return d + 1;
     }
-    d + 1
+    if higher != v {
+        return d + 1;
+    }
+    d
 }
 
 // The edges of a plan, joined in the rows and laid in the array as they come.

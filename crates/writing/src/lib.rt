@@ -80,13 +80,7 @@ fn put_edge(out: &mut [u8], at: usize, u: u16, v: u16) -> usize
 }
 
 // Writes the first m edges, which are allowed and have room, and gives the place after them.
-fn put_edges(
-    ends: &[u16; PlanTable::ENDS],
-    n: u16,
-    m: u16,
-    out: &mut [u8],
-    from: usize,
-) -> usize
+fn put_edges(ends: &[u16; PlanTable::ENDS], n: u16, m: u16, out: &mut [u8], from: usize) -> usize
     requires { ⌜ (n ≤ maxVertices) × (m ≤ maxEdges) × (inOrder n (0, 0) (edgesOf (now ends) m) ≡ true) × (from + length (edgesBytes (now ends) m) ≤ length (now out)) ⌝ }
     ensures { λ r. ⌜ (r ≡ from + length (edgesBytes (now (ends .entry)) m)) × (now (out .exit) ≡ overwritten (now (out .entry)) from (edgesBytes (now (ends .entry)) m)) ⌝ }
 {

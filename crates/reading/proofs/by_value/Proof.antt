@@ -6,8 +6,8 @@ use Rattle.reading.proofs.by_value.Tie as tie
 
 returns : tie.Need-returns
 returns c =
-    let h = c .before .before .args .head in
-    rw (c .none .ensures, no-table (h .answer) (h .n) (h .m) (c .before .before .args .rows) (c .before .match .keys2))
+    let a = c .before .before .args in
+    rw (c .none .ensures, no-table (a .head .answer) (a .head) (a .rows) (a .ends) (c .before .match .keys2))
 
 returns-2 : tie.Need-returns-2
 returns-2 c = rw (c .enum-told .given .1)
