@@ -21,7 +21,7 @@ use Rattle.reading.specs.Code.{wholePlan, headOf, rowsLeft}
 use Rattle.graph.specs.Rows.{bareRows}
 use Rattle.graph.specs.declared.GraphTable.{GraphTable}
 use Rattle.reading.specs.declared.PlanHead.{PlanHead}
-use Rattle.reading.proofs.Plans.{accepted, whole-rows}
+use Rattle.reading.proofs.Plans.{accepted, whole-arrays}
 use Rattle.certificates.proofs.Accepted.{kind-low}
 use Rattle.construction.specs.Certificate.{certificateNumbers}
 use Rattle.construction.proofs.CertificateLaws.{Constructed, certified}
@@ -44,12 +44,12 @@ bytes-many (v ∷ l) = omega (arith, bytes-many l, some-bytes v, length-append (
 
 module _ (s : List ℕ) (room : ℕ) {h : PlanHead} (e : h ≡ headOf (wholePlan s)) where
   -- from what the reader gave
-  drafted : {d : Draft} → d ≡ draftBy room (h .answer) (wholePlan s .graph) → d ≡ draftFrom s room
-  drafted {d} k = subst (λ (y : PlanHead). d ≡ draftBy room (y .answer) (wholePlan s .graph)) e k
+  drafted : {d : Draft} → d ≡ draftBy room (h .answer) (wholePlan s .plan .graph) → d ≡ draftFrom s room
+  drafted {d} k = subst (λ (y : PlanHead). d ≡ draftBy room (y .answer) (wholePlan s .plan .graph)) e k
 
   pub draft-refused : {d : Draft} → OneOf (1 ∷ 2 ∷ 3 ∷ []) (tagOf the-type (h .answer)) → d ≡ draftOf (h .answer) [] → d ≡ draftFrom s room
   unfolding draftBy
-  draft-refused k j = drafted (j ∙ go (h .answer) (wholePlan s .graph) k)
+  draft-refused k j = drafted (j ∙ go (h .answer) (wholePlan s .plan .graph) k)
     where
       go : (a : Answer) (g : GraphTable) → OneOf (1 ∷ 2 ∷ 3 ∷ []) (tagOf the-type a) → draftOf a [] ≡ draftBy room a g
       go Accepted g (inl i) = absurd (omega arith)
@@ -66,12 +66,12 @@ module _ (s : List ℕ) (room : ℕ) {h : PlanHead} (e : h ≡ headOf (wholePlan
 -- an accepted plan
 module _ (s : List ℕ) (bytes : Bytes s) {h : PlanHead} (e : h ≡ headOf (wholePlan s)) (f : h .answer ≡ Accepted) where
   abbrev numbers : List ℕ
-  numbers = certificateNumbers (wholePlan s .graph .rows) (wholePlan s .graph .n)
+  numbers = certificateNumbers (wholePlan s .plan .graph .rows) (wholePlan s .plan .graph .n)
 
   whole : wholePlan s .answer ≡ Accepted
   whole = ap (λ (y : PlanHead). y .answer) (sym e) ∙ f
 
-  read-certified : Constructed (wholePlan s .graph .rows) (wholePlan s .graph .n)
+  read-certified : Constructed (wholePlan s .plan .graph .rows) (wholePlan s .plan .graph .n)
   read-certified =
       let p = accepted s bytes whole in
       let d = plan-drawn (p .0) (p .1) in
@@ -79,7 +79,7 @@ module _ (s : List ℕ) (bytes : Bytes s) {h : PlanHead} (e : h ≡ headOf (whol
 
   module _ {rows : List ℕ} {c : Numbers} (left : rows ≡ rowsLeft bareRows s) (k : c ≡ numbersOf (certificateNumbers rows (h .n))) where
     made-numbers : c ≡ numbersOf numbers
-    made-numbers = k ∙ (λ i. numbersOf (certificateNumbers ((left ∙ whole-rows s whole) i) (e i .n)))
+    made-numbers = k ∙ (λ i. numbersOf (certificateNumbers ((left ∙ whole-arrays s whole .0) i) (e i .n)))
 
     first : getD (c .items) 0 0 ≡ getD numbers 0 0
     first = ap (λ (y : Numbers). getD (y .items) 0 0) made-numbers ∙ padded-at numberRoom numbers 0
@@ -140,7 +140,7 @@ module _ (s buffer : List ℕ) (bytes : Bytes s) {d : Draft} (e : d ≡ draftFro
   decided : Decided buffer d (madeFrom s buffer) (filledFrom s buffer)
   decided =
       subst (λ (y : Draft). Decided buffer y (madeFrom s buffer) (filledFrom s buffer)) (sym e)
-      (decided-by buffer (wholePlan s .answer) (wholePlan s .graph) (λ f. read-certified s bytes {h = headOf (wholePlan s)} refl f))
+      (decided-by buffer (wholePlan s .answer) (wholePlan s .plan .graph) (λ f. read-certified s bytes {h = headOf (wholePlan s)} refl f))
 
   pub made-fits : d .count ≤ length (d .items)
   made-fits = let f = decided .front in omega (arith, filled-length f, f .short, f .size)

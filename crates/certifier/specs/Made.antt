@@ -40,7 +40,7 @@ madeBy buffer (PlanFault r p) g = made (PlanFault r p) 0
 madeBy buffer (CertificateFault r p) g = made (CertificateFault r p) 0
 
 abbrev pub madeFrom : List ℕ → List ℕ → Made
-madeFrom s buffer = madeBy buffer (wholePlan s .answer) (wholePlan s .graph)
+madeFrom s buffer = madeBy buffer (wholePlan s .answer) (wholePlan s .plan .graph)
 
 -- the buffer then begins with the certificate and keeps every other byte; on refusal it keeps them all
 unfoldable pub filledBy : List ℕ → Answer → GraphTable → List ℕ
@@ -50,7 +50,7 @@ filledBy buffer (PlanFault r p) g = buffer
 filledBy buffer (CertificateFault r p) g = buffer
 
 abbrev pub filledFrom : List ℕ → List ℕ → List ℕ
-filledFrom s buffer = filledBy buffer (wholePlan s .answer) (wholePlan s .graph)
+filledFrom s buffer = filledBy buffer (wholePlan s .answer) (wholePlan s .plan .graph)
 
 -- what is decided before a byte is written
 abbrev pub draftOf : Answer → List ℕ → Draft
@@ -63,4 +63,4 @@ draftBy room (PlanFault r p) g = draftOf (PlanFault r p) []
 draftBy room (CertificateFault r p) g = draftOf (CertificateFault r p) []
 
 abbrev pub draftFrom : List ℕ → ℕ → Draft
-draftFrom s room = draftBy room (wholePlan s .answer) (wholePlan s .graph)
+draftFrom s room = draftBy room (wholePlan s .answer) (wholePlan s .plan .graph)

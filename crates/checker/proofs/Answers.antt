@@ -19,12 +19,11 @@ use Rattle.connectivity.specs.Certificate.{Certificate, kind, grade}
 use Rattle.connectivity.proofs.Soundness.{grade-kind}
 use Rattle.connectivity.specs.Build.{furtherCount}
 use Rattle.reading.specs.Plan.{Plan, Allowed, plan}
-use Rattle.reading.specs.Code.{graphOf, planRead, wholePlan, leadingPlan, headOf, rowsLeft}
+use Rattle.reading.specs.Code.{graphOf, tableOf, planRead, wholePlan, leadingPlan, headOf, rowsLeft}
 use Rattle.reading.specs.declared.PlanRead.{PlanRead}
 use Rattle.reading.specs.declared.PlanHead.{PlanHead}
-use Rattle.reading.proofs.Plans.{plan-law, leading-rows, whole-rows}
-use Rattle.connectivity.proofs.Edges.{fromEdges-count}
-use Rattle.reading.proofs.Adjacency.{graph-listed, edge-list}
+use Rattle.reading.proofs.Plans.{plan-law, leading-arrays, whole-arrays}
+use Rattle.reading.proofs.Adjacency.{graph-listed}
 use Rattle.certificates.specs.Records.{body, certificate}
 use Rattle.paths.specs.Items.{endRead, limited}
 use Rattle.graph.specs.Rows.{rowsGraph, bareRows}
@@ -105,11 +104,9 @@ spans-within {s} (more {at} i e p) h = spans-within p (let z : at + 1 ≤ length
 
 -- beside the rows of an accepted plan
 module _ (p : Plan) (a : Allowed p) where
-  pub plan-answer : (s : List ℕ) → rowsAnswer (rowsGraph (p .n) (graphOf p .rows)) (length (p .edges)) s ≡ certificateAnswer p s
+  pub plan-answer : (s : List ℕ) → rowsAnswer (rowsGraph (p .n) (graphOf p .rows)) (graphOf p .d) s ≡ certificateAnswer p s
   unfolding certificateAnswer graphOf
-  plan-answer s =
-      let count : edgeCount (planGraph p) ≡ length (p .edges) = fromEdges-count (p .n) (p .edges) (edge-list p a) in
-      ap (λ (g : Graph). rowsAnswer g (length (p .edges)) s) (graph-listed p a) ∙ ap (λ (m : ℕ). rowsAnswer (planGraph p) m s) (sym count) ∙ rows-answer (planGraph p) (fits-table p a) s
+  plan-answer s = ap (λ (g : Graph). rowsAnswer g (edgeCount (planGraph p)) s) (graph-listed p a) ∙ rows-answer (planGraph p) (fits-table p a) s
 
 -- the code's steps: the body by its kind
 module _ (g : Graph) (m : ℕ) (s : List ℕ) (at : ℕ) where
@@ -160,17 +157,17 @@ other-answer len k next (CertificateFault r p) i = refl
 
 -- a plan that was read whole into bare rows, and a certificate beside it
 module _ (s c : List ℕ) (h : PlanHead) (e : h ≡ headOf (wholePlan s)) where
-  pub check-accepted : {rows : List ℕ} → rows ≡ rowsLeft bareRows s → Bytes s → h .answer ≡ Accepted → (h .n ≤ capacity) × (rowsAnswer (rowsGraph (h .n) rows) (h .m) c ≡ checkOf s c)
-  unfolding checkOf planRead graphOf
+  pub check-accepted : {rows : List ℕ} → rows ≡ rowsLeft bareRows s → Bytes s → h .answer ≡ Accepted → (h .n ≤ capacity) × (rowsAnswer (rowsGraph (h .n) rows) (h .d) c ≡ checkOf s c)
+  unfolding checkOf planRead tableOf graphOf
   check-accepted {rows} left bytes f = go (ended plan s 0) refl e
     where
-      go : (x : Read Plan) → ended plan s 0 ≡ x → h ≡ headOf (planRead x) → (h .n ≤ capacity) × (rowsAnswer (rowsGraph (h .n) rows) (h .m) c ≡ onPlan x c)
+      go : (x : Read Plan) → ended plan s 0 ≡ x → h ≡ headOf (planRead x) → (h .n ≤ capacity) × (rowsAnswer (rowsGraph (h .n) rows) (h .d) c ≡ onPlan x c)
       go (Got p next) k d =
           let a = ended-there plan-law {v = p} bytes k .1 in
           let n : h .n ≡ p .n = ap (λ (y : PlanHead). y .n) d in
-          let m : h .m ≡ length (p .edges) = ap (λ (y : PlanHead). y .m) d in
+          let m : h .d ≡ edgeCount (planGraph p) = ap (λ (y : PlanHead). y .d) d in
           let w : wholePlan s ≡ planRead (Got p next) = ap planRead k in
-          let g : rows ≡ graphOf p .rows = left ∙ whole-rows s (ap (λ (y : PlanRead). y .answer) w) ∙ ap (λ (y : PlanRead). y .graph .rows) w in
+          let g : rows ≡ graphOf p .rows = left ∙ whole-arrays s (ap (λ (y : PlanRead). y .answer) w) .0 ∙ ap (λ (y : PlanRead). y .plan .graph .rows) w in
           (rw n (fits-table p a), rw (n, m, g) (plan-answer p a c))
       go (Refused q p) k d = let z : h .answer ≡ PlanFault q p = ap (λ (y : PlanHead). y .answer) d in let y : _≡_ {A = ℕ} 0 1 = cc in absurd (omega arith)
 
@@ -185,27 +182,28 @@ module _ (s c : List ℕ) (h : PlanHead) (e : h ≡ headOf (wholePlan s)) where
 -- a plan at the start, and a certificate behind it
 module _ (s : List ℕ) (h : PlanHead) (e : h ≡ headOf (leadingPlan s)) where
   pub grade-accepted : {rows : List ℕ} → rows ≡ rowsLeft bareRows s → Bytes s → h .answer ≡ Accepted → (h .next ≤ length s) × (h .n ≤ capacity)
-      × (_≡_ {A = Graded} (record { answer = rowsAnswer (rowsGraph (h .n) rows) (h .m) (drop (h .next) s); n = h .n; m = h .m }) (gradeOf s))
-  unfolding gradeOf planRead graphOf
+      × (_≡_ {A = Graded} (record { answer = rowsAnswer (rowsGraph (h .n) rows) (h .d) (drop (h .next) s); n = h .n; m = h .m }) (gradeOf s))
+  unfolding gradeOf planRead tableOf graphOf
   grade-accepted {rows} left bytes f = go (plan s 0) refl e
     where
       go : (x : Read Plan) → plan s 0 ≡ x → h ≡ headOf (planRead x) → (h .next ≤ length s) × (h .n ≤ capacity)
-          × (_≡_ {A = Graded} (record { answer = rowsAnswer (rowsGraph (h .n) rows) (h .m) (drop (h .next) s); n = h .n; m = h .m }) (onLeading x s))
+          × (_≡_ {A = Graded} (record { answer = rowsAnswer (rowsGraph (h .n) rows) (h .d) (drop (h .next) s); n = h .n; m = h .m }) (onLeading x s))
       go (Got p next) k d =
           let b = plan-law .there {v = p} bytes k in
           let n : h .n ≡ p .n = ap (λ (y : PlanHead). y .n) d in
           let m : h .m ≡ length (p .edges) = ap (λ (y : PlanHead). y .m) d in
+          let q : h .d ≡ edgeCount (planGraph p) = ap (λ (y : PlanHead). y .d) d in
           let t : h .next ≡ next = ap (λ (y : PlanHead). y .next) d in
           let w : leadingPlan s ≡ planRead (Got p next) = ap planRead k in
-          let g : rows ≡ graphOf p .rows = left ∙ leading-rows s (ap (λ (y : PlanRead). y .answer) w) ∙ ap (λ (y : PlanRead). y .graph .rows) w in (
+          let g : rows ≡ graphOf p .rows = left ∙ leading-arrays s (ap (λ (y : PlanRead). y .answer) w) .0 ∙ ap (λ (y : PlanRead). y .plan .graph .rows) w in (
             rw t (spans-within (b .0) (omega arith)),
             rw n (fits-table p (b .1)),
-            rw (n, m, t, g) (ap (λ (a : Answer). record { answer = a; n = p .n; m = length (p .edges) }) (plan-answer p (b .1) (drop next s))),
+            rw (n, m, q, t, g) (ap (λ (a : Answer). record { answer = a; n = p .n; m = length (p .edges) }) (plan-answer p (b .1) (drop next s))),
           )
       go (Refused q p) k d = let z : h .answer ≡ PlanFault q p = ap (λ (y : PlanHead). y .answer) d in let y : _≡_ {A = ℕ} 0 1 = cc in absurd (omega arith)
 
   pub grade-given : {rows rest : List ℕ} {a : Answer} → rows ≡ rowsLeft bareRows s → Bytes s → h .answer ≡ Accepted → rest ≡ drop (h .next) s
-      → a ≡ rowsAnswer (rowsGraph (h .n) rows) (h .m) rest → _≡_ {A = Graded} (record { answer = a; n = h .n; m = h .m }) (gradeOf s)
+      → a ≡ rowsAnswer (rowsGraph (h .n) rows) (h .d) rest → _≡_ {A = Graded} (record { answer = a; n = h .n; m = h .m }) (gradeOf s)
   grade-given left bytes f d k = rw (k, d) (grade-accepted left bytes f .2)
 
   pub grade-refused : NotAccepted (h .answer) → _≡_ {A = Graded} (record { answer = h .answer; n = 0; m = 0 }) (gradeOf s)

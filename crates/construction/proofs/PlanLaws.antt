@@ -13,7 +13,7 @@ use Rattle.reading.specs.Plan.{Plan, Allowed}
 use Rattle.graph.specs.Limits.{maxEdges}
 use Rattle.graph.specs.Rows.{rowWords, joined, bareRows, rowsGraph}
 use Rattle.reading.specs.Code.{graphOf}
-use Rattle.reading.proofs.Adjacency.{graph-simple, graph-count}
+use Rattle.reading.proofs.Adjacency.{graph-simple, graph-count, graph-few}
 use Rattle.construction.proofs.Basics.{Drawn}
 use Rattle.construction.proofs.SetLaws.{zeros-at}
 use Rattle.construction.proofs.Table.{words-bit}
@@ -39,4 +39,4 @@ module _ (p : Plan) (a : Allowed p) where
   }
 
   pub plan-edges : edgeCount (rowsGraph (graphOf p .n) (graphOf p .rows)) ≤ maxEdges
-  plan-edges = omega (arith, graph-count p a, a .few)
+  plan-edges = omega (arith, graph-count p a, graph-few p a)

@@ -19,11 +19,11 @@ module _ (s : List ℕ) where
   long-line h = rw (lt-ltb inputLimit (length s) h)
 
   module _ (h : length s ≤ inputLimit) {x : PlanRead} {a : Answer} (e : x ≡ wholePlan s) (f : x .answer ≡ a) where
-    pub read-line : sizeLine a (x .graph .n) (x .graph .m) ≡ planLine s
+    pub read-line : sizeLine a (x .plan .graph .n) (x .plan .m) ≡ planLine s
     unfolding planLine
     read-line = rw (le-ltb inputLimit (length s) h, ← f, e)
 
-    pub refused-line : refusalLine a ≡ sizeLine a (x .graph .n) (x .graph .m) → refusalLine (x .answer) ≡ planLine s
+    pub refused-line : refusalLine a ≡ sizeLine a (x .plan .graph .n) (x .plan .m) → refusalLine (x .answer) ≡ planLine s
     refused-line r = ap refusalLine f ∙ r ∙ read-line
 
 -- 48 bytes are enough

@@ -41,24 +41,24 @@ module _ (s : List ℕ) {x : PlanRead} (e : x ≡ planRead (ended plan s 0)) whe
       go (Got p next) d = absurd (not-accepted (x .answer) k (ap (λ (z : PlanRead). z .answer) d))
       go (Refused r p) d = let a : x .answer ≡ PlanFault r p = ap (λ (z : PlanRead). z .answer) d in rw (a, f)
 
-  opened : x .answer ≡ Accepted → (p : Plan) × ((x .graph ≡ graphOf p) × (opening s ≡ cond (ltb (graphOf p .m) (graphOf p .n + 2)) (record { answer = PlanFault 29 0; session = noSession }) (record { answer = Accepted; session = openedOn (graphOf p) })))
+  opened : x .answer ≡ Accepted → (p : Plan) × ((x .plan .graph ≡ graphOf p) × (opening s ≡ cond (ltb (graphOf p .d) (graphOf p .n + 2)) (record { answer = PlanFault 29 0; session = noSession }) (record { answer = Accepted; session = openedOn (graphOf p) })))
   unfolding planRead opening graphOf
   opened f = go (ended plan s 0) e
     where
-      go : (y : Read Plan) → x ≡ planRead y → (p : Plan) × ((x .graph ≡ graphOf p) × (onOpening y ≡ cond (ltb (graphOf p .m) (graphOf p .n + 2)) (record { answer = PlanFault 29 0; session = noSession }) (record { answer = Accepted; session = openedOn (graphOf p) })))
-      go (Got p next) d = (p, (ap (λ (z : PlanRead). z .graph) d, refl))
+      go : (y : Read Plan) → x ≡ planRead y → (p : Plan) × ((x .plan .graph ≡ graphOf p) × (onOpening y ≡ cond (ltb (graphOf p .d) (graphOf p .n + 2)) (record { answer = PlanFault 29 0; session = noSession }) (record { answer = Accepted; session = openedOn (graphOf p) })))
+      go (Got p next) d = (p, (ap (λ (z : PlanRead). z .plan .graph) d, refl))
       go (Refused r p) d = let a : x .answer ≡ PlanFault r p = ap (λ (z : PlanRead). z .answer) d in let z : _≡_ {A = ℕ} 0 1 = cc in absurd (omega arith)
 
-  pub open-few : {session : Session} → x .answer ≡ Accepted → x .graph .m < x .graph .n + 2 → session ≡ noSession → _≡_ {A = Opened} (record { answer = PlanFault 29 0; session = session }) (opening s)
+  pub open-few : {session : Session} → x .answer ≡ Accepted → x .plan .graph .d < x .plan .graph .n + 2 → session ≡ noSession → _≡_ {A = Opened} (record { answer = PlanFault 29 0; session = session }) (opening s)
   open-few f h g =
       let t = opened f in
-      rw (t .1 .1, ← t .1 .0, lt-ltb (x .graph .m) (x .graph .n + 2) h, g)
+      rw (t .1 .1, ← t .1 .0, lt-ltb (x .plan .graph .d) (x .plan .graph .n + 2) h, g)
 
-  pub open-accepted : {b : Build} → x .answer ≡ Accepted → x .graph .n + 2 ≤ x .graph .m → b ≡ bareBuild emptySet
-      → _≡_ {A = Opened} (record { answer = x .answer; session = record { graph = x .graph; ready = true; started = false; taken = 0; build = b } }) (opening s)
+  pub open-accepted : {b : Build} → x .answer ≡ Accepted → x .plan .graph .n + 2 ≤ x .plan .graph .d → b ≡ bareBuild emptySet
+      → _≡_ {A = Opened} (record { answer = x .answer; session = record { graph = x .plan .graph; ready = true; started = false; taken = 0; build = b } }) (opening s)
   open-accepted f h g =
       let t = opened f in
-      rw (f, t .1 .1, ← t .1 .0, le-ltb (x .graph .m) (x .graph .n + 2) h, g)
+      rw (f, t .1 .1, ← t .1 .0, le-ltb (x .plan .graph .d) (x .plan .graph .n + 2) h, g)
 
 -- a start
 module _ (s : Session) (part : List ℕ) where

@@ -26,7 +26,7 @@ returns-3 c =
     let a = x .before .before .before .before .args in
     let g = rowsGraph (a .n) (a .rows .now) in
     c .ended .ensures ∙ ap (onEnd (length (a .s .now)) (x .x .given .0 .0)) (c .before .read-body .ensures)
-    ∙ kind-read g (a .m) (a .s .now) (sym (x .x .given .1) ∙ x .before .before .read-number .ensures) (n .before .if1 .left) (sym (n .enough .ensures) ∙ c .before .before .if2 .taken)
+    ∙ kind-read g (a .d) (a .s .now) (sym (x .x .given .1) ∙ x .before .before .read-number .ensures) (n .before .if1 .left) (sym (n .enough .ensures) ∙ c .before .before .if2 .taken)
 
 returns-4 : tie.Need-returns-4
 returns-4 c =
@@ -34,7 +34,7 @@ returns-4 c =
     let x = n .before .before .before in
     let a = x .before .before .before .before .args in
     let g = rowsGraph (a .n) (a .rows .now) in
-    kind-few g (a .m) (a .s .now) (sym (x .x .given .1) ∙ x .before .before .read-number .ensures) (n .before .if1 .left) (sym (n .enough .ensures) ∙ c .if2 .left)
+    kind-few g (a .d) (a .s .now) (sym (x .x .given .1) ∙ x .before .before .read-number .ensures) (n .before .if1 .left) (sym (n .enough .ensures) ∙ c .if2 .left)
 
 pub check-certificate-spec : {M : Type 1} → statement M
 check-certificate-spec = tie.close (tie.spec

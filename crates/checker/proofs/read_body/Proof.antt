@@ -16,21 +16,21 @@ returns c =
     let s = c .before .before .before in
     let a = s .args in
     let g = rowsGraph (a .n) (a .rows .now) in
-    c .read-separation .ensures ∙ ap endRead (limited-open (a .n) (body g 0) (a .s .now) (a .at) (s .pre)) ∙ kind-body-0 g (a .m) (a .s .now) (a .at) (a .k) (c .before .if1 .taken)
+    c .read-separation .ensures ∙ ap endRead (limited-open (a .n) (body g 0) (a .s .now) (a .at) (s .pre)) ∙ kind-body-0 g (a .d) (a .s .now) (a .at) (a .k) (c .before .if1 .taken)
 
 returns-2 : tie.Need-returns-2
 returns-2 c =
     let s = c .before .before .before .before in
     let a = s .args in
     let g = rowsGraph (a .n) (a .rows .now) in
-    c .read-tree .ensures ∙ ap endRead (limited-open (a .n) (body g 1) (a .s .now) (a .at) (s .pre)) ∙ kind-body-1 g (a .m) (a .s .now) (a .at) (a .k) (c .before .if2 .taken)
+    c .read-tree .ensures ∙ ap endRead (limited-open (a .n) (body g 1) (a .s .now) (a .at) (s .pre)) ∙ kind-body-1 g (a .d) (a .s .now) (a .at) (a .k) (c .before .if2 .taken)
 
 returns-3 : tie.Need-returns-3
 returns-3 c =
     let s = c .before .before .before .before .before in
     let a = s .args in
     let g = rowsGraph (a .n) (a .rows .now) in
-    c .read-ears .ensures ∙ ap endRead (limited-open (a .n) (body g 2) (a .s .now) (a .at) (s .pre)) ∙ kind-body-2 g (a .m) (a .s .now) (a .at) (a .k) (c .before .if3 .taken)
+    c .read-ears .ensures ∙ ap endRead (limited-open (a .n) (body g 2) (a .s .now) (a .at) (s .pre)) ∙ kind-body-2 g (a .d) (a .s .now) (a .at) (a .k) (c .before .if3 .taken)
 
 returns-4 : tie.Need-returns-4
 returns-4 c =
@@ -41,7 +41,7 @@ returns-4 c =
     c .read-build .ensures
     ∙ ap endRead (limited-open (a .n) (buildBody g (c .before .further-count .result)) (a .s .now) (a .at) (s .pre))
     ∙ ap (λ (count : ℕ). endRead (buildBody g count (a .s .now) (a .at))) (c .before .further-count .ensures)
-    ∙ kind-body-3 g (a .m) (a .s .now) (a .at) (a .k) h
+    ∙ kind-body-3 g (a .d) (a .s .now) (a .at) (a .k) h
 
 pub read-body-spec : {M : Type 1} → statement M
 read-body-spec = tie.close (tie.spec
