@@ -2,3 +2,4 @@ pub mod EdgeTests
 pub mod Reading
 pub mod Plans
 pub mod Adjacency
+pub mod Repeats
