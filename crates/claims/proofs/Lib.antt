@@ -10,3 +10,4 @@ pub mod Exports
 pub mod Lines
 pub mod Decimal
 pub mod Printed
+pub mod Editions

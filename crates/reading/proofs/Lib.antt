@@ -4,3 +4,4 @@ pub mod Ends
 pub mod Reading
 pub mod Plans
 pub mod Adjacency
+pub mod Repeats

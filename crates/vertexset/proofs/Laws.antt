@@ -94,6 +94,21 @@ pub same-words : (xs ys : List ℕ) → length xs ≡ length ys → ((i k : ℕ)
 same-words xs ys l same =
     ext-getD 0 xs ys l (λ i h. let sum = pow-above (getD xs i 0 + getD ys i 0) in same-bits (getD xs i 0 + getD ys i 0) _ _ (omega arith) (omega arith) (λ k m. same i k))
 
+-- a member once more: nothing changes
+pub insert-again : (ws : List ℕ) (v : ℕ) → v < 64 * length ws → has ws v ≡ true → withBit ws v ≡ ws
+insert-again ws v h m = same-words (withBit ws v) ws (length-set ws (v / 64) _) at where
+  kept : (w j k : ℕ) → on w j ≡ true → on (bitOr w (2 ^ j)) k ≡ on w k
+  kept w j k t = elim (ℕ-discrete j k) [
+    | yes e ↦ rw (← e, on-or w (2 ^ j) j, t)
+    | no n ↦ rw (on-or w (2 ^ j) k, on-pow, ne-eqb j k n) (or-false _)
+  ]
+
+  at : (i k : ℕ) → on (getD (withBit ws v) i 0) k ≡ on (getD ws i 0) k
+  at i k = elim (ℕ-discrete i (v / 64)) [
+    | yes e ↦ rw (e, getD-set-same ws (v / 64) _ 0 (omega arith)) (kept (getD ws (v / 64) 0) (v % 64) k m)
+    | no n ↦ rw (getD-set-other ws (v / 64) i _ 0 n)
+  ]
+
 -- ---- no members, and members of another set
 
 and-both : (p q : Bool) → (p && q) ≡ true → (p ≡ true) × (q ≡ true)
