@@ -14,7 +14,7 @@ use Rattle.record.specs.Read.{Read, Read.Got, Read.Refused, ended}
 use Rattle.record.specs.declared.Answer.the-variants.{Accepted, Grade, PlanFault, CertificateFault}
 use Rattle.vertexset.specs.Set.{has, emptySet}
 use Rattle.reading.specs.Plan.{Plan, plan}
-use Rattle.reading.specs.Code.{graphOf, planRead}
+use Rattle.reading.specs.Code.{graphOf, tableOf, planRead}
 use Rattle.reading.specs.declared.PlanRead.{PlanRead}
 use Rattle.certificates.specs.Tests.{allBelow}
 use Rattle.graph.specs.Rows.{rowsGraph, bareRows}
@@ -42,7 +42,7 @@ module _ (s : List ℕ) {x : PlanRead} (e : x ≡ planRead (ended plan s 0)) whe
       go (Refused r p) d = let a : x .answer ≡ PlanFault r p = ap (λ (z : PlanRead). z .answer) d in rw (a, f)
 
   opened : x .answer ≡ Accepted → (p : Plan) × ((x .plan .graph ≡ graphOf p) × (opening s ≡ cond (ltb (graphOf p .d) (graphOf p .n + 2)) (record { answer = PlanFault 29 0; session = noSession }) (record { answer = Accepted; session = openedOn (graphOf p) })))
-  unfolding planRead opening graphOf
+  unfolding planRead opening tableOf graphOf
   opened f = go (ended plan s 0) e
     where
       go : (y : Read Plan) → x ≡ planRead y → (p : Plan) × ((x .plan .graph ≡ graphOf p) × (onOpening y ≡ cond (ltb (graphOf p .d) (graphOf p .n + 2)) (record { answer = PlanFault 29 0; session = noSession }) (record { answer = Accepted; session = openedOn (graphOf p) })))
