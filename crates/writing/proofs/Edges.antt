@@ -24,13 +24,13 @@ unfolding listBytes
 list-bytes e es = refl
 
 -- each of the edges is proper
-each-in-order : (ends : List ℕ) (n : ℕ) (before : ℕ × ℕ) (j k : ℕ) → inOrder n before (edgesFrom ends j k) ≡ true → (i : ℕ) → k ≤ i → i < k + j → proper n (edgeAt ends i) ≡ true
+proper-at : (ends : List ℕ) (n : ℕ) (before : ℕ × ℕ) (j k : ℕ) → inOrder n before (edgesFrom ends j k) ≡ true → (i : ℕ) → k ≤ i → i < k + j → proper n (edgeAt ends i) ≡ true
 unfolding edgesFrom inOrder
-each-in-order ends n before zero k o i l h = absurd (omega arith)
-each-in-order ends n before (suc j) k o i l h =
+proper-at ends n before zero k o i l h = absurd (omega arith)
+proper-at ends n before (suc j) k o i l h =
     let a = and-true (proper n (edgeAt ends k)) _ o in
     let b = and-true (follows before (edgeAt ends k)) _ (a .1) in
-    go (a .0) (λ d. each-in-order ends n (edgeAt ends k) j (k + 1) (b .1) i (omega arith) (omega arith)) (ℕ-discrete k i)
+    go (a .0) (λ d. proper-at ends n (edgeAt ends k) j (k + 1) (b .1) i (omega arith) (omega arith)) (ℕ-discrete k i)
   where
     go : proper n (edgeAt ends k) ≡ true → (k ≢ i → proper n (edgeAt ends i) ≡ true) → Dec (k ≡ i) → proper n (edgeAt ends i) ≡ true
     go here later (yes e) = rw (← e) here
@@ -70,7 +70,7 @@ module _ (ends : List ℕ) (m : ℕ) where
 
   -- the vertices of each edge have a form
   pub ends-low : {n k : ℕ} → n ≤ maxVertices → inOrder n (0, 0) all ≡ true → k < m → (edgeAt ends k .0 < numberLimit) × (edgeAt ends k .1 < numberLimit)
-  ends-low {n} {k} h o l = let p = proper-true n (edgeAt ends k) (each-in-order ends n (0, 0) m 0 o k (omega arith) (omega arith)) in (omega arith, omega arith)
+  ends-low {n} {k} h o l = let p = proper-true n (edgeAt ends k) (proper-at ends n (0, 0) m 0 o k (omega arith) (omega arith)) in (omega arith, omega arith)
 
   -- tested and counted so far, up to the edge before: what is left is in order where all are, and what was counted and what is left are all
   pub record Measured (n k : ℕ) (before : ℕ × ℕ) (bytes : ℕ) : Type 0 where
