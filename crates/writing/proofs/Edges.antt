@@ -1,95 +1,113 @@
--- The edges in the rows, one place after the other: what the loops over them know. Assumes nothing.
-use Prim.Native.Nat.{ℕ, suc, _+_, _*_, _<_, _≤_, _-_}
+-- The edges in the array, one after the other: what the loops over them know. Assumes nothing.
+use Prim.Native.Nat.{ℕ, zero, suc, _+_, _*_, _<_, _≤_, _-_}
 use mathlib.Core.List.{List, [], _∷_, _++_}
-use mathlib.Core.Bool.{true, false}
+use mathlib.Core.Bool.{Bool, true, false, _&&_, and-false}
+use mathlib.Core.Logic.{_≢_}
 use mathlib.Core.Path.{_≡_, refl, sym, ap, _∙_}
 use native.Mathlib.Omega.{arith}
+use native.Mathlib.Decide.{ℕ-discrete}
 use lib.ListN.{length, length-append}
-use Rattle.record.specs.Number.{listBytes, numberBytes}
+use Rattle.record.specs.Number.{listBytes, numberBytes, numberLimit}
 use Rattle.record.specs.Write.{overwritten}
 use Rattle.record.proofs.Write.{few-bytes, overwritten-none, overwritten-length, overwritten-more}
-use Rattle.reading.specs.Plan.{edgeBytes}
-use Rattle.writing.specs.Write.{pairAt, edgeAt, edgesFrom}
+use Rattle.connectivity.proofs.Lists.{and-true}
+use Rattle.graph.specs.Limits.{maxVertices}
+use Rattle.reading.specs.Plan.{proper, follows, edgeBytes}
+use Rattle.reading.proofs.EdgeTests.{proper-true}
+use Rattle.writing.specs.Write.{edgeAt, edgesFrom, inOrder}
 
 pub edge-bytes : (e : ℕ × ℕ) → length (edgeBytes e) ≡ length (numberBytes (e .0)) + length (numberBytes (e .1))
 edge-bytes e = length-append (numberBytes (e .0)) (numberBytes (e .1))
-
-pub edge-short : (e : ℕ × ℕ) → length (edgeBytes e) ≤ 4
-edge-short e = omega (arith, edge-bytes e, few-bytes (e .0), few-bytes (e .1))
 
 list-bytes : (e : ℕ × ℕ) (es : List (ℕ × ℕ)) → listBytes edgeBytes (e ∷ es) ≡ edgeBytes e ++ listBytes edgeBytes es
 unfolding listBytes
 list-bytes e es = refl
 
-module _ (rows : List ℕ) (n end : ℕ) where
-  -- the edges from the place k on, and their bytes
+-- each of the edges is proper
+proper-at : (ends : List ℕ) (n : ℕ) (before : ℕ × ℕ) (j k : ℕ) → inOrder n before (edgesFrom ends j k) ≡ true → (i : ℕ) → k ≤ i → i < k + j → proper n (edgeAt ends i) ≡ true
+unfolding edgesFrom inOrder
+proper-at ends n before zero k o i l h = absurd (omega arith)
+proper-at ends n before (suc j) k o i l h =
+    let a = and-true (proper n (edgeAt ends k)) _ o in
+    let b = and-true (follows before (edgeAt ends k)) _ (a .1) in
+    go (a .0) (λ d. proper-at ends n (edgeAt ends k) j (k + 1) (b .1) i (omega arith) (omega arith)) (ℕ-discrete k i)
+  where
+    go : proper n (edgeAt ends k) ≡ true → (k ≢ i → proper n (edgeAt ends i) ≡ true) → Dec (k ≡ i) → proper n (edgeAt ends i) ≡ true
+    go here later (yes e) = rw (← e) here
+    go here later (no d) = later d
+
+module _ (ends : List ℕ) (m : ℕ) where
+  -- the edges behind the first k, and their bytes
   abbrev pub left : ℕ → List (ℕ × ℕ)
-  left k = edgesFrom rows n (end - k) k
+  left k = edgesFrom ends (m - k) k
 
   abbrev pub leftBytes : ℕ → List ℕ
   leftBytes k = listBytes edgeBytes (left k)
 
   abbrev pub all : List (ℕ × ℕ)
-  all = edgesFrom rows n end 0
+  all = edgesFrom ends m 0
 
   abbrev pub allBytes : List ℕ
   allBytes = listBytes edgeBytes all
 
   left-all : left 0 ≡ all
-  left-all = let z : end - 0 ≡ end = omega arith in rw z
+  left-all = let z : m - 0 ≡ m = omega arith in rw z
 
-  left-here : {k : ℕ} → k < end → edgeAt rows n k ≡ true → left k ≡ pairAt k ∷ left (k + 1)
+  left-here : {k : ℕ} → k < m → left k ≡ edgeAt ends k ∷ left (k + 1)
   unfolding edgesFrom
-  left-here {k} h e = let z : end - k ≡ suc (end - (k + 1)) = omega arith in rw (z, e)
+  left-here {k} h = let z : m - k ≡ suc (m - (k + 1)) = omega arith in rw z
 
-  left-next : {k : ℕ} → k < end → edgeAt rows n k ≡ false → left k ≡ left (k + 1)
+  left-none : {k : ℕ} → m ≤ k → left k ≡ []
   unfolding edgesFrom
-  left-next {k} h e = let z : end - k ≡ suc (end - (k + 1)) = omega arith in rw (z, e)
+  left-none {k} h = let z : m - k ≡ 0 = omega arith in rw z
 
-  left-none : {k : ℕ} → end ≤ k → left k ≡ []
-  unfolding edgesFrom
-  left-none {k} h = let z : end - k ≡ 0 = omega arith in rw z
+  here-bytes : {k : ℕ} → k < m → leftBytes k ≡ edgeBytes (edgeAt ends k) ++ leftBytes (k + 1)
+  here-bytes {k} h = ap (listBytes edgeBytes) (left-here h) ∙ list-bytes (edgeAt ends k) (left (k + 1))
 
-  here-bytes : {k : ℕ} → k < end → edgeAt rows n k ≡ true → leftBytes k ≡ edgeBytes (pairAt k) ++ leftBytes (k + 1)
-  here-bytes {k} h e = ap (listBytes edgeBytes) (left-here h e) ∙ list-bytes (pairAt k) (left (k + 1))
-
-  none-bytes : {k : ℕ} → end ≤ k → leftBytes k ≡ []
+  none-bytes : {k : ℕ} → m ≤ k → leftBytes k ≡ []
   unfolding listBytes
   none-bytes h = ap (listBytes edgeBytes) (left-none h)
 
-  -- counted so far: what was counted and what is left are all
-  pub record Counted (k edges bytes : ℕ) : Type 0 where
-    pub few : edges ≤ k
+  -- the vertices of each edge have a form
+  pub ends-low : {n k : ℕ} → n ≤ maxVertices → inOrder n (0, 0) all ≡ true → k < m → (edgeAt ends k .0 < numberLimit) × (edgeAt ends k .1 < numberLimit)
+  ends-low {n} {k} h o l = let p = proper-true n (edgeAt ends k) (proper-at ends n (0, 0) m 0 o k (omega arith) (omega arith)) in (omega arith, omega arith)
+
+  -- tested and counted so far, up to the edge before: what is left is in order where all are, and what was counted and what is left are all
+  pub record Measured (n k : ℕ) (before : ℕ × ℕ) (bytes : ℕ) : Type 0 where
     pub short : bytes ≤ 4 * k
-    pub count : edges + length (left k) ≡ length all
+    pub order : inOrder n before (left k) ≡ inOrder n (0, 0) all
     pub size : bytes + length (leftBytes k) ≡ length allBytes
 
-  pub count-start : Counted 0 0 0
-  count-start = record {
-    few = omega arith;
-    short = omega arith;
-    count = omega (arith, ap length left-all);
-    size = omega (arith, ap length (ap (listBytes edgeBytes) left-all));
-  }
+  module _ {n : ℕ} where
+    pub measure-start : Measured n 0 (0, 0) 0
+    measure-start = record {
+      short = omega arith;
+      order = ap (inOrder n (0, 0)) left-all;
+      size = omega (arith, ap length (ap (listBytes edgeBytes) left-all));
+    }
 
-  pub count-here : {k edges bytes : ℕ} → k < end → edgeAt rows n k ≡ true → Counted k edges bytes → Counted (k + 1) (edges + 1) (bytes + length (edgeBytes (pairAt k)))
-  count-here {k} h e c = record {
-    few = omega (arith, c .few);
-    short = omega (arith, c .short, edge-short (pairAt k));
-    count = omega (arith, c .count, ap length (left-here h e));
-    size = omega (arith, c .size, ap length (here-bytes h e), length-append (edgeBytes (pairAt k)) (leftBytes (k + 1)));
-  }
+    module _ {k bytes : ℕ} {before : ℕ × ℕ} (c : Measured n k before bytes) where
+      here-order : k < m → proper n (edgeAt ends k) && (follows before (edgeAt ends k) && inOrder n (edgeAt ends k) (left (k + 1))) ≡ inOrder n (0, 0) all
+      unfolding inOrder
+      here-order h = sym (ap (inOrder n before) (left-here h)) ∙ c .order
 
-  pub count-next : {k edges bytes : ℕ} → k < end → edgeAt rows n k ≡ false → Counted k edges bytes → Counted (k + 1) edges bytes
-  count-next {k} h e c = record {
-    few = omega (arith, c .few);
-    short = omega (arith, c .short);
-    count = omega (arith, c .count, ap length (left-next h e));
-    size = omega (arith, c .size, ap length (ap (listBytes edgeBytes) (left-next h e)));
-  }
+      pub measure-here : k < m → proper n (edgeAt ends k) ≡ true → follows before (edgeAt ends k) ≡ true → {a b : ℕ} → a ≡ length (numberBytes (edgeAt ends k .0)) → b ≡ length (numberBytes (edgeAt ends k .1))
+          → Measured n (k + 1) (edgeAt ends k) (bytes + a + b)
+      measure-here h p f d e = record {
+        short = omega (arith, c .short, few-bytes (edgeAt ends k .0), few-bytes (edgeAt ends k .1));
+        order = rw (p, f) at (here-order h);
+        size = omega (arith, c .size, ap length (here-bytes h), length-append (edgeBytes (edgeAt ends k)) (leftBytes (k + 1)), edge-bytes (edgeAt ends k));
+      }
 
-  pub count-end : {k edges bytes : ℕ} → end ≤ k → Counted k edges bytes → (edges ≡ length all) × (bytes ≡ length allBytes)
-  count-end h c = (omega (arith, c .count, ap length (left-none h)), omega (arith, c .size, ap length (none-bytes h)))
+      pub measure-improper : k < m → proper n (edgeAt ends k) ≡ false → inOrder n (0, 0) all ≡ false
+      measure-improper h p = sym (here-order h) ∙ rw p
+
+      pub measure-behind : k < m → follows before (edgeAt ends k) ≡ false → inOrder n (0, 0) all ≡ false
+      measure-behind h f = sym (here-order h) ∙ rw f (and-false (proper n (edgeAt ends k)))
+
+      pub measure-end : m ≤ k → (inOrder n (0, 0) all ≡ true) × (bytes ≡ length allBytes)
+      unfolding inOrder
+      measure-end h = (sym (c .order) ∙ ap (inOrder n before) (left-none h), omega (arith, c .size, ap length (none-bytes h)))
 
   -- written so far: with what is left written from next on the buffer is what it is to be
   pub record Putting (buffer : List ℕ) (from k next : ℕ) (out : List ℕ) : Type 0 where
@@ -102,23 +120,16 @@ module _ (rows : List ℕ) (n end : ℕ) where
     put-start = record { long = refl; place = ap (λ (l : List (ℕ × ℕ)). from + length (listBytes edgeBytes l)) left-all; done = ap (λ (l : List (ℕ × ℕ)). overwritten buffer from (listBytes edgeBytes l)) left-all }
 
     module _ {k next : ℕ} {out : List ℕ} (p : Putting buffer from k next out) where
-      pub put-room : k < end → edgeAt rows n k ≡ true → from + length allBytes ≤ length buffer → next + length (edgeBytes (pairAt k)) ≤ length out
-      put-room h e r = omega (arith, p .place, p .long, ap length (here-bytes h e), length-append (edgeBytes (pairAt k)) (leftBytes (k + 1)))
+      pub put-room : k < m → from + length allBytes ≤ length buffer → next + length (edgeBytes (edgeAt ends k)) ≤ length out
+      put-room h r = omega (arith, p .place, p .long, ap length (here-bytes h), length-append (edgeBytes (edgeAt ends k)) (leftBytes (k + 1)))
 
-      pub put-here : k < end → edgeAt rows n k ≡ true → from + length allBytes ≤ length buffer
-          → Putting buffer from (k + 1) (next + length (edgeBytes (pairAt k))) (overwritten out next (edgeBytes (pairAt k)))
-      put-here h e r = record {
-        long = overwritten-length out next (edgeBytes (pairAt k)) (put-room h e r) ∙ p .long;
-        place = omega (arith, p .place, ap length (here-bytes h e), length-append (edgeBytes (pairAt k)) (leftBytes (k + 1)));
-        done = overwritten-more out next (edgeBytes (pairAt k)) (put-room h e r) (leftBytes (k + 1)) ∙ ap (overwritten out next) (sym (here-bytes h e)) ∙ p .done;
+      pub put-here : k < m → from + length allBytes ≤ length buffer
+          → Putting buffer from (k + 1) (next + length (edgeBytes (edgeAt ends k))) (overwritten out next (edgeBytes (edgeAt ends k)))
+      put-here h r = record {
+        long = overwritten-length out next (edgeBytes (edgeAt ends k)) (put-room h r) ∙ p .long;
+        place = omega (arith, p .place, ap length (here-bytes h), length-append (edgeBytes (edgeAt ends k)) (leftBytes (k + 1)));
+        done = overwritten-more out next (edgeBytes (edgeAt ends k)) (put-room h r) (leftBytes (k + 1)) ∙ ap (overwritten out next) (sym (here-bytes h)) ∙ p .done;
       }
 
-      pub put-next : k < end → edgeAt rows n k ≡ false → Putting buffer from (k + 1) next out
-      put-next h e = record {
-        long = p .long;
-        place = omega (arith, p .place, ap length (ap (listBytes edgeBytes) (left-next h e)));
-        done = ap (λ (l : List (ℕ × ℕ)). overwritten out next (listBytes edgeBytes l)) (sym (left-next h e)) ∙ p .done;
-      }
-
-      pub put-end : end ≤ k → (next ≡ from + length allBytes) × (out ≡ overwritten buffer from allBytes)
+      pub put-end : m ≤ k → (next ≡ from + length allBytes) × (out ≡ overwritten buffer from allBytes)
       put-end h = (omega (arith, p .place, ap length (none-bytes h)), sym (overwritten-none out next) ∙ ap (overwritten out next) (sym (none-bytes h)) ∙ p .done)
