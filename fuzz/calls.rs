@@ -10,17 +10,37 @@ pub fn first_byte(call: usize, room: usize) -> u8 {
     (call + 4 * room) as u8
 }
 
-/// Which call it was and the answers that both gave, or how they differ.
-pub fn compare(input: &[u8]) -> Result<(usize, Vec<Answer>), String> {
-    let Some((&first, bytes)) = input.split_first() else { return Ok((0, Vec::new())) };
+/// Which call it was, whether its plan is accepted and has doubles, and the answers that both gave.
+pub struct Compared {
+    pub call: usize,
+    pub doubles: bool,
+    pub answers: Vec<Answer>,
+}
+
+/// One call, or how the two differ.
+pub fn compare(input: &[u8]) -> Result<Compared, String> {
+    let (&first, bytes) = input.split_first().unwrap_or((&0, &[]));
     let (call, room) = (first as usize % 4, first as usize / 4);
-    let answers = match call {
-        0 => vec![plan(bytes, room, first)?],
-        1 => vec![check(bytes, room)?],
-        2 => vec![certify(bytes, room, first)?],
-        _ => session(bytes, room, first)?,
+    let (answers, doubles) = match call {
+        0 => (vec![plan(bytes, room, first)?], has_doubles(bytes)),
+        1 => {
+            let (plan, certificate) = bytes.split_at(plan_end(bytes, room));
+            (vec![check(plan, certificate)?], has_doubles(plan))
+        }
+        2 => (vec![certify(bytes, room, first)?], has_doubles(bytes)),
+        _ => (session(bytes, room, first)?, reference::next_part(&mut &*bytes).is_some_and(has_doubles)),
     };
-    Ok((call, answers))
+    Ok(Compared { call, doubles, answers })
+}
+
+/// An accepted plan with each double written once, where it has doubles.
+fn once(plan: &[u8]) -> Option<Vec<u8>> {
+    let simple = reference::encode_plan(&reference::read_plan(plan).ok()?.simple());
+    Some(simple).filter(|simple| simple.len() < plan.len())
+}
+
+fn has_doubles(plan: &[u8]) -> bool {
+    once(plan).is_some()
 }
 
 fn plain(answer: fikzarn::Answer) -> Answer {
@@ -60,18 +80,25 @@ fn plan(bytes: &[u8], room: usize, fill: u8) -> Result<Answer, String> {
 }
 
 /// The certificate begins behind the plan; or, to meet the other faults, somewhere else.
-fn check(bytes: &[u8], room: usize) -> Result<Answer, String> {
+fn plan_end(bytes: &[u8], room: usize) -> usize {
     let end = match reference::read_plan_prefix(bytes) {
         Ok((_, end)) => end + room.saturating_sub(60),
         Err(_) => bytes.len().saturating_sub(room),
     };
-    let (plan, certificate) = bytes.split_at(end.min(bytes.len()));
+    end.min(bytes.len())
+}
+
+/// Doubles change no answer.
+fn check(plan: &[u8], certificate: &[u8]) -> Result<Answer, String> {
     let expected = reference::check(plan, certificate);
     same("check", plain(fikzarn::check(plan, certificate)), expected)?;
+    if let Some(once) = once(plan) {
+        same("check with each double written once", plain(fikzarn::check(&once, certificate)), expected)?;
+    }
     Ok(expected)
 }
 
-/// The certifier's choice is its own: the second implementation has to accept it with the plan's connectivity.
+/// The certifier's choice is its own: the second implementation has to accept it with the plan's connectivity. Doubles change nothing.
 fn certify(bytes: &[u8], room: usize, fill: u8) -> Result<Answer, String> {
     let length = fikzarn::CERTIFICATE_ROOM - 8 + room;
     let mut out = vec![fill; length];
@@ -86,6 +113,11 @@ fn certify(bytes: &[u8], room: usize, fill: u8) -> Result<Answer, String> {
             same("certify", Answer::Grade(grade), expected)?;
             same("its certificate", reference::check(bytes, &out[..size]), expected)?;
             same("its length", size <= fikzarn::CERTIFICATE_ROOM, true)?;
+            if let Some(once) = once(bytes) {
+                let mut out_once = vec![fill; length];
+                fikzarn::certify(&once, &mut out_once).ok();
+                same("the certificate with each double written once", &out_once, &out)?;
+            }
             size
         }
         Err(refused) => {
@@ -109,31 +141,12 @@ fn session(bytes: &[u8], room: usize, fill: u8) -> Result<Vec<Answer>, String> {
 
 /// How a script ends where there is room for `room` answers, and the answers.
 fn replay(script: &[u8], room: usize) -> (End, Vec<Answer>) {
-    let (mut rest, mut answers) = (script, Vec::new());
-    let Some(plan) = part(&mut rest) else { return (End::Cut, answers) };
-    let (mut answer, mut session) = reference::open(plan);
-    loop {
-        if answers.len() == room {
-            return (End::NoRoom, answers);
-        }
-        answers.push(answer);
-        let Some((&call, after)) = rest.split_first() else { return (End::Replayed, answers) };
-        rest = after;
-        match call {
-            b'c' => (answer, session) = session.close(),
-            b's' | b'p' => {
-                let Some(part) = part(&mut rest) else { return (End::Cut, answers) };
-                (answer, session, _) = if call == b's' { session.start(part) } else { session.path(part) };
-            }
-            _ => return (End::UnknownCall, answers),
-        }
-    }
-}
-
-/// Takes a length and as many bytes off the front, if they are there.
-fn part<'a>(rest: &mut &'a [u8]) -> Option<&'a [u8]> {
-    let (length, after) = rest.split_first_chunk::<2>()?;
-    let (part, after) = after.split_at_checked(u16::from_le_bytes(*length) as usize)?;
-    *rest = after;
-    Some(part)
+    let (answers, end) = reference::replay(script);
+    let end = match end {
+        _ if answers.len() > room => End::NoRoom,
+        reference::End::Replayed => End::Replayed,
+        reference::End::Cut => End::Cut,
+        reference::End::UnknownCall => End::UnknownCall,
+    };
+    (end, answers.into_iter().map(|(answer, _)| answer).take(room).collect())
 }

@@ -9,7 +9,7 @@ mod generate;
 #[path = "../second/reference.rs"]
 mod reference;
 
-use generate::{Call, Generator, Script};
+use generate::Generator;
 use reference::{Answer, Random};
 use std::collections::BTreeMap;
 use std::process::exit;
@@ -29,19 +29,6 @@ fn main() {
     exit(if right { 0 } else { 1 });
 }
 
-fn encode(script: &Script) -> Vec<u8> {
-    let counted = |part: &[u8]| [&(part.len() as u16).to_le_bytes()[..], part].concat();
-    let mut bytes = counted(&script.plan);
-    for call in &script.calls {
-        match call {
-            Call::Start(part) => bytes.extend([vec![b's'], counted(part)].concat()),
-            Call::Path(part) => bytes.extend([vec![b'p'], counted(part)].concat()),
-            Call::Close => bytes.push(b'c'),
-        }
-    }
-    bytes
-}
-
 fn input(generator: &mut Generator, random: &mut Random) -> Vec<u8> {
     let (call, room) = (random.below(calls::CALLS.len()), random.below(64));
     let records = match call {
@@ -50,7 +37,7 @@ fn input(generator: &mut Generator, random: &mut Random) -> Vec<u8> {
             let (plan, certificate) = generator.case();
             [plan, certificate].concat()
         }
-        _ => encode(&generator.script()),
+        _ => generator.script().encode(usize::MAX),
     };
     [vec![calls::first_byte(call, room)], records].concat()
 }
@@ -86,7 +73,10 @@ fn run(count: u64, seed: u64) -> bool {
             bytes = damage(bytes, &mut random);
         }
         match calls::compare(&bytes) {
-            Ok((call, answers)) => answers.into_iter().for_each(|answer| *seen.entry((call, outcome(answer))).or_insert(0) += 1),
+            Ok(compared) => {
+                let key = |answer| (compared.call, compared.doubles, outcome(answer));
+                compared.answers.iter().for_each(|&answer| *seen.entry(key(answer)).or_insert(0) += 1);
+            }
             Err(what) => {
                 println!("DIFFERENT: {what}\n  input: {bytes:?}");
                 return false;
@@ -94,7 +84,7 @@ fn run(count: u64, seed: u64) -> bool {
         }
     }
     let missing: Vec<_> = due().into_iter().filter(|key| !seen.contains_key(key)).collect();
-    missing.iter().for_each(|(call, outcome)| println!("never seen: {} {outcome:?}", calls::CALLS[*call]));
+    missing.iter().for_each(|(call, doubles, outcome)| println!("never seen: {} {doubles} {outcome:?}", calls::CALLS[*call]));
     println!("{count} compared, 0 differ; {} kinds of answers", seen.len());
     missing.is_empty()
 }
@@ -109,11 +99,14 @@ fn outcome(answer: Answer) -> (char, u8) {
     }
 }
 
-fn due() -> Vec<(usize, (char, u8))> {
-    let mut due = vec![(0, ('a', 0)), (2, ('p', 30)), (3, ('a', 0)), (3, ('g', 3)), (3, ('p', 29))];
-    due.extend((0..4).flat_map(|call| (1..8).map(move |number| (call, ('p', number)))));
-    due.extend((0..4).flat_map(|grade| [1, 2].map(|call| (call, ('g', grade)))));
-    due.extend([1, 2, 7, 8, 9].into_iter().chain(20..30).map(|number| (1, ('c', number))));
-    due.extend([1, 2, 9, 20].into_iter().chain(24..29).chain([31]).map(|number| (3, ('c', number))));
+/// For each call, with doubles in the plan and without: what has to occur. A refused plan counts as one without.
+fn due() -> Vec<(usize, bool, (char, u8))> {
+    let mut accepted = vec![(0, ('a', 0)), (2, ('p', 30)), (3, ('a', 0)), (3, ('g', 3)), (3, ('p', 29))];
+    accepted.extend((0..4).flat_map(|grade| [1, 2].map(|call| (call, ('g', grade)))));
+    accepted.extend([1, 2, 7, 8, 9].into_iter().chain(20..30).map(|number| (1, ('c', number))));
+    accepted.extend([1, 2, 9, 20].into_iter().chain(24..29).chain([31]).map(|number| (3, ('c', number))));
+    let both = |(call, outcome)| [false, true].map(|doubles| (call, doubles, outcome));
+    let mut due: Vec<_> = accepted.into_iter().flat_map(both).collect();
+    due.extend((0..4).flat_map(|call| (1..8).map(move |number| (call, false, ('p', number)))));
     due
 }

@@ -29,7 +29,7 @@ pub extern "C" fn LLVMFuzzerInitialize(_: *const i32, _: *const *const *const u8
 pub unsafe extern "C" fn LLVMFuzzerTestOneInput(data: *const u8, size: usize) -> i32 {
     let input = unsafe { std::slice::from_raw_parts(data, size) };
     match calls::compare(input) {
-        Ok((call, _)) => MADE[call].fetch_add(1, Ordering::Relaxed),
+        Ok(compared) => MADE[compared.call].fetch_add(1, Ordering::Relaxed),
         Err(what) => {
             eprintln!("DIFFERENT: {what}\n  input: {input:?}");
             std::process::abort();

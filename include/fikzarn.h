@@ -42,7 +42,8 @@ static inline uint64_t fikzarn_place(uint64_t word) {
 }
 
 /* Reads a whole plan record: accepted, or a plan fault. Where it is accepted and `out` has room for it, `out` begins with the
- * record, written again from the plan that was read. Every other byte of `out`, or else every byte, keeps its value. */
+ * record, written again from the plan that was read, doubled cables as often as they were there. Every other byte of `out`, or else
+ * every byte, keeps its value. */
 uint64_t fikzarn_plan(const uint8_t *plan, size_t plan_len, uint8_t *out, size_t out_len);
 
 /* Checks a certificate record beside a plan record: a grade, a plan fault, or else a certificate fault. */
@@ -79,11 +80,11 @@ static inline uint64_t fikzarn_answer(const uint8_t *out, size_t i) {
     return word;
 }
 
-/* Which edition of the records this library reads, and its limits. */
-uint64_t fikzarn_edition(void);          /* 0 */
+/* Which edition of the records this library reads, and its limits. Since edition 1 a cable of a plan may equal the one before it. */
+uint64_t fikzarn_edition(void);          /* 1 */
 uint64_t fikzarn_min_boxes(void);        /* 4 */
 uint64_t fikzarn_max_boxes(void);        /* 128 */
-uint64_t fikzarn_max_cables(void);       /* 512 */
+uint64_t fikzarn_max_cables(void);       /* 512, each cable of a double counted */
 uint64_t fikzarn_certificate_room(void); /* FIKZARN_CERTIFICATE_ROOM */
 
 #ifdef __cplusplus

@@ -16,7 +16,7 @@ REFUSALS = {
     3: "the number of boxes is below 4 or above 128",
     4: "the number of cables is above 512",
     5: "a cable's lower box is not below its higher box, or its higher box is not in the plan",
-    6: "a cable does not come after its predecessor",
+    6: "a cable comes before its predecessor",
     7: "a byte follows the last number",
     8: "the kind is above 3",
     9: "a box is not in the plan, or a count or length is out of range",
@@ -29,7 +29,7 @@ REFUSALS = {
     26: "a box that must be new is not, or a box is twice on the path",
     27: "one link holds both ends",
     28: "a box is not in after the last ear, or is no branch box after the last path",
-    29: "grade 3 needs at least two cables more than boxes",
+    29: "grade 3 needs at least two cabled pairs more than boxes",
     30: "the buffer is shorter than 1,536 bytes",
     31: "the session does not take this call now",
 }
@@ -65,12 +65,14 @@ def spoken(values):
 
 
 class Plan:
-    """An accepted plan at the start of a record; `end` is the place behind it."""
+    """An accepted plan at the start of a record; `end` is the place behind it, and `pairs` counts a doubled edge once."""
 
     def __init__(self, record):
-        (self.n, self.m), at = numbers(record, 0, 2)
-        ends, self.end = numbers(record, at, 2 * self.m)
+        (self.n, m), at = numbers(record, 0, 2)
+        ends, self.end = numbers(record, at, 2 * m)
         self.edges = list(zip(ends[::2], ends[1::2]))
+        self.pairs = len(set(self.edges))
+        self.further_paths = self.pairs - self.n - 2
 
     def apart(self, path):
         """The first neighbours without an edge; the last vertex and the first come last, for a first ear."""
@@ -81,7 +83,7 @@ class Plan:
         return spoken(vertex for vertex in range(self.n) if vertex not in present)
 
     def size(self):
-        return f"{self.n} boxes, {self.m} cables"
+        return f"{self.n} boxes, {self.pairs} cabled pairs"
 
 
 # ---------------------------------------------------------------- what stands at the place
@@ -133,7 +135,7 @@ def after_ears(record, plan):
 def after_paths(record, plan):
     """What 28 shows for kind 3: the vertices that are the end of no path."""
     at, branch = numbers(record, 1, 4)[1], set()
-    for _ in range(6 + plan.m - plan.n - 2):
+    for _ in range(6 + plan.further_paths):
         path, at = counted(record, at)
         branch.update((path[0], path[-1]))
     return f"no branch box: {plan.absent(branch)}"
@@ -219,7 +221,7 @@ class Replay:
             return "it has its start"
         if self.branch is None:
             return "it has no start yet"
-        return f"{self.taken} of {self.plan.m - self.plan.n - 2} paths are in"
+        return f"{self.taken} of {self.plan.further_paths} paths are in"
 
     def refuse(self, call, part, code, place):
         if call == "open":

@@ -1,12 +1,11 @@
 // compare certify: the certificates that the library makes, under the figure and both checkers; and what becomes of the buffer.
 use crate::generate::{every_plan, larger_plan, Generator, FIGURES};
+use crate::library::{self, Lent};
 use crate::reference::*;
-use crate::{library, Tally};
+use crate::Tally;
 
 /// "The length is at most 1,536"; 30 below.
-const SPACE: usize = 1536;
-/// Bytes behind the buffer that is lent.
-const BEHIND: usize = 64;
+pub const SPACE: usize = 1536;
 /// Up to here the figure is found as document 01 words it, above by low points.
 const MOST_BY_REMOVAL: usize = 48;
 
@@ -37,7 +36,7 @@ pub fn certify(count: u64, seed: u64) -> bool {
     run.tally.close(run.calls, due.collect()) & right
 }
 
-fn figure(plan: &Plan) -> u8 {
+pub fn figure(plan: &Plan) -> u8 {
     if plan.n <= MOST_BY_REMOVAL {
         connectivity(plan)
     } else {
@@ -54,11 +53,12 @@ struct Run {
 
 impl Run {
     fn grades(&self) -> [usize; 4] {
-        [0, 1, 2, 3].map(|grade| self.tally.outcomes.get(&("grade", grade)).map_or(0, |&count| count as usize))
+        [0, 1, 2, 3].map(|grade| self.tally.outcomes.get(&("grade", grade)).map_or(0, |&[all, _]| all as usize))
     }
 
     /// An accepted plan: in the least buffer, in a larger one the same certificate, and in one that is too small none.
     fn plan(&mut self, plan: &Plan) {
+        self.tally.see_shapes(plan);
         let record = encode_plan(plan);
         let figure = figure(plan);
         let larger = self.random.within(SPACE + 1, 4 * SPACE);
@@ -86,42 +86,61 @@ impl Run {
             Ok(figure) => Answer::Grade(figure),
         };
         self.calls += 1;
-        self.tally.count(expected);
-        let before: Vec<u8> = (0..size + BEHIND).map(|_| self.random.next() as u8).collect();
-        let mut after = before.clone();
-        let (word, length) = library::certify(record, &mut after[..size]);
-        let wrong = if word != library::word(expected) {
-            Some(format!("expected {expected:?}, the library gave {}", library::told(word)))
-        } else if length > size.min(SPACE) {
-            Some(format!("a length of {length}"))
-        } else if after[length..] != before[length..] {
-            let at = (length..after.len()).find(|&i| after[i] != before[i]).unwrap_or(0);
-            Some(format!("byte {at} of the buffer has changed, the length is {length}"))
-        } else if let Answer::Grade(grade) = expected {
+        self.tally.count(expected, record);
+        let made = certified(record, size, &mut self.random);
+        if let Answer::Grade(grade) = expected {
             let longest = &mut self.longest[grade as usize];
-            *longest = length.max(*longest);
-            refused(record, &after[..length], expected)
-        } else {
-            None
-        };
-        if let Some(wrong) = wrong {
-            let shown = &after[..length.min(size)];
+            *longest = made.certificate.len().max(*longest);
+        }
+        if let Some(wrong) = made.wrong(record, expected) {
+            let shown = &made.certificate;
             self.tally.differs(&[("plan", record), ("certificate", shown)], format!("a buffer of {size} bytes: {wrong}"));
         }
-        after.truncate(length);
-        after
+        made.certificate
     }
 }
 
-/// What one of the checkers has against a certificate.
-fn refused(plan: &[u8], certificate: &[u8], expected: Answer) -> Option<String> {
-    let own = library::check(plan, certificate);
-    let second = check(plan, certificate);
-    if own != library::word(expected) {
-        Some(format!("expected {expected:?}, the library's checker gave {}", library::told(own)))
-    } else if second != expected {
-        Some(format!("expected {expected:?}, the second checker gave {second:?}"))
-    } else {
-        None
+/// What came of a call: its word, the certificate, and what is wrong with the bytes around it.
+pub struct Made {
+    pub word: u64,
+    pub certificate: Vec<u8>,
+    touched: Option<String>,
+}
+
+pub fn certified(record: &[u8], size: usize, random: &mut Random) -> Made {
+    let mut out = Lent::new(size, random);
+    let (word, length) = library::certify(record, out.buffer());
+    let touched = match length > SPACE {
+        true => Some(format!("a length of {length}")),
+        false => out.touched(length),
+    };
+    Made { word, certificate: out.written(length).to_vec(), touched }
+}
+
+impl Made {
+    /// What is wrong with it where this answer is due: the word, the buffer, or what one of the checkers has against the certificate.
+    pub fn wrong(&self, record: &[u8], expected: Answer) -> Option<String> {
+        if self.word != library::word(expected) {
+            return Some(format!("expected {expected:?}, the library gave {}", library::told(self.word)));
+        }
+        if self.touched.is_some() || !matches!(expected, Answer::Grade(_)) {
+            return self.touched.clone();
+        }
+        let own = library::check(record, &self.certificate);
+        let second = check(record, &self.certificate);
+        if own != self.word {
+            return Some(format!("expected {expected:?}, the library's checker gave {}", library::told(own)));
+        }
+        (second != expected).then(|| format!("expected {expected:?}, the second checker gave {second:?}"))
     }
+}
+
+/// The answer with room enough; both checkers are to accept the certificate with its grade.
+pub fn known(record: &[u8], random: &mut Random) -> String {
+    let made = certified(record, SPACE, random);
+    let wrong = match made.word % 256 {
+        1 => made.wrong(record, Answer::Grade((made.word >> 8) as u8)),
+        _ => made.touched,
+    };
+    wrong.unwrap_or_else(|| library::told(made.word))
 }

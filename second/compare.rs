@@ -1,73 +1,25 @@
 // Compares the library, linked as a C static library, with the second implementation over generated cases.
 //   compare plans COUNT SEED              plan records: the answer, and the record written again
 //   compare certificates COUNT SEED       plans with certificates: the answer
-//   compare sessions COUNT SEED PROGRAM   scripts of session calls: the lines that the session program prints
+//   compare sessions COUNT SEED PROGRAM   scripts of session calls: the answers, and the lines that the session program prints
 //   compare certify COUNT SEED            certificates that the library makes, for every small plan and COUNT larger ones
-// Exit status 1 on any difference, or where a refusal or a grade never occurred.
+//   compare doubles COUNT SEED            plans with doubles beside the same plans with each double written once
+//   compare known FILE PROGRAM            known answers, by the library and by the checking program
+// Exit status 1 on any difference, or where a refusal or a grade never occurred, with doubles in the plan or at all.
 #![allow(dead_code)]
 mod certify;
+mod doubles;
 mod generate;
+mod known;
+mod library;
 mod reference;
 
-use generate::{Call, Generator, Script};
-use reference::{Answer, Random};
+use generate::{shapes, Generator, Script};
+use library::Lent;
+use reference::{Answer, End, Plan, Random};
 use std::collections::BTreeMap;
 use std::io::Write;
 use std::process::{exit, Command, Stdio};
-
-/// The functions under test and their answers, which come as one word: case + 256 * number + 65536 * place.
-mod library {
-    use crate::reference::Answer;
-
-    mod foreign {
-        extern "C" {
-            pub fn fikzarn_plan(input: *const u8, len: usize, out: *mut u8, out_len: usize) -> u64;
-            pub fn fikzarn_check(plan: *const u8, plan_len: usize, cert: *const u8, cert_len: usize) -> u64;
-            pub fn fikzarn_certify(plan: *const u8, plan_len: usize, out: *mut u8, out_len: usize) -> u64;
-        }
-    }
-
-    /// Reads a whole plan record; where it is accepted and fits, writes it again into `out`.
-    pub fn plan(record: &[u8], out: &mut [u8]) -> u64 {
-        unsafe { foreign::fikzarn_plan(record.as_ptr(), record.len(), out.as_mut_ptr(), out.len()) }
-    }
-
-    pub fn check(plan: &[u8], certificate: &[u8]) -> u64 {
-        unsafe { foreign::fikzarn_check(plan.as_ptr(), plan.len(), certificate.as_ptr(), certificate.len()) }
-    }
-
-    /// Writes a certificate of the plan into `out`. Beside a grade the word has the length, times 2 to the power of 32.
-    pub fn certify(plan: &[u8], out: &mut [u8]) -> (u64, usize) {
-        let word = unsafe { foreign::fikzarn_certify(plan.as_ptr(), plan.len(), out.as_mut_ptr(), out.len()) };
-        match word % 256 {
-            1 => (word % (1 << 16), (word >> 16) as usize),
-            _ => (word, 0),
-        }
-    }
-
-    /// The word for an answer.
-    pub fn word(answer: Answer) -> u64 {
-        let (case, number, place) = match answer {
-            Answer::Accepted => (0, 0, 0),
-            Answer::Grade(grade) => (1, grade, 0),
-            Answer::PlanFault(number, place) => (2, number, place),
-            Answer::CertificateFault(number, place) => (3, number, place),
-        };
-        case + 256 * number as u64 + 65536 * place as u64
-    }
-
-    /// A word in words.
-    pub fn told(word: u64) -> String {
-        let (case, number, place) = (word % 256, word / 256 % 256, word / 65536);
-        match case {
-            0 => format!("accepted (number {number}, place {place})"),
-            1 => format!("grade {number} (place {place})"),
-            2 => format!("plan refused {number} at {place}"),
-            3 => format!("certificate refused {number} at {place}"),
-            _ => format!("no answer: {word}"),
-        }
-    }
-}
 
 fn main() {
     let arguments: Vec<String> = std::env::args().skip(1).collect();
@@ -78,38 +30,48 @@ fn main() {
         ["certificates", count, seed] => certificates(number(count), number(seed)),
         ["sessions", count, seed, program] => sessions(number(count), number(seed), program),
         ["certify", count, seed] => certify::certify(number(count), number(seed)),
+        ["doubles", count, seed] => doubles::doubles(number(count), number(seed)),
+        ["known", file, program] => known_answers(file, program),
         _ => {
-            eprintln!("compare plans COUNT SEED | certificates COUNT SEED | sessions COUNT SEED PROGRAM | certify COUNT SEED");
+            eprintln!("compare plans|certificates|certify|doubles COUNT SEED, sessions COUNT SEED PROGRAM, known FILE PROGRAM");
             false
         }
     };
     exit(if right { 0 } else { 1 });
 }
 
-/// What was seen in a run: how often each outcome, and how many cases differ.
+/// What was seen in a run: how often each outcome, and how often of these beside a plan record with doubles; what the plans with
+/// doubles are examples of; and how many cases differ.
 struct Tally {
-    outcomes: BTreeMap<(&'static str, u8), u64>,
+    outcomes: BTreeMap<(&'static str, u8), [u64; 2]>,
+    shapes: BTreeMap<&'static str, u64>,
     differ: u64,
 }
 
 impl Tally {
     fn new(seed: u64) -> Tally {
         println!("seed {seed}");
-        Tally { outcomes: BTreeMap::new(), differ: 0 }
+        Tally { outcomes: BTreeMap::new(), shapes: BTreeMap::new(), differ: 0 }
     }
 
-    fn count(&mut self, answer: Answer) {
+    fn count(&mut self, answer: Answer, plan: &[u8]) {
         let key = match answer {
             Answer::Accepted => ("accepted", 0),
             Answer::Grade(grade) => ("grade", grade),
             Answer::PlanFault(number, _) => ("plan refused", number),
             Answer::CertificateFault(number, _) => ("certificate refused", number),
         };
-        self.see(key);
+        self.see(key, plan);
     }
 
-    fn see(&mut self, outcome: (&'static str, u8)) {
-        *self.outcomes.entry(outcome).or_default() += 1;
+    fn see(&mut self, outcome: (&'static str, u8), plan: &[u8]) {
+        let [all, with_doubles] = self.outcomes.entry(outcome).or_default();
+        *all += 1;
+        *with_doubles += has_double(plan) as u64;
+    }
+
+    fn see_shapes(&mut self, plan: &Plan) {
+        shapes(plan).into_iter().for_each(|shape| *self.shapes.entry(shape).or_default() += 1);
     }
 
     /// The first case that differs is printed whole, in decimal.
@@ -121,16 +83,25 @@ impl Tally {
         }
     }
 
-    /// Prints the counts; right if nothing differs and every outcome that is due was seen.
+    /// Prints the counts; right if nothing differs and every outcome that is due was seen, with doubles too.
     fn close(self, count: u64, due: Vec<(&'static str, u8)>) -> bool {
-        for ((name, number), count) in &self.outcomes {
-            println!("  {}: {count}", outcome(name, *number));
+        for ((name, number), [all, with_doubles]) in &self.outcomes {
+            println!("  {}: {all}, {with_doubles} with doubles", outcome(name, *number));
         }
-        let missing: Vec<_> = due.into_iter().filter(|key| !self.outcomes.contains_key(key)).collect();
-        missing.iter().for_each(|(name, number)| println!("never seen: {}", outcome(name, *number)));
+        self.shapes.iter().for_each(|(name, count)| println!("  {name}: {count}"));
+        let seen = |key: &(&str, u8)| self.outcomes.get(key).is_some_and(|&[_, with_doubles]| with_doubles > 0);
+        let missing: Vec<_> = due.into_iter().filter(|key| !seen(key)).collect();
+        missing.iter().for_each(|(name, number)| println!("never seen with doubles: {}", outcome(name, *number)));
         println!("{count} compared, {} differ", self.differ);
-        self.differ == 0 && missing.is_empty()
+        self.differ == 0 && missing.is_empty() && self.shapes.len() == generate::SHAPES
     }
+}
+
+/// Whether two equal edges follow one another in a plan record, whatever else is wrong with it.
+fn has_double(record: &[u8]) -> bool {
+    let after = |at: usize| at + if record.get(at).is_some_and(|&byte| byte >= 128) { 2 } else { 1 };
+    let edges = record.get(after(after(0))..).unwrap_or(&[]);
+    edges.chunks_exact(2).zip(edges.chunks_exact(2).skip(1)).any(|(edge, next)| edge == next)
 }
 
 /// An outcome in words; only grades and refusals have a number.
@@ -146,6 +117,8 @@ fn decimal(bytes: &[u8]) -> String {
     bytes.iter().map(u8::to_string).collect::<Vec<_>>().join(" ")
 }
 
+// ---------------------------------------------------------------- plans and certificates
+
 /// Longer than any plan record.
 const ROOM: usize = 1200;
 
@@ -155,30 +128,19 @@ fn plans(count: u64, seed: u64) -> bool {
     let mut random = Random::new(!seed);
     for _ in 0..count {
         let record = generator.plan_record();
-        let expected = match reference::read_plan(&record) {
-            Ok(_) => Answer::Accepted,
-            Err((number, place)) => Answer::PlanFault(number, place),
-        };
-        tally.count(expected);
+        let read = reference::read_plan(&record);
+        if let Ok(plan) = &read {
+            tally.see_shapes(plan);
+        }
+        let expected = answer(&read);
+        tally.count(expected, &record);
         // Mostly room to spare; also just enough, and one byte too little.
-        let length = match random.below(8) {
+        let size = match random.below(8) {
             0 => record.len(),
             1 => record.len().saturating_sub(1),
             _ => ROOM.max(record.len()),
         };
-        let fill = random.next() as u8;
-        let mut out = vec![fill; length];
-        let mut written = vec![fill; length];
-        if expected == Answer::Accepted && record.len() <= length {
-            written[..record.len()].copy_from_slice(&record);
-        }
-        let given = library::plan(&record, &mut out);
-        if given != library::word(expected) {
-            let what = format!("expected {expected:?}, the library gave {}", library::told(given));
-            tally.differs(&[("plan", &record)], what);
-        } else if out != written {
-            let at = (0..length).find(|&i| out[i] != written[i]).unwrap_or(0);
-            let what = format!("a buffer of {length} bytes of {fill}: byte {at} is {}, expected {}", out[at], written[at]);
+        if let Some(what) = written_again(&record, &read, size, &mut random) {
             tally.differs(&[("plan", &record)], what);
         }
     }
@@ -186,13 +148,41 @@ fn plans(count: u64, seed: u64) -> bool {
     tally.close(count, due.collect())
 }
 
+fn answer(read: &Result<Plan, reference::Fault>) -> Answer {
+    match *read {
+        Ok(_) => Answer::Accepted,
+        Err((number, place)) => Answer::PlanFault(number, place),
+    }
+}
+
+/// What is wrong with the library's reading of a plan record, or with what it writes again into a buffer of so many bytes.
+fn written_again(record: &[u8], read: &Result<Plan, reference::Fault>, size: usize, random: &mut Random) -> Option<String> {
+    let expected = answer(read);
+    let mut out = Lent::new(size, random);
+    let given = library::plan(record, out.buffer());
+    if given != library::word(expected) {
+        return Some(format!("expected {expected:?}, the library gave {}", library::told(given)));
+    }
+    let due = match read {
+        Ok(plan) => Some(reference::encode_plan(plan)).filter(|due| due.len() <= size).unwrap_or_default(),
+        Err(_) => Vec::new(),
+    };
+    if !record.starts_with(&due) || out.written(due.len()) != due {
+        return Some(format!("a buffer of {size} bytes: written again as {}", decimal(out.written(record.len()))));
+    }
+    out.touched(due.len())
+}
+
 fn certificates(count: u64, seed: u64) -> bool {
     let mut tally = Tally::new(seed);
     let mut generator = Generator::new(seed);
     for _ in 0..count {
         let (plan, certificate) = generator.case();
+        if let Ok(plan) = reference::read_plan(&plan) {
+            tally.see_shapes(&plan);
+        }
         let expected = reference::check(&plan, &certificate);
-        tally.count(expected);
+        tally.count(expected, &plan);
         let given = library::check(&plan, &certificate);
         if given != library::word(expected) {
             let what = format!("expected {expected:?}, the library gave {}", library::told(given));
@@ -209,6 +199,7 @@ fn certificates(count: u64, seed: u64) -> bool {
 
 const MOST_SCRIPT: usize = 65536;
 const CUT: &str = "script cut short";
+const UNKNOWN: &str = "unknown call";
 const TOO_LONG: &str = "input too long";
 
 fn sessions(count: u64, seed: u64, program: &str) -> bool {
@@ -216,97 +207,82 @@ fn sessions(count: u64, seed: u64, program: &str) -> bool {
     let mut generator = Generator::new(seed);
     let mut random = Random::new(!seed);
     for _ in 0..count {
-        let script = encode_script(&generator.script(), &mut random);
-        let expected = script_lines(&script, &mut tally);
-        let printed = output(program, &script);
+        let script = generator.script();
+        let bytes = encode_script(&script, &mut random);
+        if let Ok(plan) = reference::read_plan(&script.plan) {
+            tally.see_shapes(&plan);
+        }
+        let (answers, end) = reference::replay(&bytes);
+        let expected = lines(&bytes, &answers, end, &script.plan, &mut tally);
+        let printed = output(program, &bytes);
         if printed != expected {
             let same = printed.lines().zip(expected.lines()).take_while(|(a, b)| a == b).count();
             let line = |text: &str| text.lines().nth(same).unwrap_or("nothing").to_string();
             let what = format!("line {}: expected {}, the program printed {}", same + 1, line(&expected), line(&printed));
-            tally.differs(&[("script", &script)], what);
+            tally.differs(&[("script", &bytes)], what);
+        }
+        if let Some(what) = replayed(&bytes, &answers, end, &mut random) {
+            tally.differs(&[("script", &bytes)], what);
         }
     }
-    let mut due = vec![("accepted", 0), ("grade", 3), (CUT, 0), (TOO_LONG, 0)];
+    let mut due = vec![("accepted", 0), ("grade", 3), (CUT, 0), (UNKNOWN, 0), (TOO_LONG, 0)];
     due.extend((1..8).chain([29]).map(|number| ("plan refused", number)));
     due.extend([1, 2, 9, 20].into_iter().chain(24..29).chain([31]).map(|number| ("certificate refused", number)));
     tally.close(count, due)
 }
 
-/// The plan record, then each call as its letter and its part; before a record or part its length, two bytes, the lower first.
-/// Some scripts are cut. Of those that would be too long, most end with the last call that fits.
+/// Some scripts are cut, some have a call that there is not. Of those that would be too long, most end with the last call that fits.
 fn encode_script(script: &Script, random: &mut Random) -> Vec<u8> {
-    let counted = |part: &[u8]| [&(part.len() as u16).to_le_bytes()[..], part].concat();
-    let too_long = random.chance(30);
-    let mut bytes = counted(&script.plan);
-    for call in &script.calls {
-        let call = match call {
-            Call::Start(part) => [vec![b's'], counted(part)].concat(),
-            Call::Path(part) => [vec![b'p'], counted(part)].concat(),
-            Call::Close => vec![b'c'],
-        };
-        if bytes.len() + call.len() > MOST_SCRIPT && !too_long {
-            break;
-        }
-        bytes.extend(call);
-    }
-    if random.chance(3) {
-        bytes.truncate(random.below(bytes.len()));
+    let most = if random.chance(30) { usize::MAX } else { MOST_SCRIPT };
+    let mut bytes = script.encode(most);
+    match random.below(40) {
+        0 => bytes.truncate(random.below(bytes.len())),
+        1 if bytes.len() + 3 <= MOST_SCRIPT => bytes.extend([*random.pick(b"bxSPC\0"), b'c', b'c']),
+        _ => {}
     }
     bytes
 }
 
 /// What the session program is to print: a line for each call, the opening first.
-fn script_lines(script: &[u8], tally: &mut Tally) -> String {
+fn lines(script: &[u8], answers: &[(Answer, Option<usize>)], end: End, plan: &[u8], tally: &mut Tally) -> String {
     if script.len() > MOST_SCRIPT {
-        tally.see((TOO_LONG, 0));
+        tally.see((TOO_LONG, 0), plan);
         return format!("{TOO_LONG}\n");
     }
-    let (answers, cut) = script_answers(script);
     let mut lines = String::new();
-    for (answer, unread) in answers {
-        tally.count(answer);
-        lines += &match (answer, unread) {
-            (Answer::Accepted, None) => "accepted\n".to_string(),
-            (Answer::Accepted, Some(unread)) => format!("accepted {unread}\n"),
-            (Answer::Grade(grade), _) => format!("grade {grade}\n"),
-            (Answer::PlanFault(number, place), _) => format!("plan refused {number} at {place}\n"),
-            (Answer::CertificateFault(number, place), _) => format!("certificate refused {number} at {place}\n"),
-        };
+    for &(answer, unread) in answers {
+        tally.count(answer, plan);
+        let left = unread.filter(|_| answer == Answer::Accepted).map_or(String::new(), |unread| format!(" {unread}"));
+        lines += &format!("{}{left}\n", library::told(library::word(answer)));
     }
-    if cut {
-        tally.see((CUT, 0));
-        lines += &format!("{CUT}\n");
-    }
-    lines
+    let last = match end {
+        End::Replayed => return lines,
+        End::Cut => CUT,
+        End::UnknownCall => UNKNOWN,
+    };
+    tally.see((last, 0), plan);
+    lines + last + "\n"
 }
 
-/// The reference's answer to each call, a start's or path's with the number of unread bytes; and whether the script is cut short.
-fn script_answers(script: &[u8]) -> (Vec<(Answer, Option<usize>)>, bool) {
-    let mut rest = script;
-    let Some(plan) = next_part(&mut rest) else { return (Vec::new(), true) };
-    let (opened, mut session) = reference::open(plan);
-    let mut answers = vec![(opened, None)];
-    while let Some((&call, after)) = rest.split_first() {
-        rest = after;
-        let (answer, unread);
-        if call == b'c' {
-            (answer, session) = session.close();
-            answers.push((answer, None));
-            continue;
-        }
-        let Some(part) = next_part(&mut rest) else { return (answers, true) };
-        (answer, session, unread) = if call == b's' { session.start(part) } else { session.path(part) };
-        answers.push((answer, Some(unread)));
+/// What is wrong with the library's replay, in a buffer that has room for all answers or, one time in four, perhaps not.
+fn replayed(script: &[u8], answers: &[(Answer, Option<usize>)], end: End, random: &mut Random) -> Option<String> {
+    let size = match random.below(4) {
+        0 => random.below(8 * answers.len() + 8),
+        1 => 8 * answers.len(),
+        _ => 8 * answers.len() + random.below(64),
+    };
+    let made = answers.len().min(size / 8);
+    let expected = if made < answers.len() { 3 } else { end as u64 };
+    let words: Vec<u8> = answers[..made].iter().flat_map(|&(answer, _)| library::word(answer).to_le_bytes()).collect();
+    let mut out = Lent::new(size, random);
+    let given = library::session(script, out.buffer());
+    if given != (expected, made) {
+        return Some(format!("a buffer of {size} bytes: end {expected} after {made} answers, the library gave {given:?}"));
     }
-    (answers, false)
-}
-
-/// Takes a length and as many bytes off the front, if they are there.
-fn next_part<'a>(rest: &mut &'a [u8]) -> Option<&'a [u8]> {
-    let (length, after) = rest.split_first_chunk::<2>()?;
-    let (part, after) = after.split_at_checked(u16::from_le_bytes(*length) as usize)?;
-    *rest = after;
-    Some(part)
+    if out.written(words.len()) != words {
+        return Some(format!("a buffer of {size} bytes: {answers:?}, the library gave {:?}", out.written(words.len())));
+    }
+    out.touched(words.len())
 }
 
 /// What the program prints for an input.
@@ -316,4 +292,43 @@ fn output(program: &str, input: &[u8]) -> String {
     let _ = child.stdin.take().expect("a pipe").write_all(input);
     let output = child.wait_with_output().expect("its output");
     String::from_utf8_lossy(&output.stdout).into_owned()
+}
+
+// ---------------------------------------------------------------- known answers
+
+/// The library's answers, or the checking program's; what else is wrong with a call stands in the answer's place.
+fn known_answers(file: &str, program: &str) -> bool {
+    let mut random = Random::new(1);
+    known::compare(file, |call, inputs| match (call, inputs) {
+        ("plan", [plan]) => known_plan(plan, &mut random),
+        ("check", [plan, certificate]) => library::told(library::check(plan, certificate)),
+        ("certify", [plan]) => certify::known(plan, &mut random),
+        ("session", [script]) => known_session(script, &mut random),
+        ("program", [input]) => output(program, input).trim_end_matches('\n').to_string(),
+        _ => "no such call".to_string(),
+    })
+}
+
+/// An accepted record is written again byte for byte.
+fn known_plan(plan: &[u8], random: &mut Random) -> String {
+    let mut out = Lent::new(plan.len(), random);
+    let word = library::plan(plan, out.buffer());
+    let length = if word == library::word(Answer::Accepted) { plan.len() } else { 0 };
+    if out.written(length) != &plan[..length] {
+        return format!("written again as {}", decimal(out.written(length)));
+    }
+    out.touched(length).unwrap_or_else(|| library::told(word))
+}
+
+/// One answer a call, then how it ended, where that was not behind the last call.
+fn known_session(script: &[u8], random: &mut Random) -> String {
+    let mut out = Lent::new(8 * script.len(), random);
+    let (end, made) = library::session(script, out.buffer());
+    if let Some(wrong) = out.touched(8 * made) {
+        return wrong;
+    }
+    let words = out.written(8 * made).chunks_exact(8).map(|word| u64::from_le_bytes(word.try_into().expect("eight bytes")));
+    let mut told: Vec<String> = words.map(library::told).collect();
+    told.extend(["", "cut", "unknown call", "no room"].get(end as usize).filter(|_| end > 0).map(|end| end.to_string()));
+    told.join("; ")
 }

@@ -1,4 +1,5 @@
-// Test cases from a seed: plans of many families, certificates good and bad, damaged records, scripts of session calls.
+// Test cases from a seed: plans of many families, one in three with doubles, certificates good and bad, damaged records, scripts of
+// session calls.
 use crate::reference::*;
 
 /// One call of a session, with the part handed in.
@@ -14,6 +15,27 @@ pub enum Call {
 pub struct Script {
     pub plan: Vec<u8>,
     pub calls: Vec<Call>,
+}
+
+impl Script {
+    /// The plan record, then the calls that fit into so many bytes, each its letter and its part; before a record or part its length,
+    /// two bytes, the lower first.
+    pub fn encode(&self, most: usize) -> Vec<u8> {
+        let counted = |part: &[u8]| [&(part.len() as u16).to_le_bytes()[..], part].concat();
+        let mut bytes = counted(&self.plan);
+        for call in &self.calls {
+            let call = match call {
+                Call::Start(part) => [vec![b's'], counted(part)].concat(),
+                Call::Path(part) => [vec![b'p'], counted(part)].concat(),
+                Call::Close => vec![b'c'],
+            };
+            if call.len() > most.saturating_sub(bytes.len()) {
+                break;
+            }
+            bytes.extend(call);
+        }
+        bytes
+    }
 }
 
 /// Several cases are drawn from one plan and its certificate before the next plan is made.
@@ -70,7 +92,8 @@ impl Generator {
             21..=28 => (plan, damaged_bytes(encode_items(&items), random)),
             29..=40 => (plan, damaged_numbers(&items.concat(), self.plan.n, random)),
             41..=42 => (plan, damaged_bytes(damaged_numbers(&items.concat(), self.plan.n, random), random)),
-            43..=62 => (plan, encode_items(&damaged_items(items, &self.plan, random))),
+            43..=60 => (plan, encode_items(&damaged_items(items, &self.plan, random))),
+            61..=62 => (plan, encode_items(&each_edge(items, &self.plan, random))),
             63..=72 => (plan, encode_certificate(&other_kind(&self.plan, random))),
             73..=78 => {
                 let other = other_kind(&self.plan, random);
@@ -91,11 +114,12 @@ impl Generator {
         self.turn();
         let random = &mut self.random;
         let (plan, items) = match (&self.certificate, random.below(10)) {
-            (Certificate::Build { .. }, 0..=6) => (self.plan.clone(), self.certificate.items()),
+            (Certificate::Build { .. }, 0..=5) => (self.plan.clone(), self.certificate.items()),
+            (Certificate::Build { .. }, 6) => (self.plan.clone(), each_edge(self.certificate.items(), &self.plan, random)),
             (Certificate::Build { .. }, 7..=8) => altered(&self.plan, &self.certificate, random),
             _ => (self.plan.clone(), build_attempt(&self.plan, random).items()),
         };
-        let record = if random.chance(5) { damaged_plan(&plan, random) } else { encode_plan(&plan) };
+        let record = if random.chance(8) { damaged_plan(&plan, random) } else { encode_plan(&plan) };
         Script { plan: record, calls: calls(&plan, &items, random) }
     }
 }
@@ -152,8 +176,17 @@ fn vertex_count(random: &mut Random) -> usize {
     }
 }
 
-/// A plan of one of the families, numbered at random, sometimes with a few edges changed.
+/// One plan in three has doubles.
 pub fn any_plan(random: &mut Random) -> Plan {
+    match random.below(24) {
+        0 => at_the_bound(random),
+        1..=7 => doubled(&simple_plan(random), random),
+        _ => simple_plan(random),
+    }
+}
+
+/// A plan of one of the families, numbered at random, sometimes with a few edges changed.
+fn simple_plan(random: &mut Random) -> Plan {
     let n = vertex_count(random);
     let (n, mut edges) = family(random.below(16), n, random);
     if random.chance(25) {
@@ -168,7 +201,7 @@ pub fn any_plan(random: &mut Random) -> Plan {
     numbered(n, &edges, random)
 }
 
-/// A plan with more than 6 vertices, one family after the other: 16 of `family` and four more.
+/// A plan with more than 6 vertices, one family after the other: 16 of `family` and four more. One in three has doubles.
 pub fn larger_plan(turn: usize, random: &mut Random) -> Plan {
     let n = match random.below(4) {
         0 => random.within(7, 16),
@@ -182,10 +215,15 @@ pub fn larger_plan(turn: usize, random: &mut Random) -> Plan {
         17..=19 => (n, two_pieces(n, turn % 20 - 17, random)),
         which => family(which, n, random),
     };
-    numbered(n, &edges, random)
+    let plan = numbered(n, &edges, random);
+    if random.below(3) == 0 {
+        doubled(&plan, random)
+    } else {
+        plan
+    }
 }
 
-/// The plan, mostly numbered at random; edges beyond the limit are left out.
+/// The plan, mostly numbered at random, each edge once; edges beyond the limit are left out.
 fn numbered(n: usize, edges: &[(usize, usize)], random: &mut Random) -> Plan {
     let mut labels: Vec<usize> = (0..n).collect();
     if random.chance(80) {
@@ -196,6 +234,70 @@ fn numbered(n: usize, edges: &[(usize, usize)], random: &mut Random) -> Plan {
         plan.edges.remove(random.below(plan.edges.len()));
     }
     plan
+}
+
+/// The plan with at least one double and no more edges than there may be. A plan that has no edge, or no room, has one more or fewer.
+pub fn doubled(plan: &Plan, random: &mut Random) -> Plan {
+    let mut edges = plan.edges.clone();
+    if edges.is_empty() {
+        edges.push(random_edge(plan.n, random));
+    }
+    if edges.len() == MOST_EDGES {
+        edges.remove(random.below(MOST_EDGES));
+    }
+    let (room, last) = (MOST_EDGES - edges.len(), edges.len() - 1);
+    let any = random.below(edges.len());
+    let again: Vec<usize> = match random.below(8) {
+        0 => vec![any],
+        1 => vec![0],
+        2 => vec![last],
+        3 => vec![0, last],
+        // Triples, and more.
+        4 => vec![any; random.within(2, 5)],
+        5 => (0..=last).filter(|&i| i == any || random.chance(40)).collect(),
+        6 => (0..=last).collect(),
+        // As many as there may be.
+        _ => (0..room).map(|_| random.below(edges.len())).collect(),
+    };
+    let again: Vec<(usize, usize)> = again.into_iter().take(room).map(|i| edges[i]).collect();
+    Plan::with_doubles(plan.n, edges.into_iter().chain(again))
+}
+
+/// With doubles n+2 edges or more, but n+1 or n+2 pairs: four vertices with every edge, the others put inside edges, at times one edge
+/// fewer.
+fn at_the_bound(random: &mut Random) -> Plan {
+    let n = vertex_count(random);
+    let mut edges = complete(4);
+    for v in 4..n {
+        let (a, b) = edges.swap_remove(random.below(edges.len()));
+        edges.extend([(a, v), (v, b)]);
+    }
+    if random.chance(50) {
+        edges.swap_remove(random.below(edges.len()));
+    }
+    doubled(&numbered(n, &edges, random), random)
+}
+
+/// How many names `shapes` has.
+pub const SHAPES: usize = 7;
+
+/// What a plan with doubles is an example of.
+pub fn shapes(plan: &Plan) -> Vec<&'static str> {
+    let times: Vec<usize> = plan.edges.chunk_by(|a, b| a == b).map(|same| same.len()).collect();
+    let (n, m, d) = (plan.n, plan.edges.len(), times.len());
+    if m == d {
+        return Vec::new();
+    }
+    let shapes: [(&str, bool); SHAPES] = [
+        ("first edge doubled", times[0] > 1),
+        ("last edge doubled", times[d - 1] > 1),
+        ("an edge three times or more", times.iter().any(|&times| times > 2)),
+        ("every edge doubled", times.iter().all(|&times| times > 1)),
+        ("512 edges, fewer pairs", m == MOST_EDGES),
+        ("n+1 pairs, more edges", d == n + 1),
+        ("n+2 pairs, more edges", d == n + 2),
+    ];
+    shapes.into_iter().filter(|(_, holds)| *holds).map(|(name, _)| name).collect()
 }
 
 /// How many plans on 4, 5, 6 and 7 vertices have the figures 0, 1, 2 and 3.
@@ -418,8 +520,9 @@ fn damaged_plan(plan: &Plan, random: &mut Random) -> Vec<u8> {
             edges.swap(i, j);
         }
         9 if !edges.is_empty() => {
-            let at = random.below(edges.len());
-            edges.insert(at, edges[at]);
+            // Once more, mostly where it does not belong.
+            let (from, to) = (random.below(edges.len()), random.below(edges.len() + 1));
+            edges.insert(to, edges[from]);
         }
         10 if !edges.is_empty() => {
             let at = random.below(edges.len());
@@ -429,6 +532,10 @@ fn damaged_plan(plan: &Plan, random: &mut Random) -> Vec<u8> {
             // At the limit or a few edges above it, all of them in order.
             let many = random.within(MOST_EDGES, MOST_EDGES + 8);
             let mut edges = complete(128)[..many].to_vec();
+            if random.chance(50) {
+                // The same with doubles.
+                (0..many).for_each(|i| edges[i] = edges[random.below(i + 1)]);
+            }
             edges.sort();
             return encode_edges(128, &edges);
         }
@@ -511,6 +618,19 @@ fn damaged_items(mut items: Vec<Vec<usize>>, plan: &Plan, random: &mut Random) -
             let place = random.below(items[at].len());
             items[at][place] = random.below(plan.n);
         }
+    }
+    items
+}
+
+/// Kind 3 as if each edge counted: a path for every edge that is there again, in the midst of the further paths or behind them.
+fn each_edge(mut items: Vec<Vec<usize>>, plan: &Plan, random: &mut Random) -> Vec<Vec<usize>> {
+    if items[0] != [3] {
+        return items;
+    }
+    let behind = random.chance(50);
+    for edges in plan.edges.windows(2).filter(|edges| edges[0] == edges[1]) {
+        let at = if behind { items.len() } else { random.within(8, items.len()) };
+        items.insert(at, vec![2, edges[0].0, edges[0].1]);
     }
     items
 }
@@ -689,35 +809,23 @@ fn build_attempt(plan: &Plan, random: &mut Random) -> Certificate {
 
 // ---------------------------------------------------------------- plans altered under a certificate
 
-/// The plan with one edge or vertex more or fewer, and its old certificate, at times fitted to the change.
+/// The plan with one edge or vertex more or fewer, or with other doubles, and its old certificate, at times fitted to the change.
 fn altered(plan: &Plan, certificate: &Certificate, random: &mut Random) -> (Plan, Vec<Vec<usize>>) {
     let mut items = certificate.items();
     let mut plan = plan.clone();
     let room = plan.n < MOST_VERTICES && plan.edges.len() < MOST_EDGES;
-    match random.below(7) {
+    match random.below(9) {
         0 if !plan.edges.is_empty() => drop(plan.edges.remove(random.below(plan.edges.len()))),
         1 if room => {
             let edge = random_edge(plan.n, random);
-            plan = Plan::new(plan.n, plan.edges.iter().copied().chain([edge]));
+            plan = Plan::with_doubles(plan.n, plan.edges.iter().copied().chain([edge]));
         }
-        2 | 3 if room && !plan.edges.is_empty() => {
-            // A new vertex in the middle of an edge, in the plan and in every path over it.
-            let (a, b) = plan.edges.remove(random.below(plan.edges.len()));
-            let new = plan.n;
-            plan = Plan::new(new + 1, plan.edges.iter().copied().chain([(a, new), (b, new)]));
-            for item in items.iter_mut().skip(2).filter(|item| item.len() > 2) {
-                let over = (1..item.len() - 1).find(|&i| (item[i], item[i + 1]) == (a, b) || (item[i + 1], item[i]) == (a, b));
-                if let Some(i) = over {
-                    item.insert(i + 1, new);
-                    item[0] += 1;
-                }
-            }
-        }
+        2 | 3 if room && !plan.edges.is_empty() => plan = subdivided(&plan, &mut items, random),
         4 if room => {
             // A new vertex with one edge.
             let new = plan.n;
             let edge = (random.below(new), new);
-            plan = Plan::new(new + 1, plan.edges.iter().copied().chain([edge]));
+            plan = Plan::with_doubles(new + 1, plan.edges.iter().copied().chain([edge]));
         }
         5 if plan.n < MOST_VERTICES => {
             // A new vertex without an edge: one path fewer.
@@ -726,19 +834,29 @@ fn altered(plan: &Plan, certificate: &Certificate, random: &mut Random) -> (Plan
                 items.pop();
             }
         }
+        6 => plan = plan.simple(),
+        7 if room && !plan.edges.is_empty() => plan = doubled(&plan, random),
         _ => {
+            // Two vertices that change places.
             let (a, b) = random_edge(plan.n, random);
-            let swap = |v: usize| {
-                if v == a {
-                    b
-                } else if v == b {
-                    a
-                } else {
-                    v
-                }
-            };
-            plan = Plan::new(plan.n, plan.edges.iter().map(|&(c, d)| (swap(c), swap(d))));
+            let swap = |v: usize| if v == a || v == b { a + b - v } else { v };
+            plan = Plan::with_doubles(plan.n, plan.edges.iter().map(|&(c, d)| (swap(c), swap(d))));
         }
     }
     (plan, items)
+}
+
+/// A new vertex in the middle of an edge, in the plan and in every path over it.
+fn subdivided(plan: &Plan, items: &mut [Vec<usize>], random: &mut Random) -> Plan {
+    let mut edges = plan.edges.clone();
+    let (a, b) = edges.remove(random.below(edges.len()));
+    let new = plan.n;
+    for item in items.iter_mut().skip(2).filter(|item| item.len() > 2) {
+        let over = (1..item.len() - 1).find(|&i| (item[i], item[i + 1]) == (a, b) || (item[i + 1], item[i]) == (a, b));
+        if let Some(i) = over {
+            item.insert(i + 1, new);
+            item[0] += 1;
+        }
+    }
+    Plan::with_doubles(new + 1, edges.into_iter().chain([(a, new), (b, new)]))
 }

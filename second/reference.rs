@@ -1,4 +1,5 @@
-// The second implementation: plans, certificates, building sessions and a certifier, written from document 01 alone.
+// The second implementation: plans, certificates, building sessions and a certifier, written from document 01 and request 1 of
+// document 02 alone.
 // A box is a vertex here, a cable an edge, a lost box a removed vertex, a further path a BG-path.
 // Nothing is tuned: sets are vectors, and each test stands beside the sentence that asks for it.
 
@@ -22,35 +23,53 @@ pub const MOST_INPUT: usize = 4096;
 #[derive(Debug, PartialEq, Eq, Clone)]
 pub struct Plan {
     pub n: usize,
-    /// Each edge as (lower, higher), strictly ascending.
+    /// Each edge as (lower, higher), ascending. Request 1: "A cable equal to its predecessor is to be allowed."
     pub edges: Vec<(usize, usize)>,
 }
 
 impl Plan {
-    /// A plan from edges in any order, either end first, repeats allowed.
+    /// A plan from edges in any order, either end first, each of them once.
     pub fn new(n: usize, edges: impl IntoIterator<Item = (usize, usize)>) -> Plan {
+        Plan::with_doubles(n, edges).simple()
+    }
+
+    /// A plan from edges in any order, either end first; one that comes again is a double.
+    pub fn with_doubles(n: usize, edges: impl IntoIterator<Item = (usize, usize)>) -> Plan {
         let mut edges: Vec<_> = edges.into_iter().map(|(a, b)| (a.min(b), a.max(b))).collect();
         edges.sort();
-        edges.dedup();
         Plan { n, edges }
+    }
+
+    /// "Different pairs of boxes with at least one cable between them."
+    pub fn pairs(&self) -> Vec<(usize, usize)> {
+        let mut pairs = self.edges.clone();
+        pairs.dedup();
+        pairs
+    }
+
+    /// The plan with each double written once.
+    pub fn simple(&self) -> Plan {
+        Plan { n: self.n, edges: self.pairs() }
     }
 
     pub fn adjacent(&self, a: usize, b: usize) -> bool {
         self.edges.binary_search(&(a.min(b), a.max(b))).is_ok()
     }
 
+    /// The vertices that each vertex is joined to, each once.
     pub fn neighbours(&self) -> Vec<Vec<usize>> {
         let mut lists = vec![Vec::new(); self.n];
-        for &(a, b) in &self.edges {
+        for (a, b) in self.pairs() {
             lists[a].push(b);
             lists[b].push(a);
         }
         lists
     }
 
-    /// "exactly m-n-2 further paths"; none where m is below n+2 (29).
+    /// "Exactly m-n-2 further paths"; none where m is below n+2 (29). Request 1: "wherever 01 counts cables in the rules of kind 3,
+    /// in the session and in the test against n+2, m becomes the number of cabled pairs".
     pub fn further_paths(&self) -> Option<usize> {
-        self.edges.len().checked_sub(self.n + 2)
+        self.pairs().len().checked_sub(self.n + 2)
     }
 }
 
@@ -139,7 +158,8 @@ fn plan_from(reader: &mut Reader) -> Result<Plan, Fault> {
         if lower >= higher || higher >= n {
             return Err((5, place));
         }
-        if edges.last().is_some_and(|&before| (lower, higher) <= before) {
+        // Request 1: 6 "is from now on given only to a cable that comes before its predecessor".
+        if edges.last().is_some_and(|&before| (lower, higher) < before) {
             return Err((6, place));
         }
         edges.push((lower, higher));
@@ -509,6 +529,49 @@ impl Session {
     }
 }
 
+// ---------------------------------------------------------------- scripts of session calls
+
+/// How the replay of a script ended: every call was made; it ends inside the next one; the next one is none of s, p, c.
+#[derive(Debug, PartialEq, Eq, Clone, Copy)]
+pub enum End {
+    Replayed,
+    Cut,
+    UnknownCall,
+}
+
+/// Replays a script as include/fikzarn.h lays it out: a plan record, then calls. The answer to each call, the opening first, a
+/// start's or path's with the number of unread bytes; and how it ended.
+pub fn replay(script: &[u8]) -> (Vec<(Answer, Option<usize>)>, End) {
+    let mut rest = script;
+    let Some(plan) = next_part(&mut rest) else { return (Vec::new(), End::Cut) };
+    let (opened, mut session) = open(plan);
+    let mut answers = vec![(opened, None)];
+    while let Some((&call, after)) = rest.split_first() {
+        rest = after;
+        let (answer, unread);
+        match call {
+            b'c' => ((answer, session), unread) = (session.close(), None),
+            b's' | b'p' => {
+                let Some(part) = next_part(&mut rest) else { return (answers, End::Cut) };
+                let left;
+                (answer, session, left) = if call == b's' { session.start(part) } else { session.path(part) };
+                unread = Some(left);
+            }
+            _ => return (answers, End::UnknownCall),
+        }
+        answers.push((answer, unread));
+    }
+    (answers, End::Replayed)
+}
+
+/// Takes a length, two bytes, the lower first, and as many bytes off the front, if they are there.
+pub fn next_part<'a>(rest: &mut &'a [u8]) -> Option<&'a [u8]> {
+    let (length, after) = rest.split_first_chunk::<2>()?;
+    let (part, after) = after.split_at_checked(u16::from_le_bytes(*length) as usize)?;
+    *rest = after;
+    Some(part)
+}
+
 // ---------------------------------------------------------------- the checking program
 
 /// The line that the checking program prints, without its newline.
@@ -521,6 +584,7 @@ pub fn program_line(input: &[u8]) -> String {
         Ok(read) => read,
     };
     match check_beside(&plan, &input[end..]) {
+        // Request 1: "The program still prints all cables."
         Answer::Grade(grade) => format!("boxes {} cables {} grade {}", plan.n, plan.edges.len(), grade),
         Answer::CertificateFault(number, place) => format!("certificate refused {number} at {place}"),
         other => unreachable!("{other:?}"),
@@ -943,7 +1007,7 @@ fn build(plan: &Plan, random: &mut Random) -> Result<Whole, (usize, usize)> {
         } else {
             // Only edges are left.
             let mut unused: Vec<(usize, usize)> =
-                plan.edges.iter().copied().filter(|&(a, b)| !build.one_link_holds(a, b)).collect();
+                plan.pairs().into_iter().filter(|&(a, b)| !build.one_link_holds(a, b)).collect();
             random.shuffle(&mut unused);
             paths.extend(unused.into_iter().map(|(a, b)| if random.chance(50) { vec![a, b] } else { vec![b, a] }));
             return Ok((four, paths));

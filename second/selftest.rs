@@ -1,14 +1,17 @@
 // Tries the second implementation: recorded answers, figures for small plans, generated cases.
 //   selftest vectors PROGRAM SESSIONS   recorded answers of the checking program and of sessions
-//   selftest barns                      the cases that document 01 names
+//   selftest known FILE                 known answers, a call a line
+//   selftest barns                      the cases that document 01 names, as request 1 leaves them, and some with doubles
 //   selftest figures [7]                every plan on 4, 5 and 6 vertices (or 7): certify, check and connectivity agree
 //   selftest certify COUNT SEED         the same for plans of every family, certificates chosen at random
 //   selftest outcomes COUNT SEED        generated cases; every refusal and every grade must occur
 #![allow(dead_code)]
 mod generate;
+mod known;
 mod reference;
 
 use generate::{any_plan, every_plan, Call, Generator, Script, FIGURES};
+use known::bytes_of;
 use reference::*;
 use std::collections::BTreeMap;
 use std::process::exit;
@@ -19,13 +22,14 @@ fn main() {
     let number = |word: &str| word.parse::<u64>().expect("a number");
     let right = match words[..] {
         ["vectors", program, sessions] => program_vectors(program) & session_vectors(sessions),
+        ["known", file] => known::compare(file, known_answer),
         ["barns"] => barns(),
         ["figures"] => figures(6),
         ["figures", "7"] => figures(7),
         ["certify", count, seed] => certify_all(number(count), number(seed)),
         ["outcomes", count, seed] => outcomes(number(count), number(seed)),
         _ => {
-            eprintln!("selftest vectors PROGRAM SESSIONS | barns | figures [7] | certify COUNT SEED | outcomes COUNT SEED");
+            eprintln!("selftest vectors PROGRAM SESSIONS, known FILE, barns, figures [7], or certify|outcomes COUNT SEED");
             false
         }
     };
@@ -33,18 +37,6 @@ fn main() {
 }
 
 // ---------------------------------------------------------------- recorded answers
-
-/// Hex in pieces apart by blanks; `-` is no byte, `00*4092` is that byte 4092 times.
-fn bytes_of(text: &str) -> Vec<u8> {
-    let mut bytes = Vec::new();
-    for piece in text.split_whitespace().filter(|&piece| piece != "-") {
-        let (hex, times) = piece.split_once('*').unwrap_or((piece, "1"));
-        let byte = |i: usize| u8::from_str_radix(&hex[2 * i..2 * i + 2], 16).expect("hex");
-        let part: Vec<u8> = (0..hex.len() / 2).map(byte).collect();
-        bytes.extend(part.repeat(times.parse().expect("a count")));
-    }
-    bytes
-}
 
 /// Each line: standard input in hex, a tab, the printed line.
 fn program_vectors(file: &str) -> bool {
@@ -108,6 +100,48 @@ fn session_line(answer: Answer, unread: Option<usize>) -> String {
     }
 }
 
+/// The answer to a call as the programs print it. A made certificate counts by its grade, if the checker gives it.
+fn known_answer(call: &str, inputs: &[Vec<u8>]) -> String {
+    match (call, inputs) {
+        ("plan", [plan]) => match read_plan(plan) {
+            Ok(read) if encode_plan(&read) == *plan => "accepted".to_string(),
+            Ok(_) => "written otherwise".to_string(),
+            Err((number, place)) => told(Answer::PlanFault(number, place)),
+        },
+        ("check", [plan, certificate]) => told(check(plan, certificate)),
+        ("certify", [plan]) => match read_plan(plan) {
+            Ok(read) => Some(check(plan, &certify(&read)))
+                .filter(|&answer| answer == Answer::Grade(connectivity(&read)))
+                .map_or("another grade".to_string(), told),
+            Err((number, place)) => told(Answer::PlanFault(number, place)),
+        },
+        ("session", [script]) => known_session(script),
+        ("program", [input]) => program_line(input),
+        _ => "no such call".to_string(),
+    }
+}
+
+/// One answer a call, then how it ended, where that was not behind the last call.
+fn known_session(script: &[u8]) -> String {
+    let (answers, end) = replay(script);
+    let mut words: Vec<String> = answers.into_iter().map(|(answer, _)| told(answer)).collect();
+    match end {
+        End::Replayed => {}
+        End::Cut => words.push("cut".to_string()),
+        End::UnknownCall => words.push("unknown call".to_string()),
+    }
+    words.join("; ")
+}
+
+fn told(answer: Answer) -> String {
+    match answer {
+        Answer::Accepted => "accepted".to_string(),
+        Answer::Grade(grade) => format!("grade {grade}"),
+        Answer::PlanFault(number, place) => format!("plan refused {number} at {place}"),
+        Answer::CertificateFault(number, place) => format!("certificate refused {number} at {place}"),
+    }
+}
+
 // ---------------------------------------------------------------- the cases of document 01
 
 fn numbers(words: &str) -> Vec<u8> {
@@ -115,9 +149,10 @@ fn numbers(words: &str) -> Vec<u8> {
 }
 
 fn barns() -> bool {
+    const A_BUILD: &str = "3 0 1 2 3 2 0 1 2 0 2 2 0 3 2 1 2 2 1 3 2 2 3";
     const FIVE: &str = "5 10 0 1 0 2 0 3 0 4 1 2 1 3 1 4 2 3 2 4 3 4";
     let cases = [
-        ("A", "4 6 0 1 0 2 0 3 1 2 1 3 2 3", "3 0 1 2 3 2 0 1 2 0 2 2 0 3 2 1 2 2 1 3 2 2 3", Answer::Grade(3)),
+        ("A", "4 6 0 1 0 2 0 3 1 2 1 3 2 3", A_BUILD, Answer::Grade(3)),
         ("B", "4 5 0 1 0 2 0 3 1 2 1 3", "2 0 1 2 3 0 1 2 3 0 3 1 1 2", Answer::Grade(2)),
         ("C", "4 5 0 1 0 2 0 3 1 2 1 3", "3", Answer::CertificateFault(29, 0)),
         ("D", "4 3 0 1 1 2 2 3", "1 1 0 1 0 2 1 3 2 1 0", Answer::Grade(1)),
@@ -144,8 +179,12 @@ fn barns() -> bool {
         ("plan", "132 0", "0 1 0", Answer::PlanFault(2, 0)),
         ("plan", "4 129 4", "0 1 0", Answer::PlanFault(4, 1)),
         ("plan", "4 1 1 1", "0 1 0", Answer::PlanFault(5, 2)),
-        ("plan", "4 2 0 1 0 1", "0 1 0", Answer::PlanFault(6, 4)),
+        ("plan", "4 2 0 1 0 1", "0 1 2", Answer::Grade(0)),
+        ("plan", "4 2 0 2 0 1", "0 1 2", Answer::PlanFault(6, 4)),
         ("plan", "4 0 0", "0 1 0", Answer::PlanFault(7, 2)),
+        ("A, first and last doubled", "4 8 0 1 0 1 0 2 0 3 1 2 1 3 2 3 2 3", A_BUILD, Answer::Grade(3)),
+        ("B, one doubled", "4 6 0 1 0 2 0 3 1 2 1 2 1 3", "2 0 1 2 3 0 1 2 3 0 3 1 1 2", Answer::Grade(2)),
+        ("C, one doubled", "4 6 0 1 0 2 0 3 1 2 1 2 1 3", "3", Answer::CertificateFault(29, 0)),
     ];
     let mut right = program_line(&[numbers(cases[0].1), numbers(cases[0].2)].concat()) == "boxes 4 cables 6 grade 3";
     for (name, plan, certificate, expected) in cases {
@@ -195,8 +234,8 @@ fn certify_all(count: u64, seed: u64) -> bool {
         let mut right = check(&encode_plan(&plan), &record) == Answer::Grade(figure);
         right &= plan.n > 40 || figure == connectivity(&plan);
         if let Certificate::Build { four, paths } = &certificate {
-            right &= each_edge_once(&plan, paths);
-            right &= certificate.items().concat().len() + 2 * plan.n == 3 * plan.edges.len() + 13;
+            right &= each_pair_once(&plan, paths);
+            right &= certificate.items().concat().len() + 2 * plan.n == 3 * plan.pairs().len() + 13;
             count_additions(plan.n, four, paths, &mut additions);
         }
         grades[figure as usize] += 1;
@@ -211,12 +250,12 @@ fn certify_all(count: u64, seed: u64) -> bool {
     additions.iter().all(|&count| count > 0) && grades.iter().all(|&count| count > 0)
 }
 
-/// "Every cable is then used just once."
-fn each_edge_once(plan: &Plan, paths: &[Vec<usize>]) -> bool {
+/// "What a finished build of kind 3 uses just once is then each cabled pair."
+fn each_pair_once(plan: &Plan, paths: &[Vec<usize>]) -> bool {
     let mut used: Vec<(usize, usize)> =
         paths.iter().flat_map(|path| path.windows(2).map(|pair| (pair[0].min(pair[1]), pair[0].max(pair[1])))).collect();
     used.sort();
-    used == plan.edges
+    used == plan.pairs()
 }
 
 /// How many ends of each further path lay inside a link.
@@ -278,7 +317,8 @@ fn outcomes(count: u64, seed: u64) -> bool {
     right
 }
 
-/// A grade is the connectivity; "a certificate of kind 3 is accepted exactly when these calls accept it and no byte is left".
+/// A grade is the connectivity; "a certificate of kind 3 is accepted exactly when these calls accept it and no byte is left"; the
+/// plan is written again as it was; doubles change no answer.
 fn consistent(plan: &[u8], certificate: &[u8], answer: Answer) -> bool {
     let Ok(graph) = read_plan(plan) else { return true };
     let true_grade = match answer {
@@ -286,7 +326,8 @@ fn consistent(plan: &[u8], certificate: &[u8], answer: Answer) -> bool {
         _ => true,
     };
     let by_calls = certificate.first() == Some(&3) && calls_accept(plan, &certificate[1..], &graph);
-    true_grade && by_calls == (answer == Answer::Grade(3))
+    let once = check(&encode_plan(&graph.simple()), certificate);
+    true_grade && by_calls == (answer == Answer::Grade(3)) && encode_plan(&graph) == plan && once == answer
 }
 
 fn calls_accept(plan: &[u8], parts: &[u8], graph: &Plan) -> bool {

@@ -29,8 +29,10 @@ static size_t kept(const uint8_t *bytes, size_t from, size_t length, uint8_t fil
     return count;
 }
 
-/* Document 01's barns: four boxes with all cables (A), without the cable 2 3 (B), none (E); five with all cables (G, H). */
+/* Document 01's barns: four boxes with all cables (A), without the cable 2 3 (B), none (E); five with all cables (G, H). The same four
+ * with the first cable doubled and the last one there three times; five with all cables doubled; one cable doubled alone. */
 static const uint8_t FOUR[] = {4, 6, 0, 1, 0, 2, 0, 3, 1, 2, 1, 3, 2, 3};
+static const uint8_t FOUR_DOUBLED[] = {4, 9, 0, 1, 0, 1, 0, 2, 0, 3, 1, 2, 1, 3, 2, 3, 2, 3, 2, 3};
 static const uint8_t FOUR_BUILD[] = {3, 0, 1, 2, 3, 2, 0, 1, 2, 0, 2, 2, 0, 3, 2, 1, 2, 2, 1, 3, 2, 2, 3};
 static const uint8_t SQUARE[] = {4, 5, 0, 1, 0, 2, 0, 3, 1, 2, 1, 3};
 static const uint8_t SQUARE_EARS[] = {2, 0, 1, 2, 3, 0, 1, 2, 3, 0, 3, 1, 1, 2};
@@ -40,10 +42,14 @@ static const uint8_t FIVE[] = {5, 10, 0, 1, 0, 2, 0, 3, 0, 4, 1, 2, 1, 3, 1, 4, 
 static const uint8_t FIVE_BUILD[] = {3, 0, 1, 2, 3, 3, 0, 4, 1, 2, 0, 2, 2, 0, 3, 2, 1, 2, 2, 1, 3, 2, 2, 3,
                                      2, 4, 2, 2, 4, 3, 2, 0, 1};
 static const uint8_t FIVE_HELD[] = {3, 0, 1, 2, 3, 3, 0, 4, 1, 2, 0, 2, 2, 0, 3, 2, 1, 2, 2, 1, 3, 2, 2, 3, 2, 0, 1};
+static const uint8_t FIVE_DOUBLED[] = {5, 20, 0, 1, 0, 1, 0, 2, 0, 2, 0, 3, 0, 3, 0, 4, 0, 4, 1, 2, 1, 2,
+                                       1, 3, 1, 3, 1, 4, 1, 4, 2, 3, 2, 3, 2, 4, 2, 4, 3, 4, 3, 4};
 static const uint8_t TWICE[] = {4, 2, 0, 1, 0, 1};
+/* A cable before its predecessor. */
+static const uint8_t UNSORTED[] = {4, 2, 0, 2, 0, 1};
 
 static void limits(void) {
-    IS(fikzarn_edition(), 0);
+    IS(fikzarn_edition(), 1);
     IS(fikzarn_min_boxes(), 4);
     IS(fikzarn_max_boxes(), 128);
     IS(fikzarn_max_cables(), 512);
@@ -59,22 +65,41 @@ static void checks(void) {
     IS(fikzarn_check(FOUR, sizeof FOUR, FOUR_BUILD, sizeof FOUR_BUILD), word(FIKZARN_GRADE, 3, 0));
     IS(fikzarn_check(SQUARE, sizeof SQUARE, SQUARE_EARS, sizeof SQUARE_EARS), word(FIKZARN_GRADE, 2, 0));
     IS(fikzarn_check(APART, sizeof APART, APART_SIDE, sizeof APART_SIDE), word(FIKZARN_GRADE, 0, 0));
-    IS(fikzarn_check(TWICE, sizeof TWICE, APART_SIDE, sizeof APART_SIDE), word(FIKZARN_PLAN_FAULT, 6, 4));
+    IS(fikzarn_check(UNSORTED, sizeof UNSORTED, APART_SIDE, sizeof APART_SIDE), word(FIKZARN_PLAN_FAULT, 6, 4));
     /* No bytes at all, at an address that is not null. */
     IS(fikzarn_check(FOUR, 0, FOUR, 0), word(FIKZARN_PLAN_FAULT, 1, 0));
     IS(fikzarn_check(FOUR, sizeof FOUR, FOUR, 0), word(FIKZARN_CERTIFICATE_FAULT, 1, 0));
 }
 
+/* A certificate shows the same beside a plan with doubles: only pairs of boxes count. */
+static void doubles(void) {
+    IS(fikzarn_check(FOUR_DOUBLED, sizeof FOUR_DOUBLED, FOUR_BUILD, sizeof FOUR_BUILD), word(FIKZARN_GRADE, 3, 0));
+    IS(fikzarn_check(FIVE_DOUBLED, sizeof FIVE_DOUBLED, FIVE_BUILD, sizeof FIVE_BUILD), word(FIKZARN_GRADE, 3, 0));
+    IS(fikzarn_check(FIVE_DOUBLED, sizeof FIVE_DOUBLED, FIVE_HELD, sizeof FIVE_HELD), word(FIKZARN_CERTIFICATE_FAULT, 27, 24));
+    IS(fikzarn_check(TWICE, sizeof TWICE, APART_SIDE, sizeof APART_SIDE), word(FIKZARN_CERTIFICATE_FAULT, 23, 1));
+    const uint8_t square[] = {4, 6, 0, 1, 0, 2, 0, 3, 1, 2, 1, 2, 1, 3};
+    IS(fikzarn_check(square, sizeof square, FOUR_BUILD, sizeof FOUR_BUILD), word(FIKZARN_CERTIFICATE_FAULT, 29, 0));
+    IS(fikzarn_check(square, sizeof square, SQUARE_EARS, sizeof SQUARE_EARS), word(FIKZARN_GRADE, 2, 0));
+}
+
+static void written(const uint8_t *plan, size_t length) {
+    uint8_t out[64];
+    memset(out, 170, sizeof out);
+    IS(fikzarn_plan(plan, length, out, length - 1), word(FIKZARN_ACCEPTED, 0, 0));
+    IS(kept(out, 0, sizeof out, 170), sizeof out);
+    IS(fikzarn_plan(plan, length, out, sizeof out), word(FIKZARN_ACCEPTED, 0, 0));
+    IS((uint64_t)memcmp(out, plan, length), 0);
+    IS(kept(out, length, sizeof out, 170), sizeof out - length);
+}
+
 static void plans(void) {
+    written(FOUR, sizeof FOUR);
+    written(TWICE, sizeof TWICE);
+    written(FIVE_DOUBLED, sizeof FIVE_DOUBLED);
     uint8_t out[32];
     memset(out, 170, sizeof out);
-    IS(fikzarn_plan(FOUR, sizeof FOUR, out, sizeof FOUR - 1), word(FIKZARN_ACCEPTED, 0, 0));
+    IS(fikzarn_plan(UNSORTED, sizeof UNSORTED, out, sizeof out), word(FIKZARN_PLAN_FAULT, 6, 4));
     IS(kept(out, 0, sizeof out, 170), sizeof out);
-    IS(fikzarn_plan(TWICE, sizeof TWICE, out, sizeof out), word(FIKZARN_PLAN_FAULT, 6, 4));
-    IS(kept(out, 0, sizeof out, 170), sizeof out);
-    IS(fikzarn_plan(FOUR, sizeof FOUR, out, sizeof out), word(FIKZARN_ACCEPTED, 0, 0));
-    IS((uint64_t)memcmp(out, FOUR, sizeof FOUR), 0);
-    IS(kept(out, sizeof FOUR, sizeof out, 170), sizeof out - sizeof FOUR);
 }
 
 static void certified(const uint8_t *plan, size_t length, unsigned grade) {
@@ -96,11 +121,14 @@ static void certificates(void) {
     certified(SQUARE, sizeof SQUARE, 2);
     certified((const uint8_t[]){4, 3, 0, 1, 1, 2, 2, 3}, 8, 1);
     certified(APART, sizeof APART, 0);
+    certified(FOUR_DOUBLED, sizeof FOUR_DOUBLED, 3);
+    certified(FIVE_DOUBLED, sizeof FIVE_DOUBLED, 3);
+    certified(TWICE, sizeof TWICE, 0);
     uint8_t out[FIKZARN_CERTIFICATE_ROOM];
     memset(out, 170, sizeof out);
     IS(fikzarn_certify(FOUR, sizeof FOUR, out, sizeof out - 1), word(FIKZARN_PLAN_FAULT, 30, 0));
-    IS(fikzarn_certify(TWICE, sizeof TWICE, out, 0), word(FIKZARN_PLAN_FAULT, 6, 4));
-    IS(fikzarn_certify(TWICE, sizeof TWICE, out, sizeof out), word(FIKZARN_PLAN_FAULT, 6, 4));
+    IS(fikzarn_certify(UNSORTED, sizeof UNSORTED, out, 0), word(FIKZARN_PLAN_FAULT, 6, 4));
+    IS(fikzarn_certify(UNSORTED, sizeof UNSORTED, out, sizeof out), word(FIKZARN_PLAN_FAULT, 6, 4));
     IS(kept(out, 0, sizeof out, 170), sizeof out);
 }
 
@@ -111,9 +139,9 @@ static size_t part(uint8_t *script, size_t at, const uint8_t *bytes, size_t leng
     return at + 2 + length;
 }
 
-/* Barn G as a script: opened, started, closed too early, three paths, closed. */
-static size_t five_script(uint8_t *script) {
-    size_t at = part(script, 0, FIVE, sizeof FIVE);
+/* Barn G, or with doubles, as a script: opened, started, closed too early, three paths, closed. */
+static size_t five_script(uint8_t *script, const uint8_t *plan, size_t length) {
+    size_t at = part(script, 0, plan, length);
     script[at] = 's';
     at = part(script, at + 1, FIVE_BUILD + 1, 23);
     script[at++] = 'c';
@@ -125,9 +153,8 @@ static size_t five_script(uint8_t *script) {
     return at;
 }
 
-static void sessions(void) {
-    uint8_t script[128], out[64];
-    size_t length = five_script(script);
+static void replayed(const uint8_t *script, size_t length) {
+    uint8_t out[64];
     const uint64_t early = word(FIKZARN_CERTIFICATE_FAULT, 31, 0);
     const uint64_t answers[] = {0, 0, early, 0, 0, 0, word(FIKZARN_GRADE, 3, 0)};
     memset(out, 170, sizeof out);
@@ -135,6 +162,14 @@ static void sessions(void) {
     for (size_t i = 0; i < 7; i++)
         IS(fikzarn_answer(out, i), answers[i]);
     IS(kept(out, 56, sizeof out, 170), 8);
+}
+
+static void sessions(void) {
+    uint8_t script[128], out[64];
+    replayed(script, five_script(script, FIVE_DOUBLED, sizeof FIVE_DOUBLED));
+    size_t length = five_script(script, FIVE, sizeof FIVE);
+    replayed(script, length);
+    const uint64_t early = word(FIKZARN_CERTIFICATE_FAULT, 31, 0);
     memset(out, 170, sizeof out);
     IS(fikzarn_session(script, length, out, 31), FIKZARN_NO_ROOM + 65536 * 3);
     IS(fikzarn_answer(out, 2), early);
@@ -153,6 +188,7 @@ static void sessions(void) {
 int main(void) {
     limits();
     checks();
+    doubles();
     plans();
     certificates();
     sessions();

@@ -95,8 +95,8 @@ def _buffer(room):
 
 
 def plan(record, room=None):
-    """Reads a whole plan record: accepted, or a plan fault. An accepted record is written again from the plan that was read, where
-    `room` bytes, by default as many as the record has, are enough for it."""
+    """Reads a whole plan record: accepted, or a plan fault. An accepted record is written again from the plan that was read, doubled
+    cables as often as they were there, where `room` bytes, by default as many as the record has, are enough for it."""
     record = bytes(record)
     room = len(record) if room is None else room
     out = _buffer(room)

@@ -8,7 +8,10 @@ from fikzarn import Answer, Case, End
 # Document 01's barn G: five boxes, each cabled to every other, and its certificate.
 FIVE = bytes([5, 10, 0, 1, 0, 2, 0, 3, 0, 4, 1, 2, 1, 3, 1, 4, 2, 3, 2, 4, 3, 4])
 FIVE_BUILD = bytes([3, 0, 1, 2, 3, 3, 0, 4, 1, 2, 0, 2, 2, 0, 3, 2, 1, 2, 2, 1, 3, 2, 2, 3, 2, 4, 2, 2, 4, 3, 2, 0, 1])
+# Barn G with every cable doubled, a single doubled cable, and a cable before its predecessor.
+FIVE_DOUBLED = bytes([5, 20]) + b"".join(2 * FIVE[at : at + 2] for at in range(2, 22, 2))
 TWICE = bytes([4, 2, 0, 1, 0, 1])
+UNSORTED = bytes([4, 2, 0, 2, 0, 1])
 REFUSED = Answer(Case.PLAN_FAULT, 6, 4)
 ACCEPTED = Answer(Case.ACCEPTED, 0, 0)
 SMALLER = {2: [4, 5, 0, 1, 0, 2, 0, 3, 1, 2, 1, 3], 1: [4, 3, 0, 1, 1, 2, 2, 3], 0: [4, 0]}
@@ -18,22 +21,24 @@ def counted(part):
     return len(part).to_bytes(2, "little") + part
 
 
-def script():
-    """Barn G: opened, started, closed too early, three paths, closed."""
+def script(plan=FIVE):
+    """Barn G, or with doubles: opened, started, closed too early, three paths, closed."""
     paths = b"".join(b"p" + counted(FIVE_BUILD[at : at + 3]) for at in (24, 27, 30))
-    return counted(FIVE) + b"s" + counted(FIVE_BUILD[1:24]) + b"c" + paths + b"c"
+    return counted(plan) + b"s" + counted(FIVE_BUILD[1:24]) + b"c" + paths + b"c"
 
 
 class Calls(unittest.TestCase):
     def test_limits(self):
         limits = [fikzarn.edition(), fikzarn.min_boxes(), fikzarn.max_boxes(), fikzarn.max_cables(), fikzarn.certificate_room()]
-        self.assertEqual(limits, [0, 4, 128, 512, 1536])
+        self.assertEqual(limits, [1, 4, 128, 512, 1536])
 
     def test_check(self):
         self.assertEqual(fikzarn.check(FIVE, FIVE_BUILD), Answer(Case.GRADE, 3, 0))
         held = fikzarn.check(FIVE, FIVE_BUILD[:24] + bytes([2, 0, 1]))
         self.assertEqual(held, Answer(Case.CERTIFICATE_FAULT, 27, 24))
-        self.assertEqual(fikzarn.check(TWICE, FIVE_BUILD), REFUSED)
+        self.assertEqual(fikzarn.check(UNSORTED, FIVE_BUILD), REFUSED)
+        self.assertEqual(fikzarn.check(FIVE_DOUBLED, FIVE_BUILD), Answer(Case.GRADE, 3, 0))
+        self.assertEqual(fikzarn.check(TWICE, bytes([0, 1, 0])), Answer(Case.CERTIFICATE_FAULT, 23, 1))
         self.assertEqual(fikzarn.check(b"", bytearray()), Answer(Case.PLAN_FAULT, 1, 0))
 
     def test_words(self):
@@ -44,20 +49,25 @@ class Calls(unittest.TestCase):
         self.assertEqual(fikzarn.plan(FIVE), (ACCEPTED, FIVE))
         self.assertEqual(fikzarn.plan(FIVE, room=40), (ACCEPTED, FIVE))
         self.assertEqual(fikzarn.plan(FIVE, room=21), (ACCEPTED, b""))
-        self.assertEqual(fikzarn.plan(TWICE), (REFUSED, b""))
+        self.assertEqual(fikzarn.plan(TWICE), (ACCEPTED, TWICE))
+        self.assertEqual(fikzarn.plan(FIVE_DOUBLED), (ACCEPTED, FIVE_DOUBLED))
+        self.assertEqual(fikzarn.plan(UNSORTED), (REFUSED, b""))
 
     def test_certify(self):
         for grade, plan in {3: FIVE, **SMALLER}.items():
             made = fikzarn.certify(plan)
             self.assertEqual(made.answer, Answer(Case.GRADE, grade, 0))
             self.assertEqual(fikzarn.check(plan, made.record), made.answer)
+        self.assertEqual(fikzarn.certify(FIVE_DOUBLED), fikzarn.certify(FIVE))
+        self.assertEqual(fikzarn.certify(TWICE).answer, Answer(Case.GRADE, 0, 0))
         self.assertEqual(fikzarn.certify(FIVE, room=1535), (Answer(Case.PLAN_FAULT, 30, 0), b""))
-        self.assertEqual(fikzarn.certify(TWICE, room=0), (REFUSED, b""))
+        self.assertEqual(fikzarn.certify(UNSORTED, room=0), (REFUSED, b""))
 
     def test_session(self):
         early = Answer(Case.CERTIFICATE_FAULT, 31, 0)
         answers = [ACCEPTED, ACCEPTED, early, ACCEPTED, ACCEPTED, ACCEPTED, Answer(Case.GRADE, 3, 0)]
         self.assertEqual(fikzarn.session(script()), (End.REPLAYED, answers))
+        self.assertEqual(fikzarn.session(script(FIVE_DOUBLED)), (End.REPLAYED, answers))
         self.assertEqual(fikzarn.session(script(), room=31), (End.NO_ROOM, answers[:3]))
         self.assertEqual(fikzarn.session(script() + b"x"), (End.UNKNOWN_CALL, answers))
         self.assertEqual(fikzarn.session(script() + b"p"), (End.CUT, answers))

@@ -77,16 +77,17 @@ impl fmt::Display for Answer {
     }
 }
 
-/// Reads a whole plan record. Where it is accepted and `out` has room for it, `out` begins with the record, written again from
-/// the plan that was read; every other byte, or else every byte, keeps its value.
+/// Reads a whole plan record. Where it is accepted and `out` has room for it, `out` begins with the record, written again from the
+/// plan that was read, doubled cables as often as they were there; every other byte, or else every byte, keeps its value.
 ///
 /// ```
 /// use fikzarn::{plan, Answer};
 ///
-/// let mut out = [7; 5];
-/// assert_eq!(plan(&[4, 1, 0, 3], &mut out), Answer::Accepted);
-/// assert_eq!(out, [4, 1, 0, 3, 7]);
-/// assert_eq!(plan(&[4, 2, 0, 1, 0, 1], &mut out), Answer::PlanFault(6, 4));
+/// // Four boxes, and two cables between 0 and 1.
+/// let mut out = [7; 7];
+/// assert_eq!(plan(&[4, 2, 0, 1, 0, 1], &mut out), Answer::Accepted);
+/// assert_eq!(out, [4, 2, 0, 1, 0, 1, 7]);
+/// assert_eq!(plan(&[4, 2, 0, 2, 0, 1], &mut out), Answer::PlanFault(6, 4));
 /// ```
 pub fn plan(plan: &[u8], out: &mut [u8]) -> Answer {
     Answer::of(unsafe { foreign::fikzarn_plan(plan.as_ptr(), plan.len(), out.as_mut_ptr(), out.len()) })
@@ -206,7 +207,7 @@ pub fn max_boxes() -> u64 {
     unsafe { foreign::fikzarn_max_boxes() }
 }
 
-/// The largest number of cables in a plan.
+/// The largest number of cables in a plan, each cable of a double counted.
 pub fn max_cables() -> u64 {
     unsafe { foreign::fikzarn_max_cables() }
 }

@@ -4,22 +4,30 @@ use fikzarn::*;
 /// Document 01's barn G: five boxes, each cabled to every other, and its certificate.
 const FIVE: [u8; 22] = [5, 10, 0, 1, 0, 2, 0, 3, 0, 4, 1, 2, 1, 3, 1, 4, 2, 3, 2, 4, 3, 4];
 const FIVE_BUILD: [u8; 33] = [3, 0, 1, 2, 3, 3, 0, 4, 1, 2, 0, 2, 2, 0, 3, 2, 1, 2, 2, 1, 3, 2, 2, 3, 2, 4, 2, 2, 4, 3, 2, 0, 1];
+/// A single doubled cable, and a cable before its predecessor.
 const TWICE: [u8; 6] = [4, 2, 0, 1, 0, 1];
+const UNSORTED: [u8; 6] = [4, 2, 0, 2, 0, 1];
+
+/// Barn G with every cable doubled.
+fn five_doubled() -> Vec<u8> {
+    let cables = FIVE[2..].chunks(2).flat_map(|cable| cable.repeat(2));
+    [5, 20].into_iter().chain(cables).collect()
+}
 
 fn counted(part: &[u8]) -> Vec<u8> {
     [&(part.len() as u16).to_le_bytes()[..], part].concat()
 }
 
-/// Barn G as a script: opened, started, closed too early, three paths, closed.
-fn script() -> Vec<u8> {
+/// Barn G, or with doubles, as a script: opened, started, closed too early, three paths, closed.
+fn script(plan: &[u8]) -> Vec<u8> {
     let path = |at: usize| [b"p".to_vec(), counted(&FIVE_BUILD[at..at + 3])].concat();
     let start = [b"s".to_vec(), counted(&FIVE_BUILD[1..24])].concat();
-    [counted(&FIVE), start, b"c".to_vec(), path(24), path(27), path(30), b"c".to_vec()].concat()
+    [counted(plan), start, b"c".to_vec(), path(24), path(27), path(30), b"c".to_vec()].concat()
 }
 
 #[test]
 fn limits() {
-    assert_eq!((edition(), min_boxes(), max_boxes(), max_cables()), (0, 4, 128, 512));
+    assert_eq!((edition(), min_boxes(), max_boxes(), max_cables()), (1, 4, 128, 512));
     assert_eq!(certificate_room(), CERTIFICATE_ROOM as u64);
 }
 
@@ -29,9 +37,11 @@ fn checks() {
     // Barn H: the path 0 1 comes first.
     let held = [&FIVE_BUILD[..24], &[2, 0, 1]].concat();
     assert_eq!(check(&FIVE, &held), Answer::CertificateFault(27, 24));
-    assert_eq!(check(&TWICE, &held), Answer::PlanFault(6, 4));
+    assert_eq!(check(&five_doubled(), &FIVE_BUILD), Answer::Grade(3));
+    assert_eq!(check(&five_doubled(), &held), Answer::CertificateFault(27, 24));
+    assert_eq!(check(&UNSORTED, &held), Answer::PlanFault(6, 4));
     assert_eq!(check(&[], &[]), Answer::PlanFault(1, 0));
-    let told: Vec<String> = [check(&FIVE, &FIVE_BUILD), check(&TWICE, &[]), Answer::Accepted].map(|a| a.to_string()).to_vec();
+    let told: Vec<String> = [check(&FIVE, &FIVE_BUILD), check(&UNSORTED, &[]), Answer::Accepted].map(|a| a.to_string()).to_vec();
     assert_eq!(told, ["grade 3", "plan refused 6 at 4", "accepted"]);
 }
 
@@ -39,17 +49,21 @@ fn checks() {
 fn plans() {
     let mut out = [170; 24];
     assert_eq!(plan(&FIVE, &mut out[..21]), Answer::Accepted);
-    assert_eq!(plan(&TWICE, &mut out), Answer::PlanFault(6, 4));
+    assert_eq!(plan(&UNSORTED, &mut out), Answer::PlanFault(6, 4));
     assert_eq!(out, [170; 24]);
     assert_eq!(plan(&FIVE, &mut out), Answer::Accepted);
     assert_eq!((&out[..22], &out[22..]), (&FIVE[..], &[170, 170][..]));
+    for doubled in [&TWICE[..], &five_doubled()] {
+        let mut out = [170; 44];
+        assert_eq!(plan(doubled, &mut out), Answer::Accepted);
+        assert!(out.starts_with(doubled) && out[doubled.len()..].iter().all(|&byte| byte == 170));
+    }
 }
 
 #[test]
 fn certificates() {
-    for (plan, grade) in
-        [(&FIVE[..], 3), (&[4, 5, 0, 1, 0, 2, 0, 3, 1, 2, 1, 3], 2), (&[4, 3, 0, 1, 1, 2, 2, 3], 1), (&[4, 0], 0)]
-    {
+    let (square, chain) = ([4, 5, 0, 1, 0, 2, 0, 3, 1, 2, 1, 3], [4, 3, 0, 1, 1, 2, 2, 3]);
+    for (plan, grade) in [(&FIVE[..], 3), (&five_doubled(), 3), (&square, 2), (&chain, 1), (&[4, 0], 0), (&TWICE, 0)] {
         let mut out = [170; CERTIFICATE_ROOM];
         let made = certify(plan, &mut out).expect("a plan");
         let length = made.certificate.len();
@@ -58,16 +72,17 @@ fn certificates() {
     }
     let mut out = [170; CERTIFICATE_ROOM];
     assert_eq!(certify(&FIVE, &mut out[1..]), Err(Answer::PlanFault(30, 0)));
-    assert_eq!(certify(&TWICE, &mut out[1..]), Err(Answer::PlanFault(6, 4)));
-    assert_eq!(certify(&TWICE, &mut out), Err(Answer::PlanFault(6, 4)));
+    assert_eq!(certify(&UNSORTED, &mut out[1..]), Err(Answer::PlanFault(6, 4)));
+    assert_eq!(certify(&UNSORTED, &mut out), Err(Answer::PlanFault(6, 4)));
     assert_eq!(out, [170; CERTIFICATE_ROOM]);
 }
 
 #[test]
 fn sessions() {
     use Answer::{Accepted, CertificateFault, Grade};
-    let (script, mut out) = (script(), [170; 64]);
     let answers = [Accepted, Accepted, CertificateFault(31, 0), Accepted, Accepted, Accepted, Grade(3)];
+    assert!(session(&script(&five_doubled()), &mut [0; 56]).answers().eq(answers));
+    let (script, mut out) = (script(&FIVE), [170; 64]);
     let replay = session(&script, &mut out);
     assert_eq!((replay.end, replay.answers().len()), (End::Replayed, 7));
     assert!(replay.answers().eq(answers));
