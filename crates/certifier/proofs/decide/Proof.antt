@@ -19,8 +19,8 @@ returns-2 c =
     let a = r .before .before .before .before .args in
     draft-short (a .plan .now) (a .room) (r .read-plan-arrays .ensures .0) (k .enum-told .given .1) (omega (arith, c .before .if1 .taken)) (c .no-draft2 .ensures)
 
-cast-t16 : tie.Need-cast-t16
-cast-t16 c =
+cast-t18 : tie.Need-cast-t18
+cast-t18 c =
     let n = c .before in
     let k = n .before .before .before in
     let r = k .before .before in
@@ -41,4 +41,4 @@ returns-3 c =
 
 pub decide-spec : {M : Type 1} → statement M
 decide-spec = tie.close (tie.spec
-    (λ c κs. search needs) (λ c. search needs) (λ c κs. search needs) returns (λ c κs. search needs) returns-2 (λ c κs. search needs) (λ c. search needs) cast-t16 returns-3)
+    (λ c κs. search needs) (λ c. search needs) (λ c κs. search needs) returns (λ c κs. search needs) returns-2 (λ c κs. search needs) (λ c. search needs) cast-t18 returns-3)
