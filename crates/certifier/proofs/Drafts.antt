@@ -75,7 +75,7 @@ module _ (s : List ℕ) (bytes : Bytes s) {h : PlanHead} (e : h ≡ headOf (whol
   read-certified =
       let p = accepted s bytes whole in
       let d = plan-drawn (p .0) (p .1) in
-      subst (λ (g : GraphTable). Constructed (g .rows) (g .n)) (sym (accepted-graph s (p .3))) (certified _ _ d (plan-edges (p .0) (p .1)))
+      subst (λ (g : GraphTable). Constructed (g .rows) (g .n)) (sym (accepted-graph s (p .0) (p .3))) (certified _ _ d (plan-edges (p .0) (p .1)))
 
   module _ {rows : List ℕ} {c : Numbers} (left : rows ≡ rowsLeft bareRows s) (k : c ≡ numbersOf (certificateNumbers rows (h .n))) where
     made-numbers : c ≡ numbersOf numbers

@@ -211,7 +211,7 @@ unfolding planRead madeBy
 making P bp buffer = go (ended plan P 0) refl (from-0 (whole-by (λ r h. inr (inr h)) (inl refl)) P)
   where
     go : (x : Read Plan) → ended plan P 0 ≡ x → Ends (λ r. In r (7 ∷ 30 ∷ inPlan)) P x
-        → OneOf listed.makingAnswers (length P) 0 (madeBy buffer (planRead x .answer) (planRead x .graph) .answer)
+        → OneOf listed.makingAnswers (length P) 0 (madeBy buffer (planRead x .answer) (planRead x .plan .graph) .answer)
     go (Refused r q) e h = h
     go (Got p next) e h = test (ltb (length buffer) roomAsked)
       where
@@ -234,7 +234,7 @@ opens P = go (ended plan P 0) (from-0 (whole-by (λ r h. inr (inr h)) (inl refl)
   where
     go : (x : Read Plan) → Ends (λ r. In r (7 ∷ 29 ∷ inPlan)) P x → OneOf listed.openingAnswers (length P) 0 (onOpening x .answer)
     go (Refused r q) h = h
-    go (Got p next) h = test (ltb (graphOf p .m) (p .n + 2))
+    go (Got p next) h = test (ltb (graphOf p .d) (p .n + 2))
       where
         test : (b : Bool) → OneOf listed.openingAnswers (length P) 0
             (cond {A = Opened} b (record { answer = PlanFault 29 0; session = noSession }) (record { answer = Accepted; session = openedOn (graphOf p) }) .answer)

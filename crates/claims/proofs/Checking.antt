@@ -8,7 +8,6 @@ use Rattle.record.specs.Read.{Read, Read.Got, Read.Refused, Bytes, ended}
 use Rattle.record.specs.declared.Answer.the-variants.{Grade}
 use Rattle.record.proofs.Laws.{ended-there, ended-back}
 use Rattle.connectivity.specs.Graph.{Simple, HasConnectivity}
-use Rattle.connectivity.specs.Build.{EachEdgeOnce}
 use Rattle.connectivity.specs.Certificate.{Certificate, Certificate.separation, Certificate.tree, Certificate.ears, Certificate.build, kind, grade, Rules, BuildRules}
 use Rattle.connectivity.proofs.Edges.{fromEdges-simple}
 use Rattle.connectivity.proofs.Soundness.{rules-connectivity, grade-kind}
@@ -16,7 +15,8 @@ use Rattle.connectivity.proofs.Main.{edges-once}
 use Rattle.connectivity.proofs.Sequence.{rules-sequence, sequence-rules}
 use Rattle.reading.specs.Plan.{Plan, Allowed, plan, planBytes}
 use Rattle.reading.proofs.Plans.{plan-law}
-use Rattle.reading.proofs.Adjacency.{edge-list}
+use Rattle.reading.proofs.EdgeTests.{each-proper}
+use Rattle.reading.proofs.Doubles as doubles
 use Rattle.certificates.specs.Records.{certificate}
 use Rattle.certificates.specs.Encoding.{certificateBytes}
 use Rattle.certificates.proofs.Accepted.{accepted-there, accepted-back}
@@ -26,7 +26,7 @@ use Rattle.record.specs.Number.{numberLimit}
 
 -- the graph of an allowed plan is simple, and small enough for numbers
 pub plan-simple : (p : Plan) → Allowed p → Simple (planGraph p)
-plan-simple p a = fromEdges-simple (p .n) (p .edges) (edge-list p a)
+plan-simple p a = doubles.plan-simple (p .n) (p .edges) (a .least) (a .each)
 
 pub plan-few : (p : Plan) → Allowed p → p .n < numberLimit
 plan-few p a = omega (arith, a .most)
@@ -115,6 +115,20 @@ pub sequenced-certified : {P C : List ℕ} → Sequenced P C → Certified P C 3
 sequenced-certified c =
     record { plan = c .plan; is-plan = c .is-plan; certificate = build (c .p) (c .q) (c .r) (c .s) (c .start) (c .further); bytes = c .bytes; same-kind = refl; rules = sequenced-rules c }
 
--- and it uses every edge just once
-pub sequenced-once : {P C : List ℕ} (c : Sequenced P C) → EachEdgeOnce (planGraph (c .plan)) (c .start ++ c .further)
-sequenced-once c = edges-once (planGraph (c .plan)) (plan-simple (c .plan) (c .is-plan .allowed)) (c .p) (c .q) (c .r) (c .s) (c .start) (c .further) (sequenced-rules c)
+-- the edges of a plan's graph are the pairs that its record has, once or more
+pub pair-edge : (p : Plan) → Allowed p → (e : ℕ × ℕ) → In e (p .edges) → In e (edges (planGraph p))
+pair-edge p a e i =
+    let b = each-proper (p .n) (0, 0) (p .edges) (a .each) e i in
+    rw (edge-sorted (e .0) (e .1) (b .0)) at (in-edges (planGraph p) (plan-simple p a) (e .0) (e .1) (in-listed (p .edges) (e .0) (e .1) (inl i)))
+
+pub edge-pair : (p : Plan) → Allowed p → (e : ℕ × ℕ) → In e (edges (planGraph p)) → In e (p .edges)
+edge-pair p a e i =
+    let r = edges-in (planGraph p) e i in
+    ⊎-elim (λ k. k) (λ k. absurd (omega (arith, r .0, each-proper (p .n) (0, 0) (p .edges) (a .each) (e .1, e .0) k .0))) (listed-in (p .edges) (e .0) (e .1) (r .1))
+
+-- and it uses every pair just once
+pub sequenced-once : {P C : List ℕ} (c : Sequenced P C) → EachPairOnce (c .plan) (c .start ++ c .further)
+sequenced-once c =
+    let a = c .is-plan .allowed in
+    let o = edges-once (planGraph (c .plan)) (plan-simple (c .plan) a) (c .p) (c .q) (c .r) (c .s) (c .start) (c .further) (sequenced-rules c) in
+    record { nodup = o .nodup; is-pair = λ e i. edge-pair (c .plan) a e (o .is-edge e i); used = λ e i. o .used e (pair-edge (c .plan) a e i) }

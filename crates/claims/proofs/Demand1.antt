@@ -111,7 +111,7 @@ opens-at P bytes = go (ended plan P 0) refl
   where
     go : (x : Read Plan) → ended plan P 0 ≡ x → OpensAt (onOpening x) (of.onPlanRead x)
     go (Refused r q) e = record { answer = refl; state = refl }
-    go (Got p next) e = test (ltb (length (p .edges)) (p .n + 2))
+    go (Got p next) e = test (ltb (of.pairCount p) (p .n + 2))
       where
         test : (b : Bool)
             → OpensAt (cond b (record { answer = PlanFault 29 0; session = noSession }) (record { answer = Accepted; session = openedOn (graphOf p) }))

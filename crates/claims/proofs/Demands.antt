@@ -33,7 +33,7 @@ use Rattle.checker.specs.Check.{planGraph, onCertificate, certificateAnswer, on
 use Rattle.certifier.specs.declared.Made.{Made}
 use Rattle.certifier.specs.Made.{roomAsked, made, madeBy, madeFrom, filledBy, filledFrom, certificateOf, gradeMade}
 use Rattle.claims.specs.Certified.{IsPlan, HasFigure, Certified}
-use Rattle.claims.specs.Demands.{PlanFaultsFirst, RoomNamed, Demand2, RulesAreAdditions, Demand2Sequence, EdgesOnce, AcceptedByCalls, FigureComputed, PlanAccepted, AcceptedGrade.checked, AcceptedGrade.made-for, AcceptedGrade.closed-on, GradeIsFigure, SameGrades, Writes, MakerWrites, SameCertificate, CertificateOfPlan, RefusedKeeps}
+use Rattle.claims.specs.Demands.{PlanFaultsFirst, RoomNamed, Demand2, RulesAreAdditions, Demand2Sequence, PairsOnce, AcceptedByCalls, FigureComputed, PlanAccepted, AcceptedGrade.checked, AcceptedGrade.made-for, AcceptedGrade.closed-on, GradeIsFigure, SameGrades, Writes, MakerWrites, SameCertificate, CertificateOfPlan, RefusedKeeps}
 use Rattle.claims.proofs.Checking.{plan-simple, demand-2, grade-certified, certified-grade, certified-sound, grade-sound, certified-sequenced, sequenced-certified, sequenced-once}
 use Rattle.claims.proofs.Sessions.{closing-sound}
 use Rattle.claims.proofs.Replay.{kind3-calls}
@@ -55,8 +55,8 @@ pub demand2-sequence : Demand2Sequence
 demand2-sequence P C bp bc =
     (λ e. certified-sequenced (grade-certified P C 3 bp bc e), λ c. certified-grade P C 3 (sequenced-certified c))
 
-pub edges-used-once : EdgesOnce
-edges-used-once P C c = sequenced-once c
+pub pairs-used-once : PairsOnce
+pairs-used-once P C c = sequenced-once c
 
 pub accepted-by-calls : AcceptedByCalls
 accepted-by-calls = kind3-calls
@@ -99,18 +99,18 @@ module _ (p : Plan) (a : Allowed p) where
   made-short = its .short
 
 -- what the maker gives to a plan that was read
-made-on : (P buffer : List ℕ) (x : Read Plan) → ended plan P 0 ≡ x → madeFrom P buffer ≡ madeBy buffer (planRead x .answer) (planRead x .graph)
-made-on P buffer x e = ap (λ (r : Read Plan). madeBy buffer (planRead r .answer) (planRead r .graph)) e
+made-on : (P buffer : List ℕ) (x : Read Plan) → ended plan P 0 ≡ x → madeFrom P buffer ≡ madeBy buffer (planRead x .answer) (planRead x .plan .graph)
+made-on P buffer x e = ap (λ (r : Read Plan). madeBy buffer (planRead r .answer) (planRead r .plan .graph)) e
 
-filled-on : (P buffer : List ℕ) (x : Read Plan) → ended plan P 0 ≡ x → filledFrom P buffer ≡ filledBy buffer (planRead x .answer) (planRead x .graph)
-filled-on P buffer x e = ap (λ (r : Read Plan). filledBy buffer (planRead r .answer) (planRead r .graph)) e
+filled-on : (P buffer : List ℕ) (x : Read Plan) → ended plan P 0 ≡ x → filledFrom P buffer ≡ filledBy buffer (planRead x .answer) (planRead x .plan .graph)
+filled-on P buffer x e = ap (λ (r : Read Plan). filledBy buffer (planRead r .answer) (planRead r .plan .graph)) e
 
 -- a grade that the maker answers is the kind of that certificate
 made-grade : (P : List ℕ) → Bytes P → (buffer : List ℕ) (k : ℕ) → madeFrom P buffer .answer ≡ Grade k → HasFigure P k
 unfolding madeBy planRead
 made-grade P bp buffer k e = go (ended plan P 0) refl (ap (λ (m : Made). m .answer) (sym (made-on P buffer (ended plan P 0) refl)) ∙ e)
   where
-    go : (x : Read Plan) → ended plan P 0 ≡ x → madeBy buffer (planRead x .answer) (planRead x .graph) .answer ≡ Grade k → HasFigure P k
+    go : (x : Read Plan) → ended plan P 0 ≡ x → madeBy buffer (planRead x .answer) (planRead x .plan .graph) .answer ≡ Grade k → HasFigure P k
     go (Refused r q) f h = let z : _≡_ {A = ℕ} 0 1 = cc in absurd (omega arith)
     go (Got p next) f h = test (ltb (length buffer) roomAsked) h
       where
@@ -178,12 +178,12 @@ append-same [] (y ∷ b) c d n e = absurd (omega arith)
 append-same (x ∷ a) [] c d n e = absurd (omega arith)
 append-same (x ∷ a) (y ∷ b) c d n e = let h : x ≡ y = cc in let t : a ++ c ≡ b ++ d = cc in rw (h, append-same a b c d (omega arith) t)
 
-written-is : (P buffer : List ℕ) (x : Writes P buffer) → x .certificate ≡ certificateOf (wholePlan P .graph)
+written-is : (P buffer : List ℕ) (x : Writes P buffer) → x .certificate ≡ certificateOf (wholePlan P .plan .graph)
 unfolding madeBy filledBy planRead
 written-is P buffer x = go (ended plan P 0) (ltb (length buffer) roomAsked) refl (x .answer) (x .begins)
   where
-    go : (r : Read Plan) (b : Bool) → ltb (length buffer) roomAsked ≡ b → madeBy buffer (planRead r .answer) (planRead r .graph) ≡ made (Grade (x .grade)) (length (x .certificate))
-        → filledBy buffer (planRead r .answer) (planRead r .graph) ≡ x .certificate ++ drop (length (x .certificate)) buffer → x .certificate ≡ certificateOf (planRead r .graph)
+    go : (r : Read Plan) (b : Bool) → ltb (length buffer) roomAsked ≡ b → madeBy buffer (planRead r .answer) (planRead r .plan .graph) ≡ made (Grade (x .grade)) (length (x .certificate))
+        → filledBy buffer (planRead r .answer) (planRead r .plan .graph) ≡ x .certificate ++ drop (length (x .certificate)) buffer → x .certificate ≡ certificateOf (planRead r .plan .graph)
     go (Refused r q) b t e f = let h : PlanFault r q ≡ Grade (x .grade) = ap (λ (m : Made). m .answer) e in let z : _≡_ {A = ℕ} 0 1 = cc in absurd (omega arith)
     go (Got p next) true t e f = let h : PlanFault 30 0 ≡ Grade (x .grade) = ap (λ (m : Made). m .answer) (rw t at e) in let z : _≡_ {A = ℕ} 0 1 = cc in absurd (omega arith)
     go (Got p next) false t e f =
@@ -197,7 +197,7 @@ same-certificate P a b x y = written-is P a x ∙ sym (written-is P b y)
 
 pub certificate-of-plan : CertificateOfPlan
 certificate-of-plan P buffer p i x =
-    let g : wholePlan P .graph ≡ graphOf p = rw (i .bytes) (ap (λ (r : PlanRead). r .graph) (accepts p (i .allowed))) in
+    let g : wholePlan P .plan .graph ≡ graphOf p = rw (i .bytes) (accepted-graph (planBytes p) p (ap (λ (r : PlanRead). r .plan) (accepts p (i .allowed)))) in
     written-is P buffer x ∙ ap certificateOf g ∙ ap (λ (l : List ℕ). listBytes numberBytes l) (plan-any-steps p (i .allowed) (2 * p .n + 1) (omega arith))
 
 -- refusals
@@ -205,16 +205,16 @@ pub refused-keeps : RefusedKeeps
 unfolding madeBy filledBy planRead
 refused-keeps P buffer = record { kept = λ r q e. kept (ended plan P 0) (ltb (length buffer) roomAsked) refl r q e; fault = λ r q e. fault (ended plan P 0) r q e; too-short = λ e h. short (ended plan P 0) e h }
   where
-    kept : (x : Read Plan) (b : Bool) → ltb (length buffer) roomAsked ≡ b → (r q : ℕ) → madeBy buffer (planRead x .answer) (planRead x .graph) .answer ≡ PlanFault r q
-        → (filledBy buffer (planRead x .answer) (planRead x .graph) ≡ buffer) × (madeBy buffer (planRead x .answer) (planRead x .graph) .length ≡ 0)
+    kept : (x : Read Plan) (b : Bool) → ltb (length buffer) roomAsked ≡ b → (r q : ℕ) → madeBy buffer (planRead x .answer) (planRead x .plan .graph) .answer ≡ PlanFault r q
+        → (filledBy buffer (planRead x .answer) (planRead x .plan .graph) ≡ buffer) × (madeBy buffer (planRead x .answer) (planRead x .plan .graph) .length ≡ 0)
     kept (Refused n at) b t r q e = (refl, refl)
     kept (Got p next) true t r q e = (rw t, rw t)
     kept (Got p next) false t r q e = let h : Grade (gradeMade (graphOf p)) ≡ PlanFault r q = rw t at e in let z : _≡_ {A = ℕ} 0 1 = cc in absurd (omega arith)
 
-    fault : (x : Read Plan) (r q : ℕ) → planRead x .answer ≡ PlanFault r q → madeBy buffer (planRead x .answer) (planRead x .graph) .answer ≡ PlanFault r q
+    fault : (x : Read Plan) (r q : ℕ) → planRead x .answer ≡ PlanFault r q → madeBy buffer (planRead x .answer) (planRead x .plan .graph) .answer ≡ PlanFault r q
     fault (Refused n at) r q e = e
     fault (Got p next) r q e = let z : _≡_ {A = ℕ} 0 1 = cc in absurd (omega arith)
 
-    short : (x : Read Plan) → planRead x .answer ≡ Accepted → length buffer < roomAsked → madeBy buffer (planRead x .answer) (planRead x .graph) .answer ≡ PlanFault 30 0
+    short : (x : Read Plan) → planRead x .answer ≡ Accepted → length buffer < roomAsked → madeBy buffer (planRead x .answer) (planRead x .plan .graph) .answer ≡ PlanFault 30 0
     short (Refused n at) e h = let z : _≡_ {A = ℕ} 0 1 = cc in absurd (omega arith)
     short (Got p next) e h = rw (lt-ltb (length buffer) roomAsked h)

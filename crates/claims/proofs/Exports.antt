@@ -91,7 +91,7 @@ made-length : (P : List ℕ) → Bytes P → (buffer : List ℕ) → madeFrom P 
 unfolding madeBy planRead
 made-length P bp buffer = go (ended plan P 0) refl
   where
-    go : (x : Read Plan) → ended plan P 0 ≡ x → madeBy buffer (planRead x .answer) (planRead x .graph) .length ≤ roomAsked
+    go : (x : Read Plan) → ended plan P 0 ≡ x → madeBy buffer (planRead x .answer) (planRead x .plan .graph) .length ≤ roomAsked
     go (Refused r q) e = omega arith
     go (Got p next) e = test (ltb (length buffer) roomAsked)
       where

@@ -30,7 +30,7 @@ use Rattle.checker.specs.Check.{planGraph, onCertificate, onPlan, checkOf, cert
 use Rattle.claims.specs.Session.{due}
 use Rattle.claims.specs.Calls.{Finishes, sessionOn, Replayed}
 use Rattle.claims.proofs.Checking.{plan-simple, plan-few, on-certificate}
-use Rattle.claims.proofs.Sessions.{Opens, Opens.refused, Opens.accepted, opens, plan-count, Building, start-step, start-building, path-step, path-building, closing-is, closed}
+use Rattle.claims.proofs.Sessions.{Opens, Opens.refused, Opens.accepted, opens, Building, start-step, start-building, path-step, path-building, closing-is, closed}
 
 -- a step that was accepted had something to read
 accepted-got : {A : Type 0} (on : Read A → Stepped) → ((n at : ℕ) → on (Refused n at) .answer ≡ CertificateFault n at) → (x : Read A) → on x .answer ≡ Accepted → (a : A) × (next : ℕ) × (x ≡ Got a next)
@@ -47,16 +47,16 @@ module _ (p : Plan) (al : Allowed p) where
   unfolding opening
   opening-read = ap (λ (x : Read Plan). onOpening x) (ended-back plan-law {v = p} refl al)
 
-  opening-there : opening (planBytes p) .answer ≡ Accepted → p .n + 2 ≤ length (p .edges)
+  opening-there : opening (planBytes p) .answer ≡ Accepted → p .n + 2 ≤ pairCount p
   opening-there e = on (opens (Got p (length (planBytes p))))
     where
-      on : Opens (Got p (length (planBytes p))) → p .n + 2 ≤ length (p .edges)
+      on : Opens (Got p (length (planBytes p))) → p .n + 2 ≤ pairCount p
       on (refused r q f) = let z : _≡_ {A = ℕ} 0 1 = cc (ap (λ (x : Opened). x .answer) (opening-read ∙ f)) in absurd (omega arith)
-      on (accepted q next g enough f) = carry (λ v n. v .n + 2 ≤ length (v .edges)) (sym g) enough
+      on (accepted q next g enough f) = carry (λ v n. v .n + 2 ≤ pairCount v) (sym g) enough
 
-  opening-back : p .n + 2 ≤ length (p .edges) → opening (planBytes p) ≡ record { answer = Accepted; session = openedOn (graphOf p) }
+  opening-back : p .n + 2 ≤ pairCount p → opening (planBytes p) ≡ record { answer = Accepted; session = openedOn (graphOf p) }
   unfolding graphOf
-  opening-back h = opening-read ∙ rw (le-ltb (length (p .edges)) (p .n + 2) h)
+  opening-back h = opening-read ∙ rw (le-ltb (pairCount p) (p .n + 2) h)
 
   -- THE START is accepted where it is read
   start-got : (part : List ℕ) (x : (ℕ × (ℕ × (ℕ × ℕ))) × List Path) (next : ℕ) → start (planGraph p) part 0 ≡ Got x next
@@ -104,12 +104,11 @@ module _ (p : Plan) (al : Allowed p) where
     build-replayed : (a b c d : ℕ) (six further : List Path) (next : ℕ) → ended (certificate (planGraph p)) C 0 ≡ Got (build a b c d six further) next → Replayed p C
     build-replayed a b c d six further next e =
         let r = accepted-calls (planGraph p) (plan-simple p al) (plan-few p al) C bytes a b c d six further next e in
-        let m = plan-count p al in
         let first = r .0 .first in
-        let opened = opening-back (omega (arith, m, r .0 .enough)) in
+        let opened = opening-back (r .0 .enough) in
         let o : sessionOn p ≡ openedOn (graphOf p) = ap (λ (x : Opened). x .session) opened in
         let st = start-got (drop 1 C) ((a, (b, (c, d))), six) first (r .0 .started) in
-        let count : length further ≡ due p = omega (arith, m, r .0 .count) in
+        let count : length further ≡ due p = r .0 .count in
         let left : length (drop (1 + first) C) ≤ r .0 .more = omega (arith, r .1, r .0 .end, length-drop (1 + first) C) in
         record {
           opened = ap (λ (x : Opened). x .answer) opened;
@@ -129,15 +128,14 @@ module _ (p : Plan) (al : Allowed p) where
         on (ears c d P es S) next f k = absurd (omega arith)
         on (build a b c d six further) next f k = build-replayed a b c d six further next f
 
-    found-graded : p .n + 2 ≤ length (p .edges) → number C 0 ≡ Got 3 1 → (x : (ℕ × (ℕ × (ℕ × ℕ))) × List Path) (first : ℕ) → start (planGraph p) (drop 1 C) 0 ≡ Got x first
+    found-graded : p .n + 2 ≤ pairCount p → number C 0 ≡ Got 3 1 → (x : (ℕ × (ℕ × (ℕ × ℕ))) × List Path) (first : ℕ) → start (planGraph p) (drop 1 C) 0 ≡ Got x first
         → Found (x .1) (due p) (drop (1 + first) C) → checkOf (planBytes p) C ≡ Grade 3
     found-graded enough three x first e c =
-        let m = plan-count p al in
         let a = x .0 .0 in
         let b = x .0 .1 in
         graded (build a (b .0) (b .1 .0) (b .1 .1) (x .1) (c .0)) (1 + first + c .1)
         (calls-accepted (planGraph p) (plan-simple p al) (plan-few p al) C bytes a (b .0) (b .1 .0) (b .1 .1) (x .1) (c .0) (1 + first + c .1)
-        (record { enough = omega arith; three = three; first = first; started = e; more = c .1; paths = c .2; count = omega (arith, c .3); closed = c .4; end = refl })
+        (record { enough = enough; three = three; first = first; started = e; more = c .1; paths = c .2; count = omega (arith, c .3); closed = c .4; end = refl })
         (omega (arith, c .5, length-drop (1 + first) C)))
 
     back : Replayed p C → checkOf (planBytes p) C ≡ Grade 3

@@ -15,14 +15,13 @@ use Rattle.connectivity.specs.Graph.{Graph, Adj, edgeCount, HasConnectivity}
 use Rattle.connectivity.specs.Path.{Path}
 use Rattle.connectivity.specs.Build.{StartRules, Steps, taken, final, furtherCount}
 use Rattle.connectivity.specs.Certificate.{Certificate.build}
-use Rattle.connectivity.proofs.Edges.{fromEdges-count}
 use Rattle.connectivity.proofs.Steps.{final-append, steps-append}
 use Rattle.connectivity.proofs.Soundness.{rules-connectivity}
 use Rattle.reading.specs.Plan.{Plan, Allowed, plan}
 use Rattle.reading.specs.Code.{graphOf}
 use Rattle.graph.specs.declared.GraphTable.{GraphTable}
 use Rattle.reading.proofs.Plans.{plan-law}
-use Rattle.reading.proofs.Adjacency.{edge-list, graph-listed}
+use Rattle.reading.proofs.Adjacency.{graph-listed}
 use Rattle.certificates.specs.Tests.{allBelow, isBranch}
 use Rattle.certificates.specs.Records.{start as readStart, furtherPath}
 use Rattle.certificates.proofs.Decide.{decide-all}
@@ -81,20 +80,16 @@ never-opened (c ∷ cs) = rw (never-accepts c) (never-opened cs)
 -- OPENING: refused, with a session never opened; or accepted, on a plan that was read and has enough edges
 pub data Opens (x : Read Plan) : Type 0 where
   refused : (r q : ℕ) → onOpening x ≡ record { answer = PlanFault r q; session = noSession } → Opens x
-  accepted : (p : Plan) (next : ℕ) → x ≡ Got p next → p .n + 2 ≤ length (p .edges) → onOpening x ≡ record { answer = Accepted; session = openedOn (graphOf p) } → Opens x
+  accepted : (p : Plan) (next : ℕ) → x ≡ Got p next → p .n + 2 ≤ pairCount p → onOpening x ≡ record { answer = Accepted; session = openedOn (graphOf p) } → Opens x
 
 pub opens : (x : Read Plan) → Opens x
 unfolding graphOf
 opens (Refused r q) = refused r q refl
-opens (Got p next) = test (ltb (length (p .edges)) (p .n + 2)) refl
+opens (Got p next) = test (ltb (pairCount p) (p .n + 2)) refl
   where
-    test : (b : Bool) → ltb (length (p .edges)) (p .n + 2) ≡ b → Opens (Got p next)
+    test : (b : Bool) → ltb (pairCount p) (p .n + 2) ≡ b → Opens (Got p next)
     test true e = refused 29 0 (rw e)
     test false e = accepted p next refl (ltb-false _ _ e) (rw e)
-
--- the plan's graph has as many edges as its record
-pub plan-count : (p : Plan) → Allowed p → edgeCount (planGraph p) ≡ length (p .edges)
-plan-count p al = fromEdges-count (p .n) (p .edges) (edge-list p al)
 
 -- a session that was started on a plan, its build showing these links
 pub record Building (p : Plan) (s : Session) (links : List Path) : Type 0 where
@@ -153,7 +148,7 @@ module _ (p : Plan) (al : Allowed p) where
     unfolding pathStep graphOf
     path-step part =
         ap (λ (b : Bool). cond (b && ltb (s .taken) (pathCount s)) (onPath s (readIn (s .graph))) (refusedStep s 31 0)) (h .started)
-        ∙ ap (λ (g : GraphTable). cond (ltb (s .taken) (furtherCount (g .m) (g .n))) (onPath s (readIn g)) (refusedStep s 31 0)) (h .graph)
+        ∙ ap (λ (g : GraphTable). cond (ltb (s .taken) (furtherCount (g .d) (g .n))) (onPath s (readIn g)) (refusedStep s 31 0)) (h .graph)
         ∙ ap (λ (x : Read Path). cond (ltb (s .taken) (due p)) (onPath s x) (refusedStep s 31 0)) (rows-read (λ g. buildPath g (s .build)) part ∙ shows-path (planGraph p) (h .shows) part 0)
       where
         readIn : GraphTable → Read Path
@@ -228,17 +223,16 @@ module _ (p : Plan) (al : Allowed p) where
   given (close ∷ cs) bytes s g = given cs bytes (closeStep s .session) (rw (close-same s) g)
 
   -- a closing that is accepted answers the plan's connectivity
-  given-close : p .n + 2 ≤ length (p .edges) → (s : Session) → Given p s → (k : ℕ) → closeStep s .answer ≡ Grade k → HasConnectivity (planGraph p) k
+  given-close : p .n + 2 ≤ pairCount p → (s : Session) → Given p s → (k : ℕ) → closeStep s .answer ≡ Grade k → HasConnectivity (planGraph p) k
   unfolding closeStep
   given-close enough s (waiting e) k f = let z : _≡_ {A = ℕ} 0 1 = cc (rw e at f) in absurd (omega arith)
   given-close enough s (begun b) k f =
       let r = closed (b .building) f in
-      let m = plan-count p al in
       subst (λ (j : ℕ). HasConnectivity (planGraph p) j) (r .2) (rules-connectivity (planGraph p) (plan-simple p al) (build (b .a) (b .b) (b .c) (b .d) (b .six) (b .further))
       (record {
         first = b .rules;
-        enough = omega (arith, m);
-        count = omega (arith, m, b .count, r .0);
+        enough = enough;
+        count = omega (arith, b .count, r .0);
         steps = b .steps;
         all-branch = decide-all (decide-branch (final (b .six) (b .further))) (p .n) .holds (r .1);
       }))

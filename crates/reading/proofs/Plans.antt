@@ -98,9 +98,9 @@ accepted s bytes e =
     (t .0, q .1, q .0, ap (λ (r : PlanRead). r .plan) (got (ended plan s 0) (t .0) (t .1) (t .2)))
 
 -- and its graph is the plan's
-pub accepted-graph : (s : List ℕ) {p : Plan} → wholePlan s .plan ≡ tableOf p → wholePlan s .plan .graph ≡ graphOf p
+pub accepted-graph : (s : List ℕ) (p : Plan) → wholePlan s .plan ≡ tableOf p → wholePlan s .plan .graph ≡ graphOf p
 unfolding tableOf
-accepted-graph s e = ap (λ (t : PlanTable). t .graph) e
+accepted-graph s p e = ap (λ (t : PlanTable). t .graph) e
 
 pub accepts : (p : Plan) → Allowed p → wholePlan (planBytes p) ≡ record { answer = Accepted; plan = tableOf p; next = length (planBytes p) }
 accepts p a = got (ended plan (planBytes p) 0) p (length (planBytes p)) (ended-back plan-law {v = p} refl a)
