@@ -21,33 +21,6 @@ abbrev μ-loop : tie.MeasureT-loop
 loop-holds : tie.Need-loop-holds Inv-loop μ-loop
 loop-holds c = (omega arith, measure-start _ _)
 
-cast-k : tie.Need-cast-k Inv-loop μ-loop
-cast-k c = search needs
-
-mul-k : tie.Need-mul-k Inv-loop μ-loop
-mul-k c = search needs
-
-mul-u : tie.Need-mul-u Inv-loop μ-loop
-mul-u c = search needs
-
-element-copy-out-u : tie.Need-element-copy-out-u Inv-loop μ-loop
-element-copy-out-u c = search needs
-
-add-v : tie.Need-add-v Inv-loop μ-loop
-add-v c = search needs
-
-mul-v : tie.Need-mul-v Inv-loop μ-loop
-mul-v c = search needs
-
-element-copy-out-v : tie.Need-element-copy-out-v Inv-loop μ-loop
-element-copy-out-v c = search needs
-
-proper-requires : tie.Need-proper-requires Inv-loop μ-loop
-proper-requires c κs = search needs
-
-follows-requires : tie.Need-follows-requires Inv-loop μ-loop
-follows-requires c κs = search needs
-
 returns : tie.Need-returns Inv-loop μ-loop
 returns c =
     let x = c .before .before .before .before in
@@ -58,28 +31,16 @@ returns c =
     (λ w. measure-behind _ _ (l .inv .1) (x .loop-test .taken) (sym (w .1 .ensures) ∙ not-true _ (w .2 .taken))) (c .if1 .came) in
     rw no
 
-number-length-requires : tie.Need-number-length-requires Inv-loop μ-loop
-number-length-requires c κs = search needs
-
 add-bytes : tie.Need-add-bytes Inv-loop μ-loop
 add-bytes c =
     let l = c .before .before .before .before .before .before .before .before in
     omega (arith, few-bytes (edgeAt (l .before .args .ends .now) (l .loop .i) .0), l .loop .inv .1 .short)
-
-number-length-requires-2 : tie.Need-number-length-requires-2 Inv-loop μ-loop
-number-length-requires-2 c κs = search needs
 
 add-bytes-2 : tie.Need-add-bytes-2 Inv-loop μ-loop
 add-bytes-2 c =
     let l = c .before .before .before .before .before .before .before .before .before in
     let e = edgeAt (l .before .args .ends .now) (l .loop .i) in
     omega (arith, few-bytes (e .0), few-bytes (e .1), l .loop .inv .1 .short)
-
-add-i : tie.Need-add-i Inv-loop μ-loop
-add-i c = search needs
-
-loop-less : tie.Need-loop-less Inv-loop μ-loop
-loop-less c = search needs
 
 loop-again : tie.Need-loop-again Inv-loop μ-loop
 loop-again c =
@@ -97,5 +58,7 @@ returns-2 c =
     rw (e .0, e .1)
 
 pub measure-spec : {M : Type 1} → statement M
-measure-spec = tie.close (tie.spec Inv-loop μ-loop loop-holds cast-k mul-k mul-u element-copy-out-u add-v mul-v element-copy-out-v proper-requires follows-requires
-    returns number-length-requires add-bytes number-length-requires-2 add-bytes-2 add-i loop-less loop-again returns-2)
+measure-spec = tie.close (tie.spec
+    Inv-loop μ-loop loop-holds (λ c. search needs) (λ c. search needs) (λ c. search needs) (λ c. search needs) (λ c. search needs)
+    (λ c. search needs) (λ c. search needs) (λ c κs. search needs) (λ c κs. search needs) returns (λ c κs. search needs) add-bytes
+    (λ c κs. search needs) add-bytes-2 (λ c. search needs) (λ c. search needs) loop-again returns-2)

@@ -1,4 +1,4 @@
--- `graph::number_length` meets its contract. Assumes nothing.
+-- `writing::number_length` meets its contract. Assumes nothing.
 use mathlib.Core.Path.{sym, ap}
 use lib.ListN.{length}
 use Rattle.record.proofs.Write.{one-byte, long-bytes}

@@ -23,9 +23,6 @@ put-number-requires-2 c κs =
     let r : a .at + length (numberBytes (a .u)) ≤ length (a .out .now) = omega (arith, k .pre .2, edge-bytes (a .u, a .v)) in
     (k .pre .1, both-room _ _ _ r (numberBytes (a .v)) (x .put-number .ensures) (k .pre .2))
 
-same-length : tie.Need-same-length
-same-length c = search needs
-
 returns : tie.Need-returns
 returns c =
     let y = c .before .before in
@@ -36,4 +33,5 @@ returns c =
     both-put _ _ _ r (numberBytes (a .v)) (x .put-number .ensures) (y .put-number2 .ensures)
 
 pub put-edge-spec : {M : Type 1} → statement M
-put-edge-spec = tie.close (tie.spec put-number-requires put-number-requires-2 same-length returns)
+put-edge-spec = tie.close (tie.spec
+    put-number-requires put-number-requires-2 (λ c. search needs) returns)

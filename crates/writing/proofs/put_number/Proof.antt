@@ -1,4 +1,4 @@
--- `graph::put_number` meets its contract: there is room, so the number is written. Assumes nothing.
+-- `writing::put_number` meets its contract: there is room, so the number is written. Assumes nothing.
 use borrow.Author.Needs.{needs}
 use Rattle.record.proofs.Write.{can-write, put-told, put-fails}
 use Rattle.writing.proofs.put_number.Statement.{statement}
