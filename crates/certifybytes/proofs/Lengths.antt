@@ -46,7 +46,7 @@ plan-short p a =
     omega (arith, e, l, m, few-bytes (p .n), few-bytes (length (p .edges)), a .few)
 
 -- only an accepted plan gets a grade
-grade-accepted : (x : Read Plan) (k : ℕ) → madeBy zeros (planRead x .answer) (planRead x .graph) .answer ≡ Grade k → planRead x .answer ≡ Accepted
+grade-accepted : (x : Read Plan) (k : ℕ) → madeBy zeros (planRead x .answer) (planRead x .plan .graph) .answer ≡ Grade k → planRead x .answer ≡ Accepted
 unfolding madeBy planRead
 grade-accepted (Got p next) k e = refl
 grade-accepted (Refused r q) k e = let z : _≡_ {A = ℕ} 0 1 = cc in absurd (omega arith)

@@ -2,14 +2,15 @@
 use Prim.Native.Nat.{ℕ, _<_}
 use mathlib.Core.List.{List, _++_}
 use mathlib.Core.Path.{_≡_, refl, sym, _∙_, subst}
-use mathlib.Core.Logic.{_↔_}
+use mathlib.Core.Logic.{_↔_, inl, ⊎-elim}
 use native.Mathlib.Omega.{arith}
 use Rattle.record.specs.Read.{Read, Read.Got, Read.Refused, Bytes, ended}
 use Rattle.record.specs.declared.Answer.the-variants.{Grade}
 use Rattle.record.proofs.Laws.{ended-there, ended-back}
-use Rattle.connectivity.specs.Graph.{Simple, HasConnectivity}
+use Rattle.connectivity.specs.Lists.{In}
+use Rattle.connectivity.specs.Graph.{Simple, HasConnectivity, edges}
 use Rattle.connectivity.specs.Certificate.{Certificate, Certificate.separation, Certificate.tree, Certificate.ears, Certificate.build, kind, grade, Rules, BuildRules}
-use Rattle.connectivity.proofs.Edges.{fromEdges-simple}
+use Rattle.connectivity.proofs.Edges.{edge-sorted, in-edges, edges-in, in-listed, listed-in}
 use Rattle.connectivity.proofs.Soundness.{rules-connectivity, grade-kind}
 use Rattle.connectivity.proofs.Main.{edges-once}
 use Rattle.connectivity.proofs.Sequence.{rules-sequence, sequence-rules}
@@ -22,6 +23,7 @@ use Rattle.certificates.specs.Encoding.{certificateBytes}
 use Rattle.certificates.proofs.Accepted.{accepted-there, accepted-back}
 use Rattle.checker.specs.Check.{planGraph, onCertificate, certificateAnswer, onPlan, checkOf}
 use Rattle.claims.specs.Certified.{HasFigure, Certified, Sequenced}
+use Rattle.claims.specs.Demands.{EachPairOnce}
 use Rattle.record.specs.Number.{numberLimit}
 
 -- the graph of an allowed plan is simple, and small enough for numbers

@@ -22,7 +22,7 @@ use Rattle.connectivity.specs.Certificate.{Certificate, Rules}
 use Rattle.reading.specs.Plan.{Plan, Allowed, plan, planBytes}
 use Rattle.reading.specs.Code.{graphOf, wholePlan, planRead}
 use Rattle.reading.specs.declared.PlanRead.{PlanRead}
-use Rattle.reading.proofs.Plans.{plan-law, accepted, accepts, injective}
+use Rattle.reading.proofs.Plans.{plan-law, accepted, accepted-graph, accepts, injective}
 use Rattle.reading.proofs.Adjacency.{graph-listed}
 use Rattle.construction.proofs.PlanLaws.{plan-drawn, plan-edges}
 use Rattle.construction.proofs.CertificateLaws as construction

@@ -11,3 +11,4 @@ pub mod Lines
 pub mod Decimal
 pub mod Printed
 pub mod Editions
+pub mod Doubles

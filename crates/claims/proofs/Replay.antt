@@ -27,7 +27,7 @@ use Rattle.sessions.specs.declared.Opened.{Opened}
 use Rattle.sessions.specs.declared.Stepped.{Stepped}
 use Rattle.sessions.specs.Session.{openedOn, onOpening, opening, onStart, startStep, onPath, pathStep}
 use Rattle.checker.specs.Check.{planGraph, onCertificate, onPlan, checkOf, certificateAnswer}
-use Rattle.claims.specs.Session.{due}
+use Rattle.claims.specs.Session.{pairCount, due}
 use Rattle.claims.specs.Calls.{Finishes, sessionOn, Replayed}
 use Rattle.claims.proofs.Checking.{plan-simple, plan-few, on-certificate}
 use Rattle.claims.proofs.Sessions.{Opens, Opens.refused, Opens.accepted, opens, Building, start-step, start-building, path-step, path-building, closing-is, closed}

@@ -39,7 +39,7 @@ use Rattle.refinement.proofs.Start.{start-same, shows-start}
 use Rattle.refinement.proofs.Reading.{shows-path, shows-read}
 use Rattle.checker.specs.Check.{planGraph}
 use Rattle.claims.specs.Certified.{HasFigure}
-use Rattle.claims.specs.Session.{due}
+use Rattle.claims.specs.Session.{pairCount, due}
 use Rattle.claims.specs.Calls.{Call, Call.start, Call.path, Call.close, called, sessionAfter, CallBytes}
 use Rattle.claims.proofs.Checking.{plan-simple, plan-few}
 use Rattle.vertexset.specs.Set.{capacity}

@@ -2,22 +2,22 @@
 -- its pairs of adjacent vertices. Assumes nothing.
 use Prim.Native.Nat.{ℕ, _+_, _<_, _≤_}
 use mathlib.Core.List.{List, [], _∷_}
-use mathlib.Core.Bool.{Bool, true, false, cond, _&&_}
+use mathlib.Core.Bool.{Bool, true, false, cond, _&&_, or-true}
 use mathlib.Core.Logic.{_⊎_, inl, inr, ⊎-elim, ⊎-map}
 use mathlib.Core.Path.{_≡_, refl, sym, ap, fun-ext, _∙_}
 use native.Mathlib.Omega.{arith}
-use lib.Dec.{eqb}
+use lib.Dec.{ltb, eqb}
 use lib.ListN.{length}
-use borrow.Author.Tests.{eqb-true, eqb-false}
+use borrow.Author.Tests.{eqb-true, eqb-false, lt-ltb, le-leb, eq-eqb}
 use Rattle.record.specs.Read.{Each, folded}
 use Rattle.connectivity.specs.Lists.{In}
 use Rattle.connectivity.specs.Graph.{isPair, listed, fromEdges, Simple, edgeCount}
 use Rattle.connectivity.proofs.Lists.{and-true}
 use Rattle.connectivity.proofs.Edges.{EdgeList, EdgeBefore, AscendingEdges, ascending-nodup, listed-in, in-listed, fromEdges-simple, fromEdges-count}
-use Rattle.graph.specs.Limits.{minVertices}
-use Rattle.reading.specs.Plan.{EdgeAllowed, onceAfter}
+use Rattle.graph.specs.Limits.{minVertices, maxEdges}
+use Rattle.reading.specs.Plan.{Plan, Allowed, EdgeAllowed, proper, follows, onceAfter, once}
 use Rattle.reading.specs.Code.{countedPair, edgeLoop}
-use Rattle.reading.proofs.EdgeTests.{proper-true, follows-true, each-proper}
+use Rattle.reading.proofs.EdgeTests.{Proper, follows-true, each-proper}
 
 -- two edges are the same, or differ
 pair-same : (d e : ℕ × ℕ) → isPair d (e .0) (e .1) ≡ true → d ≡ e
@@ -145,3 +145,35 @@ module _ (n : ℕ) (es : List (ℕ × ℕ)) (big : minVertices ≤ n) (h : Each 
   -- THE LOOP COUNTS THE PAIRS OF ADJACENT VERTICES.
   pub pairs-counted : (m : ℕ) → folded (edgeLoop n m .step) ((0, 0), 0) es .1 ≡ edgeCount (fromEdges n es)
   pairs-counted m = let z : 0 + length left ≡ length left = omega arith in counts-once n m (0, 0) 0 es ∙ z ∙ sym pair-count
+
+-- edges that come one after the other, as a plan's
+before-follows : (d e : ℕ × ℕ) → EdgeBefore d e → follows d e ≡ true
+before-follows d e (inl h) = rw (lt-ltb _ _ h)
+before-follows d e (inr h) = let l : d .1 ≤ e .1 = omega (arith, h .1) in rw (eq-eqb _ _ (h .0), le-leb _ _ l) (or-true (ltb (d .0) (e .0)))
+
+ascends-each : (before : ℕ × ℕ) (es : List (ℕ × ℕ)) → AscendingEdges (before ∷ es) → Each EdgeBefore (λ d e. e) before es
+unfolding Each
+ascends-each before [] h = tt
+ascends-each before (e ∷ es) h = (h .0, ascends-each e es (h .1))
+
+each-both : (n : ℕ) (before : ℕ × ℕ) (es : List (ℕ × ℕ)) → Each EdgeBefore (λ d e. e) before es → Proper n es → Each (EdgeAllowed n) (λ d e. e) before es
+unfolding Each
+each-both n before [] h p = tt
+each-both n before (e ∷ es) h p =
+    let b = p e (inl refl) in
+    let t : proper n e ≡ true = rw (lt-ltb _ _ (b .0), lt-ltb _ _ (b .1)) in
+    ((t, before-follows before e (h .0)), each-both n e es (h .1) (λ d i. p d (inr i)))
+
+module _ (p : Plan) (a : Allowed p) where
+  -- no edge is left that is equal to the one before it ..
+  pub once-after : Each EdgeBefore (λ d e. e) (0, 0) (once p .edges)
+  once-after = ascends-each (0, 0) (once p .edges) (once-ascends (p .n) (0, 0) (p .edges) (a .each))
+
+  -- .. and those left are a plan
+  pub once-allowed : Allowed (once p)
+  once-allowed = record {
+    least = a .least;
+    most = a .most;
+    few = omega (arith, once-most (0, 0) (p .edges), a .few);
+    each = each-both (p .n) (0, 0) (once p .edges) once-after (λ e i. each-proper (p .n) (0, 0) (p .edges) (a .each) e (once-in (0, 0) (p .edges) e i));
+  }
