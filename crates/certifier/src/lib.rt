@@ -17,7 +17,6 @@ ghost use Rattle.certifier.specs.Made.{madeFrom, filledFrom, draftOf, dr
 use detours::Cut;
 use detours::Ears;
 use graph::GraphTable;
-use reading::PlanTable;
 use record::Answer;
 use record::Number;
 use record::Written;
@@ -284,8 +283,7 @@ fn decide(plan: &[u8], room: usize) -> Draft
     ensures { λ r. ⌜ r ≡ draftFrom (now (plan .entry)) room ⌝ }
 {
     let mut rows = [0u64; GraphTable::ROW_WORDS];
-    let mut ends = [0u16; PlanTable::ENDS];
-    let p = reading::read_plan_arrays(plan, &mut rows, &mut ends);
+    let p = reading::read_plan_rows(plan, &mut rows);
     let answer = p.answer;
     let Answer::Accepted = answer else {
         return no_draft(answer);

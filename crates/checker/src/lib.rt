@@ -9,7 +9,6 @@ ghost use Rattle.checker.specs.Check.{checkOf, gradeOf};
 ghost use Rattle.checker.specs.Code.{bodyEnd, onEnd, rowsAnswer};
 use graph::GraphTable;
 use paths::Item;
-use reading::PlanTable;
 use record::Answer;
 use record::Number;
 
@@ -98,8 +97,7 @@ pub fn check(plan: &[u8], certificate: &[u8]) -> Answer
     ensures { λ r. ⌜ r ≡ checkOf (now (plan .entry)) (now (certificate .entry)) ⌝ }
 {
     let mut rows = [0u64; GraphTable::ROW_WORDS];
-    let mut ends = [0u16; PlanTable::ENDS];
-    let read = reading::read_plan_arrays(plan, &mut rows, &mut ends);
+    let read = reading::read_plan_rows(plan, &mut rows);
     let answer = read.answer;
     let Answer::Accepted = answer else {
         return answer;
@@ -112,8 +110,7 @@ pub fn grade(input: &[u8]) -> Graded
     ensures { λ r. ⌜ r ≡ gradeOf (now (input .entry)) ⌝ }
 {
     let mut rows = [0u64; GraphTable::ROW_WORDS];
-    let mut ends = [0u16; PlanTable::ENDS];
-    let read = reading::read_leading_arrays(input, &mut rows, &mut ends);
+    let read = reading::read_leading_rows(input, &mut rows);
     let answer = read.answer;
     let Answer::Accepted = answer else {
         return Graded { answer, n: 0, m: 0 };

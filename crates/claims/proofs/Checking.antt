@@ -10,7 +10,8 @@ use Rattle.record.proofs.Laws.{ended-there, ended-back}
 use Rattle.connectivity.specs.Lists.{In}
 use Rattle.connectivity.specs.Graph.{Simple, HasConnectivity, edges}
 use Rattle.connectivity.specs.Certificate.{Certificate, Certificate.separation, Certificate.tree, Certificate.ears, Certificate.build, kind, grade, Rules, BuildRules}
-use Rattle.connectivity.proofs.Edges.{edge-sorted, in-edges, edges-in, in-listed, listed-in}
+use Rattle.connectivity.proofs.Paths.{edge-sorted}
+use Rattle.connectivity.proofs.Edges.{in-edges, edges-in, in-listed, listed-in}
 use Rattle.connectivity.proofs.Soundness.{rules-connectivity, grade-kind}
 use Rattle.connectivity.proofs.Main.{edges-once}
 use Rattle.connectivity.proofs.Sequence.{rules-sequence, sequence-rules}

@@ -73,7 +73,7 @@ module _ (p : Plan) (a : Allowed p) where
   fills buffer = made p a buffer .1 ∙ ap (λ (g : GraphTable). filledBy buffer Accepted g) (sym same-table) ∙ sym (made (once p) allowed buffer .1)
 
   -- a session is opened on the graph alone
-  onGraph : GraphTable → Opened
+  abbrev onGraph : GraphTable → Opened
   onGraph g = cond (ltb (g .d) (g .n + 2)) (record { answer = PlanFault 29 0; session = noSession }) (record { answer = Accepted; session = openedOn g })
 
   opened : (q : Plan) → Allowed q → opening (planBytes q) ≡ onGraph (graphOf q)

@@ -56,6 +56,16 @@ starred =
     -- and a cable before its predecessor is 6
     example (4 ∷ 2 ∷ 0 ∷ 2 ∷ 0 ∷ 1 ∷ []) [] (PlanFault 6 4) ∷ []
 
+-- request 1 of document 02: A, B and C with the cable 0 1 doubled. C has then six cables, as many as n + 2, and still five pairs.
+abbrev pub doubledB : List ℕ
+doubledB = 4 ∷ 6 ∷ 0 ∷ 1 ∷ 0 ∷ 1 ∷ 0 ∷ 2 ∷ 0 ∷ 3 ∷ 1 ∷ 2 ∷ 1 ∷ 3 ∷ []
+
+abbrev pub doubled : List Example
+doubled =
+    example (4 ∷ 7 ∷ 0 ∷ 1 ∷ 0 ∷ 1 ∷ 0 ∷ 2 ∷ 0 ∷ 3 ∷ 1 ∷ 2 ∷ 1 ∷ 3 ∷ 2 ∷ 3 ∷ []) (exampleA .certificate) (Grade 3) ∷
+    example doubledB (2 ∷ 0 ∷ 1 ∷ 2 ∷ 3 ∷ 0 ∷ 1 ∷ 2 ∷ 3 ∷ 0 ∷ 3 ∷ 1 ∷ 1 ∷ 2 ∷ []) (Grade 2) ∷
+    example doubledB (3 ∷ 0 ∷ 1 ∷ 2 ∷ 3 ∷ 0 ∷ 1 ∷ 2 ∷ 3 ∷ 0 ∷ 3 ∷ 1 ∷ 1 ∷ 2 ∷ []) (CertificateFault 29 0) ∷ []
+
 -- the checker answers each as document 01 says
 abbrev pub AllAnswered : List Example → Type 0
 AllAnswered [] = Unit {0}

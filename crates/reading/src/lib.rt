@@ -183,7 +183,7 @@ fn read_edges<'a>(
 
 // A plan at the start of s, up to its last edge, whatever follows. Its edges are joined in the rows and laid in the array as they
 // come, so those before a fault stay in them.
-pub fn read_leading_arrays<'a>(
+fn read_leading_arrays<'a>(
     s: &'a [u8],
     rows: &'a mut [u64; GraphTable::ROW_WORDS],
     ends: &'a mut [u16; PlanTable::ENDS],
@@ -213,7 +213,7 @@ pub fn read_leading_arrays<'a>(
 }
 
 // A whole plan record: a byte after its last edge is refused.
-pub fn read_plan_arrays<'a>(
+fn read_plan_arrays<'a>(
     s: &'a [u8],
     rows: &'a mut [u64; GraphTable::ROW_WORDS],
     ends: &'a mut [u16; PlanTable::ENDS],
@@ -232,6 +232,23 @@ pub fn read_plan_arrays<'a>(
         return refused(7, next);
     }
     head
+}
+
+// The same without the array of edges, for callers that only need the rows.
+pub fn read_leading_rows<'a>(s: &'a [u8], rows: &'a mut [u64; GraphTable::ROW_WORDS]) -> PlanHead
+    ensures { λ r. ⌜ r ≡ headOf (leadingPlan (now (s .entry))) ⌝ }
+    ensures { λ r. ⌜ now (rows .exit) ≡ rowsLeft (now (rows .entry)) (now (s .entry)) ⌝ }
+{
+    let mut ends = [0u16; PlanTable::ENDS];
+    read_leading_arrays(s, rows, &mut ends)
+}
+
+pub fn read_plan_rows<'a>(s: &'a [u8], rows: &'a mut [u64; GraphTable::ROW_WORDS]) -> PlanHead
+    ensures { λ r. ⌜ r ≡ headOf (wholePlan (now (s .entry))) ⌝ }
+    ensures { λ r. ⌜ now (rows .exit) ≡ rowsLeft (now (rows .entry)) (now (s .entry)) ⌝ }
+{
+    let mut ends = [0u16; PlanTable::ENDS];
+    read_plan_arrays(s, rows, &mut ends)
 }
 
 // What was read into arrays that were bare, as a plan by value.
