@@ -21,7 +21,7 @@ use Rattle.connectivity.specs.Path.{Path}
 use Rattle.connectivity.specs.Certificate.{Certificate, Certificate.separation, Certificate.tree, Certificate.ears, Certificate.build, grade}
 use Rattle.connectivity.proofs.Lists.{member-in}
 use Rattle.reading.specs.Plan.{Plan, Allowed, planBytes, edge, plan}
-use Rattle.reading.specs.Code.{graphOf, planRead, wholePlan}
+use Rattle.reading.specs.Code.{graphOf, tableOf, planRead, wholePlan}
 use Rattle.reading.proofs.Plans.{plan-law}
 use Rattle.certificates.specs.Tests.{nobody, Start, allBelow}
 use Rattle.certificates.specs.Records.{vertex, sideVertex, side, pair, vertexList, path, ear, startPath, furtherPath, branchFour, start, body, certificate}
@@ -207,7 +207,7 @@ grade-made p a =
     subst (λ (x : Answer). OneOf listed.checkingAnswers (length P) (length C) x) (made-accepted p a) (checking P C)
 
 making : (P : List ℕ) → Bytes P → (buffer : List ℕ) → OneOf listed.makingAnswers (length P) 0 (madeFrom P buffer .answer)
-unfolding planRead madeBy
+unfolding planRead madeBy tableOf
 making P bp buffer = go (ended plan P 0) refl (from-0 (whole-by (λ r h. inr (inr h)) (inl refl)) P)
   where
     go : (x : Read Plan) → ended plan P 0 ≡ x → Ends (λ r. In r (7 ∷ 30 ∷ inPlan)) P x

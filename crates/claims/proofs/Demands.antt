@@ -20,7 +20,7 @@ use Rattle.connectivity.proofs.Additions.{topological-simple}
 use Rattle.connectivity.proofs.Sequence.{build-tally, rule-adds, adds-rule}
 use Rattle.connectivity.specs.Certificate.{Certificate, Rules}
 use Rattle.reading.specs.Plan.{Plan, Allowed, plan, planBytes}
-use Rattle.reading.specs.Code.{graphOf, wholePlan, planRead}
+use Rattle.reading.specs.Code.{graphOf, tableOf, wholePlan, planRead}
 use Rattle.reading.specs.declared.PlanRead.{PlanRead}
 use Rattle.reading.proofs.Plans.{plan-law, accepted, accepted-graph, accepts, injective}
 use Rattle.reading.proofs.Adjacency.{graph-listed}
@@ -107,7 +107,7 @@ filled-on P buffer x e = ap (λ (r : Read Plan). filledBy buffer (planRead r .an
 
 -- a grade that the maker answers is the kind of that certificate
 made-grade : (P : List ℕ) → Bytes P → (buffer : List ℕ) (k : ℕ) → madeFrom P buffer .answer ≡ Grade k → HasFigure P k
-unfolding madeBy planRead
+unfolding madeBy planRead tableOf
 made-grade P bp buffer k e = go (ended plan P 0) refl (ap (λ (m : Made). m .answer) (sym (made-on P buffer (ended plan P 0) refl)) ∙ e)
   where
     go : (x : Read Plan) → ended plan P 0 ≡ x → madeBy buffer (planRead x .answer) (planRead x .plan .graph) .answer ≡ Grade k → HasFigure P k
@@ -148,14 +148,14 @@ figure-computed p a k = connectivity-exactly (planGraph p) (plan-simple p a) k
 
 -- and the maker always writes one
 made-at : (p : Plan) → Allowed p → (buffer : List ℕ) → roomAsked ≤ length buffer → madeFrom (planBytes p) buffer ≡ made (Grade (gradeMade (graphOf p))) (length (certificateOf (graphOf p)))
-unfolding madeBy
+unfolding madeBy tableOf
 made-at p a buffer h = rw (accepts p a, le-ltb (length buffer) roomAsked h)
 
 over-start : (buffer bytes : List ℕ) → overwritten buffer 0 bytes ≡ bytes ++ drop (length bytes) buffer
 over-start buffer bytes = let e : 0 + length bytes ≡ length bytes = omega arith in ap (λ (k : ℕ). bytes ++ drop k buffer) e
 
 filled-at : (p : Plan) → Allowed p → (buffer : List ℕ) → roomAsked ≤ length buffer → filledFrom (planBytes p) buffer ≡ certificateOf (graphOf p) ++ drop (length (certificateOf (graphOf p))) buffer
-unfolding filledBy
+unfolding filledBy tableOf
 filled-at p a buffer h = rw (accepts p a, le-ltb (length buffer) roomAsked h) (over-start buffer (certificateOf (graphOf p)))
 
 writes : (p : Plan) → Allowed p → (buffer : List ℕ) → roomAsked ≤ length buffer → Writes (planBytes p) buffer
@@ -179,7 +179,7 @@ append-same (x ∷ a) [] c d n e = absurd (omega arith)
 append-same (x ∷ a) (y ∷ b) c d n e = let h : x ≡ y = cc in let t : a ++ c ≡ b ++ d = cc in rw (h, append-same a b c d (omega arith) t)
 
 written-is : (P buffer : List ℕ) (x : Writes P buffer) → x .certificate ≡ certificateOf (wholePlan P .plan .graph)
-unfolding madeBy filledBy planRead
+unfolding madeBy filledBy planRead tableOf
 written-is P buffer x = go (ended plan P 0) (ltb (length buffer) roomAsked) refl (x .answer) (x .begins)
   where
     go : (r : Read Plan) (b : Bool) → ltb (length buffer) roomAsked ≡ b → madeBy buffer (planRead r .answer) (planRead r .plan .graph) ≡ made (Grade (x .grade)) (length (x .certificate))
@@ -202,7 +202,7 @@ certificate-of-plan P buffer p i x =
 
 -- refusals
 pub refused-keeps : RefusedKeeps
-unfolding madeBy filledBy planRead
+unfolding madeBy filledBy planRead tableOf
 refused-keeps P buffer = record { kept = λ r q e. kept (ended plan P 0) (ltb (length buffer) roomAsked) refl r q e; fault = λ r q e. fault (ended plan P 0) r q e; too-short = λ e h. short (ended plan P 0) e h }
   where
     kept : (x : Read Plan) (b : Bool) → ltb (length buffer) roomAsked ≡ b → (r q : ℕ) → madeBy buffer (planRead x .answer) (planRead x .plan .graph) .answer ≡ PlanFault r q

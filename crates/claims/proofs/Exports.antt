@@ -19,7 +19,7 @@ use Rattle.record.proofs.Laws.{ended-there}
 use Rattle.connectivity.specs.Lists.{In, all}
 use Rattle.connectivity.proofs.Lists.{all-true}
 use Rattle.reading.specs.Plan.{Plan, plan}
-use Rattle.reading.specs.Code.{graphOf, planRead, wholePlan}
+use Rattle.reading.specs.Code.{graphOf, tableOf, planRead, wholePlan}
 use Rattle.reading.proofs.Plans.{plan-law}
 use Rattle.certifier.specs.declared.Made.{Made}
 use Rattle.certifier.specs.Made.{roomAsked, certificateOf, gradeMade, made, madeBy, madeFrom}
@@ -88,7 +88,7 @@ made-decoded m f = go (m .answer) f
 
 -- where it is a grade: the length is at most the room that is asked for
 made-length : (P : List ℕ) → Bytes P → (buffer : List ℕ) → madeFrom P buffer .length ≤ roomAsked
-unfolding madeBy planRead
+unfolding madeBy planRead tableOf
 made-length P bp buffer = go (ended plan P 0) refl
   where
     go : (x : Read Plan) → ended plan P 0 ≡ x → madeBy buffer (planRead x .answer) (planRead x .plan .graph) .length ≤ roomAsked
