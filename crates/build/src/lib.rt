@@ -465,15 +465,15 @@ pub fn read_build<'a>(
     read_further(s, rows, n, count, x, &mut pointers, &mut linked)
 }
 
-// How many paths come after the start, beside m edges and n vertices.
-pub fn further_count(m: u16, n: u16) -> u16
-    ensures { λ r. ⌜ r ≡ furtherCount m n ⌝ }
+// How many paths come after the start, beside n vertices, d pairs of them adjacent.
+pub fn further_count(d: u16, n: u16) -> u16
+    ensures { λ r. ⌜ r ≡ furtherCount d n ⌝ }
 {
-    if m < n {
+    if d < n {
         return 0;
     }
-    if m - n < 2 {
+    if d - n < 2 {
         return 0;
     }
-    m - n - 2
+    d - n - 2
 }

@@ -22,7 +22,7 @@ use Rattle.certificates.proofs.Paths.{further-path-law}
 use Rattle.certificates.proofs.Items.{decide-branch, each-steps, steps-each, start-law}
 use Rattle.certificates.proofs.Accepted.{certificate-law}
 
--- enough edges, the kind, a start that is accepted, as many further paths as are due, each accepted, every vertex a branch vertex
+-- enough pairs, the kind, a start that is accepted, as many further paths as are due, each accepted, every vertex a branch vertex
 pub record BuildCalls (g : Graph) (s : List ℕ) (p q r t : ℕ) (six further : List Path) (next : ℕ) : Type 0 where
   pub enough : g .n + 2 ≤ edgeCount g
   pub three : number s 0 ≡ Got 3 1

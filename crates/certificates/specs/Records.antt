@@ -98,6 +98,6 @@ body g (suc (suc (suc zero))) =
     check 28 (allBelow (g .n) (isBranch (final (x .1) further))))
 body g (suc (suc (suc (suc k)))) = λ s at. Refused 8 at
 
--- 8: the kind; 29: kind 3 with too few edges
+-- 8: the kind; 29: kind 3 with fewer than n + 2 edges (document 02: cabled pairs)
 unfoldable pub certificate : Graph → Reader Certificate
 certificate g = number needs⟨ 8 ⟩ within 0 3 needs⟨ 29 ⟩ (λ k. ltb k 3 || leb (g .n + 2) (edgeCount g)) ▹ body g

@@ -109,20 +109,20 @@ module _ (p : Plan) (a : Allowed p) where
   plan-answer s = ap (λ (g : Graph). rowsAnswer g (edgeCount (planGraph p)) s) (graph-listed p a) ∙ rows-answer (planGraph p) (fits-table p a) s
 
 -- the code's steps: the body by its kind
-module _ (g : Graph) (m : ℕ) (s : List ℕ) (at : ℕ) where
-  pub kind-body-0 : (k : ℕ) → k ≡ 0 → endRead (body g 0 s at) ≡ bodyEnd g m k s at
+module _ (g : Graph) (d : ℕ) (s : List ℕ) (at : ℕ) where
+  pub kind-body-0 : (k : ℕ) → k ≡ 0 → endRead (body g 0 s at) ≡ bodyEnd g d k s at
   unfolding bodyEnd
   kind-body-0 k e = rw e
 
-  pub kind-body-1 : (k : ℕ) → k ≡ 1 → endRead (body g 1 s at) ≡ bodyEnd g m k s at
+  pub kind-body-1 : (k : ℕ) → k ≡ 1 → endRead (body g 1 s at) ≡ bodyEnd g d k s at
   unfolding bodyEnd
   kind-body-1 k e = rw e
 
-  pub kind-body-2 : (k : ℕ) → k ≡ 2 → endRead (body g 2 s at) ≡ bodyEnd g m k s at
+  pub kind-body-2 : (k : ℕ) → k ≡ 2 → endRead (body g 2 s at) ≡ bodyEnd g d k s at
   unfolding bodyEnd
   kind-body-2 k e = rw e
 
-  pub kind-body-3 : (k : ℕ) → 3 ≤ k → endRead (buildBody g (furtherCount m (g .n)) s at) ≡ bodyEnd g m k s at
+  pub kind-body-3 : (k : ℕ) → 3 ≤ k → endRead (buildBody g (furtherCount d (g .n)) s at) ≡ bodyEnd g d k s at
   unfolding bodyEnd
   kind-body-3 zero h = absurd (omega arith)
   kind-body-3 (suc zero) h = absurd (omega arith)
@@ -130,21 +130,21 @@ module _ (g : Graph) (m : ℕ) (s : List ℕ) (at : ℕ) where
   kind-body-3 (suc (suc (suc k))) h = refl
 
 -- and the kind itself
-module _ (g : Graph) (m : ℕ) (s : List ℕ) where
-  pub kind-unread : {r p : ℕ} → asRead (numberAt s 0) ≡ Refused r p → CertificateFault r p ≡ rowsAnswer g m s
+module _ (g : Graph) (d : ℕ) (s : List ℕ) where
+  pub kind-unread : {r p : ℕ} → asRead (numberAt s 0) ≡ Refused r p → CertificateFault r p ≡ rowsAnswer g d s
   unfolding rowsAnswer number
   kind-unread e = rw e
 
   module _ {k at : ℕ} (e : Value k at ≡ numberAt s 0) where
-    pub kind-high : 3 < k → CertificateFault 8 0 ≡ rowsAnswer g m s
+    pub kind-high : 3 < k → CertificateFault 8 0 ≡ rowsAnswer g d s
     unfolding rowsAnswer number
     kind-high h = rw (← e, lt-leb k 3 h)
 
-    pub kind-few : k ≤ 3 → ltb k 3 || leb (g .n + 2) m ≡ false → CertificateFault 29 0 ≡ rowsAnswer g m s
+    pub kind-few : k ≤ 3 → ltb k 3 || leb (g .n + 2) d ≡ false → CertificateFault 29 0 ≡ rowsAnswer g d s
     unfolding rowsAnswer number
     kind-few h f = rw (← e, le-leb k 3 h, f)
 
-    pub kind-read : k ≤ 3 → ltb k 3 || leb (g .n + 2) m ≡ true → onEnd (length s) k (bodyEnd g m k s at) ≡ rowsAnswer g m s
+    pub kind-read : k ≤ 3 → ltb k 3 || leb (g .n + 2) d ≡ true → onEnd (length s) k (bodyEnd g d k s at) ≡ rowsAnswer g d s
     unfolding rowsAnswer number
     kind-read h f = rw (← e, le-leb k 3 h, f)
 
@@ -165,10 +165,10 @@ module _ (s c : List ℕ) (h : PlanHead) (e : h ≡ headOf (wholePlan s)) where
       go (Got p next) k d =
           let a = ended-there plan-law {v = p} bytes k .1 in
           let n : h .n ≡ p .n = ap (λ (y : PlanHead). y .n) d in
-          let m : h .d ≡ edgeCount (planGraph p) = ap (λ (y : PlanHead). y .d) d in
+          let q : h .d ≡ edgeCount (planGraph p) = ap (λ (y : PlanHead). y .d) d in
           let w : wholePlan s ≡ planRead (Got p next) = ap planRead k in
           let g : rows ≡ graphOf p .rows = left ∙ whole-arrays s (ap (λ (y : PlanRead). y .answer) w) .0 ∙ ap (λ (y : PlanRead). y .plan .graph .rows) w in
-          (rw n (fits-table p a), rw (n, m, g) (plan-answer p a c))
+          (rw n (fits-table p a), rw (n, q, g) (plan-answer p a c))
       go (Refused q p) k d = let z : h .answer ≡ PlanFault q p = ap (λ (y : PlanHead). y .answer) d in let y : _≡_ {A = ℕ} 0 1 = cc in absurd (omega arith)
 
   pub check-refused : NotAccepted (h .answer) → h .answer ≡ checkOf s c

@@ -1,4 +1,4 @@
--- The built graph is simple throughout; a finished build uses every edge just once, with m - n - 2 further paths.
+-- The built graph is simple throughout; a finished build uses every edge just once, with d - n - 2 further paths, d the number of edges.
 use mathlib.Core.Path.{_≡_, refl, ap, _∙_, sym, subst}
 use mathlib.Core.Logic.{inr, _≢_, inl, ⊎-elim}
 use mathlib.Core.List.{List, _++_, _∷_, [], append-assoc, append-nil}
@@ -9,7 +9,7 @@ use lib.ListN.{length, length-append}
 use Rattle.connectivity.specs.Lists.{member, In, NoDup}
 use Rattle.connectivity.specs.Graph.{Graph, Simple, Adj, edges, edgeCount}
 use Rattle.connectivity.specs.Path.{edgesAlong, edge, Path, usedEdges, pathEdges, vertices, IsPath, End}
-use Rattle.connectivity.specs.Build.{splitAt, frontPart, backPart, takeBefore, takeAfter, taken, InBuild, BGPath, endPairs, Steps, final, linkEnds, IsBranch, EachEdgeOnce}
+use Rattle.connectivity.specs.Build.{splitAt, frontPart, backPart, takeBefore, takeAfter, taken, InBuild, BGPath, endPairs, Steps, final, linkEnds, IsBranch}
 use Rattle.connectivity.proofs.Lists.{member-in, in-right, in-left, in-append, nodup-left, nodup-append, nodup-apart, nodup-right, in-swap, fewer, at-most, at-least, nodup-count, pair?, filled}
 use Rattle.connectivity.proofs.Paths.{path-consecutive, consecutive-left, consecutive-right, edge-same, consecutive-differ, SamePair, inner-in, end-or-inner, in-inner, built-in, inner-built, branch-built, length-used, length-ends, in-ends, nodup-path, used-in, nodup-inner, length-path, all-vertices, both-ends, end-of, in-used, ends-differ, end-s, end-t, inner-on, inner-not-end, end-vertex, consecutive-edge, innerVertices}
 use Rattle.connectivity.proofs.Edges.{in-edges, path-low, edges-nodup}
@@ -22,6 +22,12 @@ pub record SimpleBuild (links : List Path) : Type 0 where
   pub ends-once : NoDup (linkEnds links)
   pub inner-once : NoDup (innerVertices links)
   pub inner-only : (w : ℕ) → In w (innerVertices links) → ¬ IsBranch w links
+
+-- Every edge of the graph is used by the paths just once, and nothing else is.
+pub record EachEdgeOnce (g : Graph) (paths : List Path) : Type 0 where
+  pub nodup : NoDup (usedEdges paths)
+  pub is-edge : (e : ℕ × ℕ) → In e (usedEdges paths) → In e (edges g)
+  pub used : (e : ℕ × ℕ) → In e (edges g) → In e (usedEdges paths)
 
 -- splitting keeps the edges, in order
 pub edges-cut : (s : ℕ) (p : List ℕ) (x : ℕ) (q : List ℕ) (t : ℕ) → edgesAlong s (p ++ (x ∷ q)) t ≡ edgesAlong s p x ++ edgesAlong x q t

@@ -114,7 +114,7 @@ pub record EdgeList (n : ℕ) (es : List (ℕ × ℕ)) : Type 0 where
   pub each : (e : ℕ × ℕ) → In e es → (e .0 < e .1) × (e .1 < n)
   pub once : NoDup es
 
--- The order of a plan record: strictly ascending by lower end and then by higher.
+-- Strictly ascending by lower end and then by higher.
 abbrev pub EdgeBefore : ℕ × ℕ → ℕ × ℕ → Type 0
 EdgeBefore e f = (e .0 < f .0) ⊎ ((e .0 ≡ f .0) × (e .1 < f .1))
 

@@ -9,7 +9,7 @@ use Rattle.connectivity.specs.Lists.{NoDup, In}
 use Rattle.connectivity.specs.Graph.{Graph, HasConnectivity, Simple, Separator, Adj, edges, edgeCount}
 use Rattle.connectivity.specs.Connectivity.{connectivity}
 use Rattle.connectivity.specs.Path.{Path, vertices, usedEdges}
-use Rattle.connectivity.specs.Build.{StartRules, Steps, IsBranch, final, EachEdgeOnce, furtherCount}
+use Rattle.connectivity.specs.Build.{StartRules, Steps, IsBranch, final, furtherCount}
 use Rattle.connectivity.specs.Certificate.{Separation, Tree, Cycle, Ears, inside, BuildRules, Certificate, Rules, grade}
 use Rattle.connectivity.proofs.Lists.{either, below?}
 use Rattle.connectivity.proofs.Separators.{connectivity-unique}
@@ -17,7 +17,7 @@ use Rattle.connectivity.proofs.Closure.{has-connectivity, connectivity-
 use Rattle.connectivity.proofs.Steps.{append-steps}
 use Rattle.connectivity.proofs.Start.{start-subdivision}
 use Rattle.connectivity.proofs.Soundness.{separation-separates, tree-none, ears-none, build-has-3, rules-connectivity, grade-connectivity}
-use Rattle.connectivity.proofs.EdgeUse.{build-simple, build-count, used-final, build-once, SimpleBuild}
+use Rattle.connectivity.proofs.EdgeUse.{build-simple, build-count, used-final, build-once, SimpleBuild, EachEdgeOnce}
 use Rattle.connectivity.proofs.Completeness.{certificate-exists}
 
 -- CONNECTIVITY IS ONE NUMBER (Separators).
@@ -59,7 +59,7 @@ module _ (g : Graph) (p : Simple g) where
     pub simple-at-each : (ps qs : List Path) → further ≡ ps ++ qs → SimpleBuild (final start ps)
     simple-at-each ps qs e = build-simple g p start ps (start-subdivision g a b c d start rules) (append-steps (Adj g) start ps qs (rw e at steps) .0)
 
-    -- THE NUMBER OF FURTHER PATHS IS m - n - 2 (EdgeUse) where every vertex is a branch vertex and every edge is used.
+    -- THE NUMBER OF FURTHER PATHS IS d - n - 2 (EdgeUse) where every vertex is a branch vertex and every edge is used.
     pub further-count : ((z : ℕ) → z < g .n → IsBranch z (final start further)) → ((e : ℕ × ℕ) → In e (edges g) → In e (usedEdges (start ++ further))) → length further ≡ furtherCount (edgeCount g) (g .n)
     further-count all-branch used = omega (arith, build-count g p start further (start-subdivision g a b c d start rules) steps all-branch (λ e h. used-final start further e (used e h)))
 

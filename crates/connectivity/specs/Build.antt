@@ -4,9 +4,9 @@ use mathlib.Core.List.{List, _∷_, [], _++_}
 use mathlib.Core.Bool.{cond}
 use Prim.Native.Nat.{ℕ, _-_, _<_}
 use lib.Dec.{eqb}
-use Rattle.connectivity.specs.Lists.{In, member, NoDup}
-use Rattle.connectivity.specs.Graph.{Graph, Adj, edges}
-use Rattle.connectivity.specs.Path.{Path, vertices, End, IsPath, link, edge, usedEdges}
+use Rattle.connectivity.specs.Lists.{In, member}
+use Rattle.connectivity.specs.Graph.{Graph, Adj}
+use Rattle.connectivity.specs.Path.{Path, vertices, End, IsPath, link, edge}
 
 -- A build is the list of its links. A vertex of the build is on a link; a branch vertex (branch box) is an end of one.
 abbrev pub InBuild : ℕ → List Path → Type 0
@@ -82,17 +82,11 @@ abbrev pub final : List Path → List Path → List Path
 final links [] = links
 final links (P ∷ ps) = final (taken links P) ps
 
--- How many further paths a finished build has, beside m edges and n vertices.
+-- How many further paths a finished build has, beside d edges and n vertices.
 abbrev pub furtherCount : ℕ → ℕ → ℕ
-furtherCount m n = m - n - 2
+furtherCount d n = d - n - 2
 
 -- The ends of each link, as an edge between them.
 abbrev pub linkEnds : List Path → List (ℕ × ℕ)
 linkEnds [] = []
 linkEnds (L ∷ ls) = edge (L .s) (L .t) ∷ linkEnds ls
-
--- Every edge of the graph is used by the paths just once, and nothing else is.
-pub record EachEdgeOnce (g : Graph) (paths : List Path) : Type 0 where
-  pub nodup : NoDup (usedEdges paths)
-  pub is-edge : (e : ℕ × ℕ) → In e (usedEdges paths) → In e (edges g)
-  pub used : (e : ℕ × ℕ) → In e (edges g) → In e (usedEdges paths)

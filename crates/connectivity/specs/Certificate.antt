@@ -64,7 +64,7 @@ pub record EarRules (g : Graph) (c d : ℕ) (P : Path) (es : List Path) (S : Lis
   pub all-in : (z : ℕ) → z < g .n → In z (inside (vertices P) es)
   pub separation : Separation g (c ∷ (d ∷ [])) S
 
--- Kind 3: four branch vertices, six paths between them, and m - n - 2 further paths, each in the order of the record.
+-- Kind 3: four branch vertices, six paths between them, and d - n - 2 further paths, d the number of edges, each in the order of the record.
 pub record BuildRules (g : Graph) (p q r s : ℕ) (start further : List Path) : Type 0 where
   pub first : StartRules g p q r s start
   pub enough : g .n + 2 ≤ edgeCount g

@@ -23,7 +23,7 @@ pub record Simple (g : Graph) : Type 0 where
   pub irreflexive : (u : ℕ) → ¬ Adj g u u
   pub low : (u v : ℕ) → Adj g u v → u < g .n
 
--- The edges, each once, as (lower end, higher end), and how many they are (document 01: m).
+-- The edges, each once, as (lower end, higher end), and how many they are (document 01: m; since request 1 of document 02: d, the number of cabled pairs).
 abbrev pub withHigher : ℕ → List ℕ → List (ℕ × ℕ)
 withHigher v [] = []
 withHigher v (u ∷ l) = (u, v) ∷ withHigher v l

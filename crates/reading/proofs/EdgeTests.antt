@@ -12,6 +12,7 @@ use Rattle.connectivity.specs.Lists.{In}
 use Rattle.connectivity.specs.Graph.{isPair}
 use Rattle.connectivity.proofs.Lists.{and-true}
 use Rattle.reading.specs.Plan.{EdgeAllowed, proper, follows}
+use Rattle.reading.specs.Code.{keyOf}
 
 pub proper-true : (n : ℕ) (e : ℕ × ℕ) → proper n e ≡ true → (e .0 < e .1) × (e .1 < n)
 proper-true n e h = let t = and-true (ltb (e .0) (e .1)) (ltb (e .1) n) h in (ltb-true _ _ (t .0), ltb-true _ _ (t .1))
@@ -33,10 +34,7 @@ each-proper n before [] h e i = absurd i
 each-proper n before (d ∷ es) h e (inl i) = rw i (proper-true n d (h .0 .0))
 each-proper n before (d ∷ es) h e (inr i) = each-proper n d es (h .1) e i
 
--- an edge as one number
-abbrev pub keyOf : ℕ × ℕ → ℕ
-keyOf e = e .0 * 65536 + e .1
-
+-- the number of an edge tells its place in the order
 pub key-follows : (d e : ℕ × ℕ) → d .1 < 65536 → e .1 < 65536 → leb (keyOf d) (keyOf e) ≡ follows d e
 key-follows d e h k = go (ltb (d .0) (e .0)) refl (eqb (d .0) (e .0)) refl (leb (d .1) (e .1)) refl
   where

@@ -1,6 +1,6 @@
 -- What the functions of this crate give.
 use Prim.Native.Nat.{ℕ, _+_, _-_, _*_}
-use mathlib.Core.List.{List, [], _∷_, _++_}
+use mathlib.Core.List.{List, _++_}
 use mathlib.Core.Bool.{cond}
 use lib.ListN.{length, replicate, set}
 use Rattle.record.specs.Read.{Read, Read.Got, Read.Refused, Reader, within, _needs⟨_⟩_, orKept, led, ended, folded}
@@ -12,6 +12,7 @@ use Rattle.graph.specs.Limits.{minVertices, maxVertices, maxEdges}
 use Rattle.graph.specs.Rows.{noGraph, bareRows, joined}
 use Rattle.graph.specs.declared.GraphTable.{GraphTable}
 use Rattle.connectivity.specs.Graph.{isPair, fromEdges, edgeCount}
+use Rattle.connectivity.specs.TopologicalGraph.{endsOf}
 use Rattle.reading.specs.Plan.{Plan, proper, follows, edge, plan}
 use Rattle.reading.specs.declared.Edge.{Edge}
 use Rattle.reading.specs.declared.Edge.the-variants.{Joins, Fault}
@@ -30,18 +31,13 @@ endCount = 2 * maxEdges
 abbrev pub noEnds : List ℕ
 noEnds = replicate endCount 0
 
--- the edges in the order of the record: the lower and the higher vertex of each
-unfoldable pub flat : List (ℕ × ℕ) → List ℕ
-flat [] = []
-flat (e ∷ es) = e .0 ∷ e .1 ∷ flat es
-
--- those in the array, zeros behind them
-abbrev pub endsOf : List (ℕ × ℕ) → List ℕ
-endsOf es = flat es ++ replicate (endCount - length (flat es)) 0
+-- the edges in the order of the record, the lower and the higher vertex of each, and zeros behind them
+abbrev pub endsArray : List (ℕ × ℕ) → List ℕ
+endsArray es = endsOf es ++ replicate (endCount - length (endsOf es)) 0
 
 -- a plan by value: its graph, how many edges its record has, and those
 unfoldable pub tableOf : Plan → PlanTable
-tableOf p = record { graph = graphOf p; m = length (p .edges); ends = endsOf (p .edges) }
+tableOf p = record { graph = graphOf p; m = length (p .edges); ends = endsArray (p .edges) }
 
 -- what stands beside a refusal
 abbrev pub noPlan : PlanTable
@@ -89,11 +85,11 @@ planLeft step t s =
 abbrev pub rowsLeft : List ℕ → List ℕ → List ℕ
 rowsLeft rows s = planLeft joined rows s
 
--- the next edge in the array, behind the i before it
+-- the next edge in the array, behind those before it; nothing changes past its end
 abbrev pub laid : ℕ × List ℕ → ℕ × ℕ → ℕ × List ℕ
 laid st e = (st .0 + 1, set (set (st .1) (2 * st .0) (e .0)) (2 * st .0 + 1) (e .1))
 
--- what it leaves of the array that it is lent: the edges one after the other
+-- what it leaves of the array that it is lent: the edges one after the other, as far as there is room
 abbrev pub endsLeft : List ℕ → List ℕ → List ℕ
 endsLeft ends s = planLeft laid (0, ends) s .1
 
@@ -106,6 +102,10 @@ withArrays (CertificateFault r p) h rows ends = noPlan
 
 abbrev pub byValue : PlanHead → List ℕ → List ℕ → PlanRead
 byValue h rows ends = record { answer = h .answer; plan = withArrays (h .answer) h rows ends; next = h .next }
+
+-- an edge as one number, in the same order
+abbrev pub keyOf : ℕ × ℕ → ℕ
+keyOf e = e .0 * 65536 + e .1
 
 -- document 01's number and place for one edge
 unfoldable pub edgeRead : Read (ℕ × ℕ) → Edge

@@ -20,9 +20,10 @@ pub record Plan : Type 0 where
 abbrev pub proper : ℕ → ℕ × ℕ → Bool
 proper n e = ltb (e .0) (e .1) && ltb (e .1) n
 
--- the edge e does not come before the edge d: by lower vertex and then by higher
+-- an edge does not come before its predecessor: by lower vertex and then by higher. Request 1 of document 02: "A cable equal to its
+-- predecessor is to be allowed."
 abbrev pub follows : ℕ × ℕ → ℕ × ℕ → Bool
-follows d e = ltb (d .0) (e .0) || (eqb (d .0) (e .0) && leb (d .1) (e .1))
+follows before e = ltb (before .0) (e .0) || (eqb (before .0) (e .0) && leb (before .1) (e .1))
 
 -- an edge is read whole, then tested for 5 and 6
 unfoldable pub edge : ℕ → ℕ × ℕ → Reader (ℕ × ℕ)
@@ -40,7 +41,7 @@ edgeBytes e = numberBytes (e .0) ++ numberBytes (e .1)
 abbrev pub planBytes : Plan → List ℕ
 planBytes p = numberBytes (p .n) ++ (numberBytes (length (p .edges)) ++ listBytes edgeBytes (p .edges))
 
--- a plan that Records allows
+-- a plan that Records allows, with that request
 abbrev pub EdgeAllowed : ℕ → ℕ × ℕ → ℕ × ℕ → Type 0
 EdgeAllowed n before e = (proper n e ≡ true) × (follows before e ≡ true)
 

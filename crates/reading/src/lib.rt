@@ -1,12 +1,12 @@
 // The plan record, read into lent arrays or into a plan by value.
 ghost use mathlib.Core.Path.{_≡_};
-ghost use Prim.Native.Nat.{_+_, _*_, _≤_, _<_};
+ghost use Prim.Native.Nat.{_≤_, _<_};
 ghost use Rattle.record.specs.Loop.{runs};
 ghost use Rattle.vertexset.specs.Set.{capacity};
 ghost use Rattle.graph.specs.Limits.{maxEdges};
 ghost use Rattle.graph.specs.Rows.{joined};
 ghost use Rattle.reading.specs.Plan.{edge, proper, follows};
-ghost use Rattle.reading.specs.Code.{wholePlan, leadingPlan, headOf, rowsLeft, endsLeft, byValue, edgeRead, testedEdge, edgeFault, refusedHead, edgeLoop, edgesIn, laid, countedPair};
+ghost use Rattle.reading.specs.Code.{wholePlan, leadingPlan, headOf, rowsLeft, endsLeft, byValue, edgeRead, testedEdge, edgeFault, refusedHead, edgeLoop, edgesIn, laid, countedPair, keyOf};
 use graph::GraphTable;
 use record::Answer;
 use record::Number;
@@ -56,7 +56,7 @@ pub fn proper(n: u16, u: u16, v: u16) -> bool
 
 // An edge as one number, so that one comparison tells the order of two.
 fn key(u: u16, v: u16) -> u32
-    ensures { λ r. ⌜ r ≡ u * 65536 + v ⌝ }
+    ensures { λ r. ⌜ r ≡ keyOf (u, v) ⌝ }
 {
     u as u32 * 65536 + v as u32
 }
@@ -117,13 +117,18 @@ fn edge_fault(x: Edge) -> PlanHead
     }
 }
 
-// The edge from u to v comes after i others.
-fn lay(ends: &mut [u16; PlanTable::ENDS], i: u16, u: u16, v: u16)
-    requires { ⌜ i < maxEdges ⌝ }
+// The edge from u to v comes after i others, as far as there is room.
+fn lay(ends: &mut [u16], i: u16, u: u16, v: u16)
     ensures { λ r. ⌜ now (ends .exit) ≡ laid (i, now (ends .entry)) (u, v) .1 ⌝ }
 {
     let k = 2 * i as usize;
+    if ends.len() <= k {
+        return;
+    }
     ends[k] = u;
+    if ends.len() <= k + 1 {
+        return;
+    }
     ends[k + 1] = v;
 }
 
@@ -138,14 +143,14 @@ fn count_pair(d: u16, lower: u16, higher: u16, u: u16, v: u16) -> u16
     d + 1
 }
 
-// The edges of a plan, joined in the rows and laid in the array as they come.
+// The edges of a plan, joined in the rows and laid in the array as they come; an array without room takes none.
 fn read_edges<'a>(
     s: &'a [u8],
     n: u16,
     m: u16,
     from: usize,
     rows: &'a mut [u64; GraphTable::ROW_WORDS],
-    ends: &'a mut [u16; PlanTable::ENDS],
+    ends: &'a mut [u16],
 ) -> PlanHead
     requires { ⌜ (n ≤ capacity) × (m ≤ maxEdges) ⌝ }
     ensures { λ r. ⌜ r ≡ runs (edgeLoop n m) m (0, 0) ((0, 0), 0) (now (s .entry)) from ⌝ }
@@ -184,7 +189,7 @@ fn read_edges<'a>(
 fn read_leading_arrays<'a>(
     s: &'a [u8],
     rows: &'a mut [u64; GraphTable::ROW_WORDS],
-    ends: &'a mut [u16; PlanTable::ENDS],
+    ends: &'a mut [u16],
 ) -> PlanHead
     ensures { λ r. ⌜ r ≡ headOf (leadingPlan (now (s .entry))) ⌝ }
     ensures { λ r. ⌜ now (rows .exit) ≡ rowsLeft (now (rows .entry)) (now (s .entry)) ⌝ }
@@ -214,7 +219,7 @@ fn read_leading_arrays<'a>(
 fn read_plan_arrays<'a>(
     s: &'a [u8],
     rows: &'a mut [u64; GraphTable::ROW_WORDS],
-    ends: &'a mut [u16; PlanTable::ENDS],
+    ends: &'a mut [u16],
 ) -> PlanHead
     ensures { λ r. ⌜ r ≡ headOf (wholePlan (now (s .entry))) ⌝ }
     ensures { λ r. ⌜ now (rows .exit) ≡ rowsLeft (now (rows .entry)) (now (s .entry)) ⌝ }
@@ -237,7 +242,7 @@ pub fn read_leading_rows<'a>(s: &'a [u8], rows: &'a mut [u64; GraphTable::ROW_WO
     ensures { λ r. ⌜ r ≡ headOf (leadingPlan (now (s .entry))) ⌝ }
     ensures { λ r. ⌜ now (rows .exit) ≡ rowsLeft (now (rows .entry)) (now (s .entry)) ⌝ }
 {
-    let mut ends = [0u16; PlanTable::ENDS];
+    let mut ends = [0u16; 0];
     read_leading_arrays(s, rows, &mut ends)
 }
 
@@ -245,7 +250,7 @@ pub fn read_plan_rows<'a>(s: &'a [u8], rows: &'a mut [u64; GraphTable::ROW_WORDS
     ensures { λ r. ⌜ r ≡ headOf (wholePlan (now (s .entry))) ⌝ }
     ensures { λ r. ⌜ now (rows .exit) ≡ rowsLeft (now (rows .entry)) (now (s .entry)) ⌝ }
 {
-    let mut ends = [0u16; PlanTable::ENDS];
+    let mut ends = [0u16; 0];
     read_plan_arrays(s, rows, &mut ends)
 }
 

@@ -14,7 +14,7 @@ use Rattle.connectivity.proofs.Lists.{and-true}
 use Rattle.graph.specs.Limits.{maxVertices}
 use Rattle.reading.specs.Plan.{proper, follows, edgeBytes}
 use Rattle.reading.proofs.EdgeTests.{proper-true}
-use Rattle.writing.specs.Write.{edgeAt, edgesFrom, inOrder}
+use Rattle.writing.specs.Write.{edgeAt, edgesFrom, edgesOf, edgesBytes, EdgesLow, inOrder}
 
 pub edge-bytes : (e : ℕ × ℕ) → length (edgeBytes e) ≡ length (numberBytes (e .0)) + length (numberBytes (e .1))
 edge-bytes e = length-append (numberBytes (e .0)) (numberBytes (e .1))
@@ -44,13 +44,7 @@ module _ (ends : List ℕ) (m : ℕ) where
   abbrev pub leftBytes : ℕ → List ℕ
   leftBytes k = listBytes edgeBytes (left k)
 
-  abbrev pub all : List (ℕ × ℕ)
-  all = edgesFrom ends m 0
-
-  abbrev pub allBytes : List ℕ
-  allBytes = listBytes edgeBytes all
-
-  left-all : left 0 ≡ all
+  left-all : left 0 ≡ edgesOf ends m
   left-all = let z : m - 0 ≡ m = omega arith in rw z
 
   left-here : {k : ℕ} → k < m → left k ≡ edgeAt ends k ∷ left (k + 1)
@@ -69,14 +63,14 @@ module _ (ends : List ℕ) (m : ℕ) where
   none-bytes h = ap (listBytes edgeBytes) (left-none h)
 
   -- the vertices of each edge have a form
-  pub ends-low : {n k : ℕ} → n ≤ maxVertices → inOrder n (0, 0) all ≡ true → k < m → (edgeAt ends k .0 < numberLimit) × (edgeAt ends k .1 < numberLimit)
-  ends-low {n} {k} h o l = let p = proper-true n (edgeAt ends k) (proper-at ends n (0, 0) m 0 o k (omega arith) (omega arith)) in (omega arith, omega arith)
+  pub ends-low : {n : ℕ} → n ≤ maxVertices → inOrder n (0, 0) (edgesOf ends m) ≡ true → EdgesLow ends m
+  ends-low {n} h o k l = let p = proper-true n (edgeAt ends k) (proper-at ends n (0, 0) m 0 o k (omega arith) (omega arith)) in (omega arith, omega arith)
 
   -- tested and counted so far, up to the edge before: what is left is in order where all are, and what was counted and what is left are all
   pub record Measured (n k : ℕ) (before : ℕ × ℕ) (bytes : ℕ) : Type 0 where
     pub short : bytes ≤ 4 * k
-    pub order : inOrder n before (left k) ≡ inOrder n (0, 0) all
-    pub size : bytes + length (leftBytes k) ≡ length allBytes
+    pub order : inOrder n before (left k) ≡ inOrder n (0, 0) (edgesOf ends m)
+    pub size : bytes + length (leftBytes k) ≡ length (edgesBytes ends m)
 
   module _ {n : ℕ} where
     pub measure-start : Measured n 0 (0, 0) 0
@@ -87,7 +81,7 @@ module _ (ends : List ℕ) (m : ℕ) where
     }
 
     module _ {k bytes : ℕ} {before : ℕ × ℕ} (c : Measured n k before bytes) where
-      here-order : k < m → proper n (edgeAt ends k) && (follows before (edgeAt ends k) && inOrder n (edgeAt ends k) (left (k + 1))) ≡ inOrder n (0, 0) all
+      here-order : k < m → proper n (edgeAt ends k) && (follows before (edgeAt ends k) && inOrder n (edgeAt ends k) (left (k + 1))) ≡ inOrder n (0, 0) (edgesOf ends m)
       unfolding inOrder
       here-order h = sym (ap (inOrder n before) (left-here h)) ∙ c .order
 
@@ -99,31 +93,31 @@ module _ (ends : List ℕ) (m : ℕ) where
         size = omega (arith, c .size, ap length (here-bytes h), length-append (edgeBytes (edgeAt ends k)) (leftBytes (k + 1)), edge-bytes (edgeAt ends k));
       }
 
-      pub measure-improper : k < m → proper n (edgeAt ends k) ≡ false → inOrder n (0, 0) all ≡ false
+      pub measure-improper : k < m → proper n (edgeAt ends k) ≡ false → inOrder n (0, 0) (edgesOf ends m) ≡ false
       measure-improper h p = sym (here-order h) ∙ rw p
 
-      pub measure-behind : k < m → follows before (edgeAt ends k) ≡ false → inOrder n (0, 0) all ≡ false
+      pub measure-behind : k < m → follows before (edgeAt ends k) ≡ false → inOrder n (0, 0) (edgesOf ends m) ≡ false
       measure-behind h f = sym (here-order h) ∙ rw f (and-false (proper n (edgeAt ends k)))
 
-      pub measure-end : m ≤ k → (inOrder n (0, 0) all ≡ true) × (bytes ≡ length allBytes)
+      pub measure-end : m ≤ k → (inOrder n (0, 0) (edgesOf ends m) ≡ true) × (bytes ≡ length (edgesBytes ends m))
       unfolding inOrder
       measure-end h = (sym (c .order) ∙ ap (inOrder n before) (left-none h), omega (arith, c .size, ap length (none-bytes h)))
 
   -- written so far: with what is left written from next on the buffer is what it is to be
   pub record Putting (buffer : List ℕ) (from k next : ℕ) (out : List ℕ) : Type 0 where
     pub long : length out ≡ length buffer
-    pub place : next + length (leftBytes k) ≡ from + length allBytes
-    pub done : overwritten out next (leftBytes k) ≡ overwritten buffer from allBytes
+    pub place : next + length (leftBytes k) ≡ from + length (edgesBytes ends m)
+    pub done : overwritten out next (leftBytes k) ≡ overwritten buffer from (edgesBytes ends m)
 
   module _ {buffer : List ℕ} {from : ℕ} where
     pub put-start : Putting buffer from 0 from buffer
     put-start = record { long = refl; place = ap (λ (l : List (ℕ × ℕ)). from + length (listBytes edgeBytes l)) left-all; done = ap (λ (l : List (ℕ × ℕ)). overwritten buffer from (listBytes edgeBytes l)) left-all }
 
     module _ {k next : ℕ} {out : List ℕ} (p : Putting buffer from k next out) where
-      pub put-room : k < m → from + length allBytes ≤ length buffer → next + length (edgeBytes (edgeAt ends k)) ≤ length out
+      pub put-room : k < m → from + length (edgesBytes ends m) ≤ length buffer → next + length (edgeBytes (edgeAt ends k)) ≤ length out
       put-room h r = omega (arith, p .place, p .long, ap length (here-bytes h), length-append (edgeBytes (edgeAt ends k)) (leftBytes (k + 1)))
 
-      pub put-here : k < m → from + length allBytes ≤ length buffer
+      pub put-here : k < m → from + length (edgesBytes ends m) ≤ length buffer
           → Putting buffer from (k + 1) (next + length (edgeBytes (edgeAt ends k))) (overwritten out next (edgeBytes (edgeAt ends k)))
       put-here h r = record {
         long = overwritten-length out next (edgeBytes (edgeAt ends k)) (put-room h r) ∙ p .long;
@@ -131,5 +125,5 @@ module _ (ends : List ℕ) (m : ℕ) where
         done = overwritten-more out next (edgeBytes (edgeAt ends k)) (put-room h r) (leftBytes (k + 1)) ∙ ap (overwritten out next) (sym (here-bytes h)) ∙ p .done;
       }
 
-      pub put-end : m ≤ k → (next ≡ from + length allBytes) × (out ≡ overwritten buffer from allBytes)
+      pub put-end : m ≤ k → (next ≡ from + length (edgesBytes ends m)) × (out ≡ overwritten buffer from (edgesBytes ends m))
       put-end h = (omega (arith, p .place, ap length (none-bytes h)), sym (overwritten-none out next) ∙ ap (overwritten out next) (sym (none-bytes h)) ∙ p .done)

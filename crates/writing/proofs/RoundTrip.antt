@@ -12,7 +12,8 @@ use Rattle.record.specs.declared.Answer.the-variants.{Accepted}
 use Rattle.record.specs.declared.Written.the-variants.{Next}
 use Rattle.reading.specs.Plan.{Plan, Allowed, EdgeAllowed, proper, follows, planBytes}
 use Rattle.graph.specs.Limits.{minVertices, maxVertices, maxEdges}
-use Rattle.reading.specs.Code.{graphOf, flat, endsOf, tableOf, wholePlan, leadingPlan}
+use Rattle.connectivity.specs.TopologicalGraph.{endsOf}
+use Rattle.reading.specs.Code.{graphOf, endsArray, tableOf, wholePlan, leadingPlan}
 use Rattle.reading.specs.declared.PlanTable.{PlanTable}
 use Rattle.writing.specs.Write.{edgesFrom, edgesOf, planOf, inOrder, canWritePlan, writtenPlan, withPlan}
 use Rattle.connectivity.proofs.Lists.{and-true}
@@ -21,8 +22,8 @@ use Rattle.reading.proofs.Plans.{accepted, leads}
 use Rattle.writing.proofs.Writing.{edges-count}
 
 -- THE EDGES OF AN ARRAY ARE THOSE THAT WERE LAID IN IT, whatever stands behind them.
-laid-edges : (ends rest : List ℕ) (es : List (ℕ × ℕ)) (k : ℕ) → ((i : ℕ) → getD ends (2 * k + i) 0 ≡ getD (flat es ++ rest) i 0) → edgesFrom ends (length es) k ≡ es
-unfolding edgesFrom flat
+laid-edges : (ends rest : List ℕ) (es : List (ℕ × ℕ)) (k : ℕ) → ((i : ℕ) → getD ends (2 * k + i) 0 ≡ getD (endsOf es ++ rest) i 0) → edgesFrom ends (length es) k ≡ es
+unfolding edgesFrom
 laid-edges ends rest [] k f = refl
 laid-edges ends rest (e ∷ es) k f =
     let z : 2 * k ≡ 2 * k + 0 = omega arith in
@@ -35,7 +36,7 @@ laid-edges ends rest (e ∷ es) k f =
 pub planned : (p : Plan) → planOf (tableOf p) ≡ p
 unfolding planOf tableOf graphOf
 planned p =
-    let e : edgesOf (endsOf (p .edges)) (length (p .edges)) ≡ p .edges = laid-edges (endsOf (p .edges)) _ (p .edges) 0 (λ i. let z : 2 * 0 + i ≡ i = omega arith in ap (λ (j : ℕ). getD (endsOf (p .edges)) j 0) z) in
+    let e : edgesOf (endsArray (p .edges)) (length (p .edges)) ≡ p .edges = laid-edges (endsArray (p .edges)) _ (p .edges) 0 (λ i. let z : 2 * 0 + i ≡ i = omega arith in ap (λ (j : ℕ). getD (endsArray (p .edges)) j 0) z) in
     ap (λ (es : List (ℕ × ℕ)). record { n = p .n; edges = es }) e
 
 -- the test of the edges tells that Records allows each

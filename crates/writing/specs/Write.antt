@@ -1,11 +1,11 @@
 -- The record of a plan by value, and what writing it gives.
-use Prim.Native.Nat.{ℕ, zero, suc, _+_, _*_}
+use Prim.Native.Nat.{ℕ, zero, suc, _+_, _*_, _<_}
 use mathlib.Core.List.{List, [], _∷_}
 use mathlib.Core.Bool.{Bool, true, false, cond, _&&_}
 use lib.Dec.{leb}
 use lib.ListN.{length, getD}
 use Rattle.record.specs.Read.{within}
-use Rattle.record.specs.Number.{listBytes}
+use Rattle.record.specs.Number.{listBytes, numberLimit}
 use Rattle.record.specs.Write.{overwritten, hasRoom}
 use Rattle.record.specs.declared.Written.{Written}
 use Rattle.record.specs.declared.Written.the-variants.{Next, Nothing}
@@ -35,6 +35,10 @@ planOf p = record { n = p .graph .n; edges = edgesOf (p .ends) (p .m) }
 abbrev pub edgesBytes : List ℕ → ℕ → List ℕ
 edgesBytes ends m = listBytes edgeBytes (edgesOf ends m)
 
+-- both vertices of each of them have a form in the record
+abbrev pub EdgesLow : List ℕ → ℕ → Type 0
+EdgesLow ends m = (k : ℕ) → k < m → (edgeAt ends k .0 < numberLimit) × (edgeAt ends k .1 < numberLimit)
+
 -- every edge is allowed behind the one before it
 unfoldable pub inOrder : ℕ → ℕ × ℕ → List (ℕ × ℕ) → Bool
 inOrder n before [] = true
@@ -44,7 +48,7 @@ inOrder n before (e ∷ es) = proper n e && (follows before e && inOrder n e es)
 abbrev pub sizeOf : ℕ → List (ℕ × ℕ) → Size
 sizeOf n es = cond (inOrder n (0, 0) es) (record { allowed = true; bytes = length (listBytes edgeBytes es) }) (record { allowed = false; bytes = 0 })
 
--- the plan can be written: Records allows it, and its record has room
+-- the plan can be written: it is one that Records allows, and its record has room
 abbrev pub canWritePlan : List ℕ → PlanTable → Bool
 canWritePlan buffer p =
     within minVertices maxVertices (p .graph .n)

@@ -1,13 +1,12 @@
 // The plan record, written from a plan by value.
 ghost use mathlib.Core.Path.{_≡_};
-ghost use mathlib.Core.Bool.{true};
 ghost use Prim.Native.Nat.{_+_, _≤_, _<_};
 ghost use lib.ListN.{length};
 ghost use Rattle.record.specs.Number.{numberBytes, numberLimit};
 ghost use Rattle.record.specs.Write.{overwritten};
-ghost use Rattle.graph.specs.Limits.{maxVertices, maxEdges};
+ghost use Rattle.graph.specs.Limits.{maxEdges};
 ghost use Rattle.reading.specs.Plan.{edgeBytes};
-ghost use Rattle.writing.specs.Write.{edgesOf, sizeOf, inOrder, edgesBytes, writtenPlan, withPlan};
+ghost use Rattle.writing.specs.Write.{edgesOf, sizeOf, edgesBytes, EdgesLow, writtenPlan, withPlan};
 use graph::GraphTable;
 use reading::PlanTable;
 use record::Number;
@@ -79,9 +78,9 @@ fn put_edge(out: &mut [u8], at: usize, u: u16, v: u16) -> usize
     put_number(out, mid, v)
 }
 
-// Writes the first m edges, which are allowed and have room, and gives the place after them.
-fn put_edges(ends: &[u16; PlanTable::ENDS], n: u16, m: u16, out: &mut [u8], from: usize) -> usize
-    requires { ⌜ (n ≤ maxVertices) × (m ≤ maxEdges) × (inOrder n (0, 0) (edgesOf (now ends) m) ≡ true) × (from + length (edgesBytes (now ends) m) ≤ length (now out)) ⌝ }
+// Writes the first m edges, whose vertices have a form and which have room, and gives the place after them.
+fn put_edges(ends: &[u16; PlanTable::ENDS], m: u16, out: &mut [u8], from: usize) -> usize
+    requires { ⌜ (m ≤ maxEdges) × (EdgesLow (now ends) m) × (from + length (edgesBytes (now ends) m) ≤ length (now out)) ⌝ }
     ensures { λ r. ⌜ (r ≡ from + length (edgesBytes (now (ends .entry)) m)) × (now (out .exit) ≡ overwritten (now (out .entry)) from (edgesBytes (now (ends .entry)) m)) ⌝ }
 {
     let mut next = from;
@@ -118,5 +117,5 @@ pub fn write_plan(p: PlanTable, out: &mut [u8]) -> Written
     }
     let m_at = put_number(out, 0, n);
     let from = put_number(out, m_at, m);
-    Written::Next(put_edges(&p.ends, n, m, out, from))
+    Written::Next(put_edges(&p.ends, m, out, from))
 }

@@ -3,7 +3,8 @@ use mathlib.Core.Path.{sym, _∙_}
 use borrow.Author.Needs.{needs}
 use borrow.Author.Tests.{eq-eqb, ne-eqb}
 use native.Mathlib.Omega.{arith}
-use Rattle.reading.proofs.EdgeTests.{keyOf, key-same}
+use Rattle.reading.specs.Code.{keyOf}
+use Rattle.reading.proofs.EdgeTests.{key-same}
 use Rattle.reading.proofs.count_pair.Statement.{statement}
 use Rattle.reading.proofs.count_pair.Tie as tie
 

@@ -66,18 +66,19 @@ returns-5 c =
 
 returns-6 : tie.Need-returns-6
 returns-6 c =
-    let y = c .before .before .before .before .before in
+    let e6 = c .before .before in
+    let y = e6 .before .before .before .before .before in
     let i = y .before .before .before in
     let x = i .before .before .before in
     let e = sym (x .x .given .1) ∙ x .before .before .read-number .ensures in
     let r = true-within minVertices maxVertices _ (i .before .if1 .left) (i .if2 .left) in
     let f = sym (y .y .given .1) ∙ y .before .before .read-number2 .ensures in
-    let m = true-within 0 maxEdges _ (omega arith) (c .before .before .before .if3 .left) in
-    (c .read-edges .ensures .0 ∙ plan-edges _ e r f m, (c .read-edges .ensures .1 .0 ∙ left-edges _ _ _ e r f m, c .read-edges .ensures .1 .1 ∙ ap Laid (left-edges _ _ _ e r f m)))
+    let m = true-within 0 maxEdges _ (omega arith) (e6 .before .before .before .if3 .left) in
+    (e6 .read-edges .ensures .0 ∙ plan-edges _ e r f m, (e6 .read-edges .ensures .1 .0 ∙ left-edges _ _ _ e r f m, e6 .read-edges .ensures .1 .1 ∙ ap Laid (left-edges _ _ _ e r f m)))
 
 pub read-leading-arrays-spec : {M : Type 1} → statement M
 read-leading-arrays-spec = tie.close (tie.spec
     (λ c κs. search needs) (λ c. search needs) (λ c κs. search needs) (λ c κs. search needs) (λ c κs. search needs) returns
     (λ c κs. search needs) returns-2 (λ c κs. search needs) returns-3
     (λ c κs. search needs) (λ c. search needs) (λ c κs. search needs) (λ c κs. search needs) (λ c κs. search needs) returns-4
-    (λ c κs. search needs) returns-5 (λ c κs. search needs) returns-6)
+    (λ c κs. search needs) returns-5 (λ c κs. search needs) (λ c. search needs) returns-6)

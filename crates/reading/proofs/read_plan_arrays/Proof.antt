@@ -8,20 +8,21 @@ use Rattle.reading.proofs.read_plan_arrays.Tie as tie
 
 returns : tie.Need-returns
 returns c =
-    let r = c .before .read-leading-arrays .ensures in
+    let r = c .before .before .before .read-leading-arrays .ensures in
     (whole-fault _ (r .0) (not-accepted _ (c .match .keys2)), r .1)
 
 returns-2 : tie.Need-returns-2
 returns-2 c =
     let k = c .before .before in
-    let r = k .before .before .read-leading-arrays .ensures in
+    let r = k .before .before .before .before .read-leading-arrays .ensures in
     (c .refused .ensures ∙ whole-more _ (r .0) (k .enum-told .given .1) (c .before .if1 .taken), r .1)
 
 returns-3 : tie.Need-returns-3
 returns-3 c =
     let k = c .before in
-    let r = k .before .before .read-leading-arrays .ensures in
+    let r = k .before .before .before .before .read-leading-arrays .ensures in
     (whole-done _ (r .0) (k .enum-told .given .1) (c .if1 .left), r .1)
 
 pub read-plan-arrays-spec : {M : Type 1} → statement M
-read-plan-arrays-spec = tie.close (tie.spec (λ c κs. search needs) (λ c. search needs) returns (λ c κs. search needs) returns-2 returns-3)
+read-plan-arrays-spec = tie.close (tie.spec
+    (λ c κs. search needs) (λ c. search needs) (λ c. search needs) returns (λ c κs. search needs) (λ c. search needs) returns-2 (λ c. search needs) returns-3)

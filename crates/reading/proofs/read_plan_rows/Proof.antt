@@ -4,7 +4,7 @@ use Rattle.reading.proofs.read_plan_rows.Statement.{statement}
 use Rattle.reading.proofs.read_plan_rows.Tie as tie
 
 returns : tie.Need-returns
-returns c = let r = c .read-plan-arrays .ensures in (r .0, r .1 .0)
+returns c = let r = c .before .read-plan-arrays .ensures in (r .0, r .1 .0)
 
 pub read-plan-rows-spec : {M : Type 1} → statement M
-read-plan-rows-spec = tie.close (tie.spec (λ c κs. search needs) returns)
+read-plan-rows-spec = tie.close (tie.spec (λ c. search needs) (λ c κs. search needs) returns)

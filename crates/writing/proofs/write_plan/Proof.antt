@@ -4,6 +4,7 @@ use borrow.Author.Tests.{not-true, not-false}
 use native.Mathlib.Omega.{arith}
 use Rattle.record.proofs.Write.{few-bytes}
 use Rattle.writing.specs.Write.{edgesOf}
+use Rattle.writing.proofs.Edges.{ends-low}
 use Rattle.writing.proofs.Writing.{bytes-short, not-allowed, is-allowed, not-written, too-few, too-many, too-many-edges, out-of-order, too-long, has-room, edges-room, written}
 use Rattle.writing.proofs.write_plan.Statement.{statement}
 use Rattle.writing.proofs.write_plan.Tie as tie
@@ -60,7 +61,7 @@ put-edges-requires c κs =
     let a = x .before .before .before .before .before .before .before .args in
     let o = is-allowed (a .t1 .graph .n) (edgesOf (a .t1 .ends) (a .t1 .m)) (x .measure .ensures) (not-false _ (y .before .before .if4 .left)) in
     let r = has-room (a .out .now) (a .t1) (o .1) (y .before .number-length .ensures) (y .number-length2 .ensures) (p .before .before .if5 .left) in
-    (x .before .before .before .before .if2 .left, x .before .before .before .if3 .left, o .0, edges-room (a .out .now) (a .t1) r (p .put-number .ensures) (q .put-number2 .ensures))
+    (x .before .before .before .if3 .left, ends-low _ _ (x .before .before .before .before .if2 .left) (o .0), edges-room (a .out .now) (a .t1) r (p .put-number .ensures) (q .put-number2 .ensures))
 
 returns-6 : tie.Need-returns-6
 returns-6 c =
