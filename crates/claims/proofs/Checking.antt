@@ -1,9 +1,10 @@
 -- DEMAND 2, both ways, and that every grade the checker accepts is the plan's connectivity. Assumes nothing.
 use Prim.Native.Nat.{ℕ, _<_}
 use mathlib.Core.List.{List, _++_}
-use mathlib.Core.Path.{_≡_, refl, sym, _∙_, subst}
+use mathlib.Core.Path.{_≡_, refl, sym, ap, _∙_, subst}
 use mathlib.Core.Logic.{_↔_, inl, ⊎-elim}
 use native.Mathlib.Omega.{arith}
+use lib.ListN.{length}
 use Rattle.record.specs.Read.{Read, Read.Got, Read.Refused, Bytes, ended}
 use Rattle.record.specs.declared.Answer.the-variants.{Grade}
 use Rattle.record.proofs.Laws.{ended-there, ended-back}
@@ -42,7 +43,14 @@ pub on-certificate : (r : Read Certificate) {k : ℕ} → onCertificate r ≡ Gr
 on-certificate (Got x next) e = (x, next, refl, cc)
 on-certificate (Refused r q) e = let z : _≡_ {A = ℕ} 0 1 = cc in absurd (omega arith)
 
--- a certificate beside a plan
+-- the record of an allowed plan is read as that plan, and a certificate beside it is read beside that plan
+pub record-read : (p : Plan) → Allowed p → ended plan (planBytes p) 0 ≡ Got p (length (planBytes p))
+record-read p a = ended-back plan-law {v = p} refl a
+
+pub checked : (p : Plan) → Allowed p → (C : List ℕ) → checkOf (planBytes p) C ≡ certificateAnswer p C
+unfolding checkOf
+checked p a C = ap (λ (x : Read Plan). onPlan x C) (record-read p a)
+
 pub answer-there : (p : Plan) → Allowed p → (c : List ℕ) (k : ℕ) → Bytes c → certificateAnswer p c ≡ Grade k → Certified (planBytes p) c k
 unfolding certificateAnswer
 answer-there p a c k bytes e =
@@ -111,7 +119,7 @@ certified-sequenced {P} {C} c = go (c .certificate) (c .bytes) (c .same-kind) (c
           sequence = rules-sequence g a p q r s start further t;
         }
 
-pub sequenced-rules : {P C : List ℕ} (c : Sequenced P C) → BuildRules (planGraph (c .plan)) (c .p) (c .q) (c .r) (c .s) (c .start) (c .further)
+sequenced-rules : {P C : List ℕ} (c : Sequenced P C) → BuildRules (planGraph (c .plan)) (c .p) (c .q) (c .r) (c .s) (c .start) (c .further)
 sequenced-rules c = sequence-rules (planGraph (c .plan)) (plan-simple (c .plan) (c .is-plan .allowed)) (c .p) (c .q) (c .r) (c .s) (c .start) (c .further) (c .sequence)
 
 pub sequenced-certified : {P C : List ℕ} → Sequenced P C → Certified P C 3
@@ -119,12 +127,12 @@ sequenced-certified c =
     record { plan = c .plan; is-plan = c .is-plan; certificate = build (c .p) (c .q) (c .r) (c .s) (c .start) (c .further); bytes = c .bytes; same-kind = refl; rules = sequenced-rules c }
 
 -- the edges of a plan's graph are the pairs that its record has, once or more
-pub pair-edge : (p : Plan) → Allowed p → (e : ℕ × ℕ) → In e (p .edges) → In e (edges (planGraph p))
+pair-edge : (p : Plan) → Allowed p → (e : ℕ × ℕ) → In e (p .edges) → In e (edges (planGraph p))
 pair-edge p a e i =
     let b = each-proper (p .n) (0, 0) (p .edges) (a .each) e i in
     rw (edge-sorted (e .0) (e .1) (b .0)) at (in-edges (planGraph p) (plan-simple p a) (e .0) (e .1) (in-listed (p .edges) (e .0) (e .1) (inl i)))
 
-pub edge-pair : (p : Plan) → Allowed p → (e : ℕ × ℕ) → In e (edges (planGraph p)) → In e (p .edges)
+edge-pair : (p : Plan) → Allowed p → (e : ℕ × ℕ) → In e (edges (planGraph p)) → In e (p .edges)
 edge-pair p a e i =
     let r = edges-in (planGraph p) e i in
     ⊎-elim (λ k. k) (λ k. absurd (omega (arith, r .0, each-proper (p .n) (0, 0) (p .edges) (a .each) (e .1, e .0) k .0))) (listed-in (p .edges) (e .0) (e .1) (r .1))

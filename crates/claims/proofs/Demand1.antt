@@ -5,7 +5,7 @@ use mathlib.Core.Bool.{Bool, true, false, cond}
 use mathlib.Core.Path.{_≡_, refl, sym}
 use native.Mathlib.Omega.{arith}
 use lib.Dec.{ltb}
-use lib.ListN.{length, drop}
+use lib.ListN.{drop}
 use Rattle.record.specs.Read.{Read, Read.Got, Read.Refused, Bytes, ended}
 use Rattle.record.specs.declared.Answer.the-variants.{Accepted, PlanFault}
 use Rattle.record.proofs.Laws.{ended-there}

@@ -88,7 +88,7 @@ module _ (p : Plan) (a : Allowed p) where
   its-rules : Rules (planGraph p) (its .certificate)
   its-rules = subst (λ (g : Graph). Rules g (its .certificate)) (graph-listed p a) (its .rules)
 
-  pub made-certified : Certified (planBytes p) (certificateOf (graphOf p)) (gradeMade (graphOf p))
+  made-certified : Certified (planBytes p) (certificateOf (graphOf p)) (gradeMade (graphOf p))
   made-certified =
       record { plan = p; is-plan = record { allowed = a; bytes = refl }; certificate = its .certificate; bytes = its .bytes; same-kind = sym (its .grade); rules = its-rules }
 
@@ -99,16 +99,18 @@ module _ (p : Plan) (a : Allowed p) where
   made-short = its .short
 
 -- what the maker gives to a plan that was read
-made-on : (P buffer : List ℕ) (x : Read Plan) → ended plan P 0 ≡ x → madeFrom P buffer ≡ madeBy buffer (planRead x .answer) (planRead x .plan .graph)
-made-on P buffer x e = ap (λ (r : Read Plan). madeBy buffer (planRead r .answer) (planRead r .plan .graph)) e
+pub made-on : (P buffer : List ℕ) {p : Plan} {next : ℕ} → ended plan P 0 ≡ Got p next → madeFrom P buffer ≡ madeBy buffer Accepted (graphOf p)
+unfolding planRead tableOf
+made-on P buffer e = ap (λ (r : Read Plan). madeBy buffer (planRead r .answer) (planRead r .plan .graph)) e
 
-filled-on : (P buffer : List ℕ) (x : Read Plan) → ended plan P 0 ≡ x → filledFrom P buffer ≡ filledBy buffer (planRead x .answer) (planRead x .plan .graph)
-filled-on P buffer x e = ap (λ (r : Read Plan). filledBy buffer (planRead r .answer) (planRead r .plan .graph)) e
+pub filled-on : (P buffer : List ℕ) {p : Plan} {next : ℕ} → ended plan P 0 ≡ Got p next → filledFrom P buffer ≡ filledBy buffer Accepted (graphOf p)
+unfolding planRead tableOf
+filled-on P buffer e = ap (λ (r : Read Plan). filledBy buffer (planRead r .answer) (planRead r .plan .graph)) e
 
 -- a grade that the maker answers is the kind of that certificate
 made-grade : (P : List ℕ) → Bytes P → (buffer : List ℕ) (k : ℕ) → madeFrom P buffer .answer ≡ Grade k → HasFigure P k
 unfolding madeBy planRead tableOf
-made-grade P bp buffer k e = go (ended plan P 0) refl (ap (λ (m : Made). m .answer) (sym (made-on P buffer (ended plan P 0) refl)) ∙ e)
+made-grade P bp buffer k e = go (ended plan P 0) refl e
   where
     go : (x : Read Plan) → ended plan P 0 ≡ x → madeBy buffer (planRead x .answer) (planRead x .plan .graph) .answer ≡ Grade k → HasFigure P k
     go (Refused r q) f h = let z : _≡_ {A = ℕ} 0 1 = cc in absurd (omega arith)

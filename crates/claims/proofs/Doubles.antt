@@ -6,24 +6,45 @@ use mathlib.Core.Logic.{_↔_, inl, inr}
 use mathlib.Core.Path.{_≡_, refl, sym, ap, subst, _∙_}
 use lib.Dec.{ltb}
 use borrow.Author.Tests.{lt-ltb, eq-eqb}
-use Rattle.record.specs.Read.{Read}
 use Rattle.record.specs.declared.Answer.the-variants.{Accepted, PlanFault}
-use Rattle.record.proofs.Laws.{each-same, ended-back}
+use Rattle.record.proofs.Laws.{each-same}
 use Rattle.graph.specs.declared.GraphTable.{GraphTable}
 use Rattle.connectivity.specs.Graph.{Graph, HasConnectivity, edgeCount, fromEdges}
 use Rattle.connectivity.proofs.Edges.{EdgeBefore}
 use Rattle.reading.specs.Plan.{Plan, Allowed, planBytes, once}
-use Rattle.reading.specs.Code.{graphOf, wholePlan}
-use Rattle.reading.specs.declared.PlanRead.{PlanRead}
-use Rattle.reading.proofs.Plans.{plan-law, accepts, accepted-graph, injective}
+use Rattle.reading.specs.Code.{graphOf}
+use Rattle.reading.proofs.Plans.{injective}
 use Rattle.reading.proofs.Doubles.{once-in, in-left, once-allowed, once-after, once-graph}
 use Rattle.reading.proofs.Repeats.{rows-once}
 use Rattle.sessions.specs.declared.Opened.{Opened}
-use Rattle.sessions.specs.Session.{opening, onOpening, noSession, openedOn}
-use Rattle.checker.specs.Check.{planGraph, onPlan, certificateAnswer, checkOf}
+use Rattle.sessions.specs.Session.{opening, noSession, openedOn}
+use Rattle.checker.specs.Check.{planGraph, certificateAnswer, checkOf}
 use Rattle.certifier.specs.Made.{madeBy, madeFrom, filledBy, filledFrom}
 use Rattle.claims.specs.Certified.{HasFigure}
 use Rattle.claims.specs.Doubles.{comesAfter, SameOnce, DoublesAside}
+use Rattle.claims.proofs.Checking.{record-read, checked}
+use Rattle.claims.proofs.Replay.{opening-read}
+use Rattle.claims.proofs.Demands.{made-on, filled-on}
+
+-- a figure is that of the one plan whose record it is
+figure-of : (q : Plan) → Allowed q → (k : ℕ) → HasFigure (planBytes q) k ↔ HasConnectivity (planGraph q) k
+figure-of q b k = (
+  λ f. subst (λ (x : Plan). HasConnectivity (planGraph x) k) (sym (injective q (f .plan) b (f .is-plan .allowed) (f .is-plan .bytes))) (f .figure),
+  λ c. record { plan = q; is-plan = record { allowed = b; bytes = refl }; figure = c },
+)
+
+-- a session is opened on the graph alone
+abbrev onGraph : GraphTable → Opened
+onGraph g = cond (ltb (g .d) (g .n + 2)) (record { answer = PlanFault 29 0; session = noSession }) (record { answer = Accepted; session = openedOn g })
+
+opened-of : (q : Plan) → Allowed q → opening (planBytes q) ≡ onGraph (graphOf q)
+unfolding graphOf
+opened-of q b = opening-read q b
+
+-- in the words of document 01's order
+true-after : (d e : ℕ × ℕ) → EdgeBefore d e → comesAfter d e ≡ true
+true-after d e (inl h) = rw (lt-ltb _ _ h)
+true-after d e (inr h) = rw (eq-eqb _ _ (h .0), lt-ltb _ _ (h .1)) (or-true (ltb (d .0) (e .0)))
 
 module _ (p : Plan) (a : Allowed p) where
   same-graph : planGraph (once p) ≡ planGraph p
@@ -39,59 +60,29 @@ module _ (p : Plan) (a : Allowed p) where
   allowed : Allowed (once p)
   allowed = once-allowed p a
 
-  read : (q : Plan) → Allowed q → (wholePlan (planBytes q) .answer ≡ Accepted) × (wholePlan (planBytes q) .plan .graph ≡ graphOf q)
-  read q b = (ap (λ (r : PlanRead). r .answer) (accepts q b), accepted-graph (planBytes q) q (ap (λ (r : PlanRead). r .plan) (accepts q b)))
-
-  -- a figure is that of the one plan whose record it is
-  figure-of : (q : Plan) → Allowed q → (k : ℕ) → HasFigure (planBytes q) k ↔ HasConnectivity (planGraph q) k
-  figure-of q b k = (
-    λ f. subst (λ (x : Plan). HasConnectivity (planGraph x) k) (sym (injective q (f .plan) b (f .is-plan .allowed) (f .is-plan .bytes))) (f .figure),
-    λ c. record { plan = q; is-plan = record { allowed = b; bytes = refl }; figure = c },
-  )
-
   figures : (k : ℕ) → HasFigure (planBytes p) k ↔ HasFigure (planBytes (once p)) k
   figures k =
       let f = figure-of p a k in
       let g = figure-of (once p) allowed k in
       (λ x. g .1 (rw same-graph (f .0 x)), λ x. f .1 (rw (← same-graph) (g .0 x)))
 
-  checked : (q : Plan) → Allowed q → (C : List ℕ) → checkOf (planBytes q) C ≡ certificateAnswer q C
-  unfolding checkOf
-  checked q b C = ap (λ (x : Read Plan). onPlan x C) (ended-back plan-law {v = q} refl b)
-
   answers : (C : List ℕ) → checkOf (planBytes p) C ≡ checkOf (planBytes (once p)) C
   unfolding certificateAnswer
   answers C = checked p a C ∙ rw (← same-graph) (sym (checked (once p) allowed C))
 
-  made : (q : Plan) → Allowed q → (buffer : List ℕ) → (madeFrom (planBytes q) buffer ≡ madeBy buffer Accepted (graphOf q)) × (filledFrom (planBytes q) buffer ≡ filledBy buffer Accepted (graphOf q))
-  made q b buffer = let r = read q b in (rw (r .0, r .1), rw (r .0, r .1))
-
   makes : (buffer : List ℕ) → madeFrom (planBytes p) buffer ≡ madeFrom (planBytes (once p)) buffer
-  makes buffer = made p a buffer .0 ∙ ap (λ (g : GraphTable). madeBy buffer Accepted g) (sym same-table) ∙ sym (made (once p) allowed buffer .0)
+  makes buffer = made-on (planBytes p) buffer (record-read p a) ∙ ap (λ (g : GraphTable). madeBy buffer Accepted g) (sym same-table) ∙ sym (made-on (planBytes (once p)) buffer (record-read (once p) allowed))
 
   fills : (buffer : List ℕ) → filledFrom (planBytes p) buffer ≡ filledFrom (planBytes (once p)) buffer
-  fills buffer = made p a buffer .1 ∙ ap (λ (g : GraphTable). filledBy buffer Accepted g) (sym same-table) ∙ sym (made (once p) allowed buffer .1)
-
-  -- a session is opened on the graph alone
-  abbrev onGraph : GraphTable → Opened
-  onGraph g = cond (ltb (g .d) (g .n + 2)) (record { answer = PlanFault 29 0; session = noSession }) (record { answer = Accepted; session = openedOn g })
-
-  opened : (q : Plan) → Allowed q → opening (planBytes q) ≡ onGraph (graphOf q)
-  unfolding opening graphOf
-  opened q b = ap (λ (x : Read Plan). onOpening x) (ended-back plan-law {v = q} refl b)
+  fills buffer = filled-on (planBytes p) buffer (record-read p a) ∙ ap (λ (g : GraphTable). filledBy buffer Accepted g) (sym same-table) ∙ sym (filled-on (planBytes (once p)) buffer (record-read (once p) allowed))
 
   opens : opening (planBytes p) ≡ opening (planBytes (once p))
-  opens = opened p a ∙ ap onGraph (sym same-table) ∙ sym (opened (once p) allowed)
-
-  -- in the words of document 01's order
-  after-true : (d e : ℕ × ℕ) → EdgeBefore d e → comesAfter d e ≡ true
-  after-true d e (inl h) = rw (lt-ltb _ _ h)
-  after-true d e (inr h) = rw (eq-eqb _ _ (h .0), lt-ltb _ _ (h .1)) (or-true (ltb (d .0) (e .0)))
+  opens = opened-of p a ∙ ap onGraph (sym same-table) ∙ sym (opened-of (once p) allowed)
 
   same-once : SameOnce p
   same-once = record {
     allowed = allowed;
-    ascending = each-same (λ d e. e) after-true (0, 0) (once p .edges) (once-after p a);
+    ascending = each-same (λ d e. e) true-after (0, 0) (once p .edges) (once-after p a);
     same-pairs = λ e. (in-left (p .n) (p .edges) (a .least) (a .each) e, once-in (0, 0) (p .edges) e);
     figures = figures;
     answers = answers;

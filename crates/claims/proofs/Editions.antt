@@ -1,32 +1,41 @@
--- REQUEST 1 keeps what the base edition's plan reader gave, but for refusals by 6. Assumes nothing.
+-- REQUEST 1 keeps what every call gave to a plan record in the base edition, but for refusals by 6. Assumes nothing.
 use Prim.Native.Nat.{ℕ, zero, suc, _<_, _≤_}
 use mathlib.Core.List.{List, [], _∷_}
 use mathlib.Core.Bool.{Bool, true, false, cond, _&&_, _||_}
-use mathlib.Core.Path.{_≡_, refl, sym, ap, _∙_}
+use mathlib.Core.Path.{_≡_, refl, ap, _∙_}
 use mathlib.Core.Logic.{_⊎_, inl, inr, ⊎-elim}
 use native.Mathlib.Omega.{arith}
 use lib.Dec.{ltb, leb, eqb}
 use lib.ListN.{length}
 use borrow.Author.Tests.{ltb-true, eqb-true, le-leb}
-use Rattle.record.specs.Read.{Read, Read.Got, Read.Refused, Reader, Each, onRead, many, _needs⟨_⟩_, _▸_, _▹_, into, within}
+use Rattle.record.specs.Read.{Read, Read.Got, Read.Refused, Reader, Each, onRead, many, _needs⟨_⟩_, _▸_, _▹_, into, within, ended}
 use Rattle.record.specs.Number.{number}
-use Rattle.record.proofs.Laws.{on-got, carry, each-same, ended-got, got-ended}
+use Rattle.record.proofs.Laws.{on-got, carry, each-same, ended-got}
 use Rattle.record.proofs.Loops.{needs-true}
 use Rattle.record.proofs.Bounds.{within-true}
-use Rattle.graph.specs.Limits.{minVertices, maxVertices, maxEdges}
+use Rattle.connectivity.specs.Build.{furtherCount}
 use Rattle.connectivity.proofs.Lists.{and-true}
 use Rattle.connectivity.proofs.Edges.{EdgeBefore, AscendingEdges, ascending-nodup, fromEdges-count}
 use Rattle.reading.specs.Plan.{Plan, EdgeAllowed, proper, follows, edge, plan}
+use Rattle.reading.specs.Code.{graphOf}
 use Rattle.reading.proofs.EdgeTests.{each-proper}
+use Rattle.sessions.specs.Session.{opening}
 use Rattle.checker.specs.Check.{onPlan, onLeading, checkOf, gradeOf}
 use Rattle.claims.specs.Session.{pairCount}
-use Rattle.claims.specs.Doubles.{comesAfter, baseEdge, basePlan, BaseKept}
+use Rattle.claims.specs.Doubles.{comesAfter, baseEdge, basePlan, baseOpening, BaseKept}
+use Rattle.claims.proofs.Demands.{made-on, filled-on}
 
 -- ---- two readings of a record
 
 -- the second is the first, or the first is a refusal by r
 abbrev ButFor : {A : Type 0} → ℕ → Read A → Read A → Type 0
 ButFor r x y = (y ≡ x) ⊎ ((p : ℕ) × (x ≡ Refused r p))
+
+but-same : {A : Type 0} {r : ℕ} {x y : Read A} → ButFor r x y → ((q : ℕ) → ¬ (x ≡ Refused r q)) → y ≡ x
+but-same h n = ⊎-elim (λ e. e) (λ e. absurd (n (e .0) (e .1))) h
+
+but-got : {A : Type 0} {r : ℕ} {x y : Read A} {v : A} {next : ℕ} → ButFor r x y → x ≡ Got v next → y ≡ x
+but-got h g = but-same h (λ q e. let z : _≡_ {A = ℕ} 0 1 = cc in omega arith)
 
 on-but : {A B : Type 0} (r : ℕ) (x y : Read A) (f g : A → ℕ → Read B) → ButFor r x y → ((v : A) (next : ℕ) → ButFor r (f v next) (g v next)) → ButFor r (onRead x f) (onRead y g)
 on-but r (Got v next) y f g (inl e) h = rw e (h v next)
@@ -72,14 +81,20 @@ plan-but s =
     (λ p next. inl refl)
   where
     head : Read ℕ
-    head = (number needs⟨ 3 ⟩ within minVertices maxVertices) s 0
+    head = (number needs⟨ 3 ⟩ within 4 128) s 0
 
     count : ℕ → Read ℕ
-    count mid = (number needs⟨ 4 ⟩ within 0 maxEdges) s mid
+    count mid = (number needs⟨ 4 ⟩ within 0 512) s mid
+
+-- .. and so a whole record
+ended-but : (P : List ℕ) → ButFor 6 (ended basePlan P 0) (ended plan P 0)
+unfolding ended
+ended-but P = on-but 6 (basePlan P 0) (plan P 0) _ _ (plan-but P) (λ p next. inl refl)
 
 -- ---- the plans that the base edition accepted
 
-abbrev pub Strict : ℕ → ℕ × ℕ → ℕ × ℕ → Type 0
+-- an edge that it took behind another
+abbrev Strict : ℕ → ℕ × ℕ → ℕ × ℕ → Type 0
 Strict n d e = (proper n e ≡ true) × (comesAfter d e ≡ true)
 
 -- each item that was read is in order
@@ -113,22 +128,20 @@ strict-ascends n before (d ∷ []) h = tt
 strict-ascends n before (d ∷ (e ∷ es)) h = (after-true d e (h .1 .0 .1), strict-ascends n d (e ∷ es) (h .1))
 
 module _ (s : List ℕ) {p : Plan} {next : ℕ} (e : basePlan s 0 ≡ Got p next) where
-  pub base-edges : (minVertices ≤ p .n) × Each (Strict (p .n)) (λ d e. e) (0, 0) (p .edges)
+  base-edges : (4 ≤ p .n) × Each (Strict (p .n)) (λ d e. e) (0, 0) (p .edges)
   unfolding basePlan into _▸_ _▹_
   base-edges =
       let a = on-got _ _ e in
-      let b = on-got ((number needs⟨ 3 ⟩ within minVertices maxVertices) s 0) _ (a .2) in
+      let b = on-got ((number needs⟨ 3 ⟩ within 4 128) s 0) _ (a .2) in
       let c = on-got _ _ (b .3) in
-      let d = on-got ((number needs⟨ 4 ⟩ within 0 maxEdges) s (b .1)) _ (c .2) in
-      let t = needs-true number 3 (within minVertices maxVertices) {s = s} {at = 0} (b .2) in
+      let d = on-got ((number needs⟨ 4 ⟩ within 0 512) s (b .1)) _ (c .2) in
+      let t = needs-true number 3 (within 4 128) {s = s} {at = 0} (b .2) in
       let l = many-each {Q = Strict (b .0)} (baseEdge (b .0)) (λ d e. e) (edge-strict (b .0)) (d .0) (0, 0) s (d .1) (d .3) in
-      carry (λ (q : Plan) z. (minVertices ≤ q .n) × Each (Strict (q .n)) (λ d e. e) (0, 0) (q .edges)) (a .3)
-      (carry (λ (x : ℕ × List (ℕ × ℕ)) z. (minVertices ≤ x .0) × Each (Strict (x .0)) (λ d e. e) (0, 0) (x .1)) (c .3) (within-true minVertices maxVertices (b .0) (t .1) .0, l))
+      carry (λ (q : Plan) z. (4 ≤ q .n) × Each (Strict (q .n)) (λ d e. e) (0, 0) (q .edges)) (a .3)
+      (carry (λ (x : ℕ × List (ℕ × ℕ)) z. (4 ≤ x .0) × Each (Strict (x .0)) (λ d e. e) (0, 0) (x .1)) (c .3) (within-true 4 128 (b .0) (t .1) .0, l))
 
-  pub base-strict : Each (λ d e. comesAfter d e ≡ true) (λ d e. e) (0, 0) (p .edges)
-  base-strict = each-same (λ d e. e) (λ d e k. k .1) (0, 0) (p .edges) (base-edges .1)
-
-  pub base-counts : pairCount p ≡ length (p .edges)
+  -- no pair comes twice, so there are as many as edges
+  base-counts : pairCount p ≡ length (p .edges)
   base-counts =
       let h = base-edges in
       let allowed = each-same {Ok′ = EdgeAllowed (p .n)} (λ d e. e) (λ d e k. (k .0, after-follows d e (k .1))) (0, 0) (p .edges) (h .1) in
@@ -138,21 +151,20 @@ module _ (s : List ℕ) {p : Plan} {next : ℕ} (e : basePlan s 0 ≡ Got p next
         once = ascending-nodup (p .edges) (strict-ascends (p .n) (0, 0) (p .edges) (h .1));
       }
 
-pub base-reads : (s : List ℕ) (p : Plan) (next : ℕ) → basePlan s 0 ≡ Got p next → plan s 0 ≡ Got p next
-base-reads s p next h = ⊎-elim (λ e. e ∙ h) (λ e. let z : _≡_ {A = ℕ} 0 1 = cc (h, e .1) in absurd (omega arith)) (plan-but s)
-
-pub base-refuses : (s : List ℕ) (r q : ℕ) → basePlan s 0 ≡ Refused r q → ¬ (r ≡ 6) → plan s 0 ≡ Refused r q
-base-refuses s r q h n = ⊎-elim (λ e. e ∙ h) (λ e. let z : r ≡ 6 = cc (h, e .1) in absurd (n z)) (plan-but s)
+base-opens : (P : List ℕ) (p : Plan) (next : ℕ) → ended basePlan P 0 ≡ Got p next → opening P ≡ baseOpening (ended basePlan P 0)
+unfolding opening graphOf
+base-opens P p next h = rw (but-got (ended-but P) h, h, base-counts P (ended-got basePlan h .0))
 
 -- WHAT THE BASE EDITION GAVE FOR A PLAN RECORD IS KEPT, BUT FOR REFUSALS BY 6.
 pub base-kept : BaseKept
 unfolding checkOf gradeOf
 base-kept = record {
-  reads = base-reads;
-  refuses = base-refuses;
-  counts = λ s p next h. base-counts s h;
-  answers = λ P C p next h.
-      let g = ended-got basePlan h in
-      ap (λ (x : Read Plan). onPlan x C) (got-ended plan (base-reads P p next (g .0)) (g .1) ∙ sym h);
-  grades = λ s p next h. ap (λ (x : Read Plan). onLeading x s) (base-reads s p next h ∙ sym h);
+  whole = λ P n. but-same (ended-but P) n;
+  leading = λ s n. but-same (plan-but s) n;
+  counts = λ s p next h. (base-counts s h, ap (λ (d : ℕ). furtherCount d (p .n)) (base-counts s h));
+  checks = λ P C p next h. ap (λ (x : Read Plan). onPlan x C) (but-got (ended-but P) h);
+  grades = λ s p next h. ap (λ (x : Read Plan). onLeading x s) (but-got (plan-but s) h);
+  opens = base-opens;
+  makes = λ P buffer p next h. made-on P buffer (but-got (ended-but P) h ∙ h);
+  fills = λ P buffer p next h. filled-on P buffer (but-got (ended-but P) h ∙ h);
 }

@@ -1,8 +1,8 @@
--- THE EXPORTS: a word stands for its answer, every answer of an exported function fits, those of a script among them, lengths and counts are
+-- THE EXPORTS: an accepted plan is written again, a word stands for its answer, every answer of an exported function fits, those of a script among them, lengths and counts are
 -- read from their words, and a grade in a word is the figure of the plan. Assumes nothing.
 use Prim.Native.Nat.{ℕ, zero, suc, _+_, _*_, _-_, _/_, _%_, _≤_, _<_, _^_, min}
 use mathlib.Core.List.{List, [], _∷_, _++_, append-assoc}
-use mathlib.Core.Bool.{Bool, true, false, cond, _&&_, _||_}
+use mathlib.Core.Bool.{Bool, true, false, cond, _&&_, _||_, and-false}
 use mathlib.Core.Path.{_≡_, refl, sym, ap, _∙_, subst}
 use mathlib.Core.Logic.{⊎-elim}
 use native.Mathlib.Nat.{pow-suc}
@@ -10,7 +10,7 @@ use native.Mathlib.Omega.{arith}
 use lib.Dec.{leb, ltb, eqb}
 use lib.ListN.{length, getD, take, drop, length-take, length-drop, List·getD-eq-default}
 use lib.Seq.{getD-take, getD-drop, take-at, drop-drop, drop-at}
-use borrow.Author.Tests.{ltb-true, ltb-false}
+use borrow.Author.Tests.{ltb-true, ltb-false, lt-leb}
 use Rattle.record.specs.Read.{Read, Read.Got, Read.Refused, Bytes, ended}
 use Rattle.record.specs.Number.{listBytes}
 use Rattle.record.specs.declared.Answer.{Answer}
@@ -18,7 +18,7 @@ use Rattle.record.specs.declared.Answer.the-variants.{Accepted, Grade, PlanFaul
 use Rattle.record.proofs.Laws.{ended-there}
 use Rattle.connectivity.specs.Lists.{In, all}
 use Rattle.connectivity.proofs.Lists.{all-true}
-use Rattle.reading.specs.Plan.{Plan, plan}
+use Rattle.reading.specs.Plan.{Plan, plan, planBytes}
 use Rattle.reading.specs.Code.{graphOf, tableOf, planRead, wholePlan}
 use Rattle.reading.proofs.Plans.{plan-law}
 use Rattle.certifier.specs.declared.Made.{Made}
@@ -36,17 +36,41 @@ use Rattle.script.specs.declared.Part.the-variants.{Within, Cut}
 use Rattle.script.specs.Script.{partAt}
 use Rattle.script.specs.Replay.{word, answerWord, wordBytes, answerBytes, partOf, replayOf}
 use Rattle.script.proofs.Answers.{word-length}
-use Rattle.fikzarn.specs.Words.{gradeWord, madeWord}
+use Rattle.writing.specs.Write.{withPlan}
+use Rattle.writing.proofs.RoundTrip.{planned, record-again}
+use Rattle.fikzarn.specs.Words.{rewritten, gradeWord, madeWord}
 use Rattle.claims.specs.Certified.{HasFigure}
 use Rattle.claims.specs.Calls.{Call, Call.start, Call.path, Call.close, CallBytes, sessionAfter}
 use Rattle.claims.specs.Answers as listed
 use Rattle.claims.specs.Answers.{Answers, OneOf}
 use Rattle.claims.specs.Exports.{inWord, decoded, Fits, wordOf, wordAt, onPartCalls, callsFrom, answersOf, scriptAnswers}
-use Rattle.claims.specs.Demands.{WordsDecode, WordsAreAnswers, GradesInWords, AcceptedGrade, AcceptedGrade.checked, AcceptedGrade.made-for, AcceptedGrade.closed-on}
+use Rattle.claims.specs.Demands.{PlansAgain, WordsDecode, WordsAreAnswers, GradesInWords, AcceptedGrade, AcceptedGrade.checked, AcceptedGrade.made-for, AcceptedGrade.closed-on}
 use Rattle.claims.proofs.Sessions.{Opens, Opens.refused, Opens.accepted, opens}
 use Rattle.claims.proofs.Demands.{made-short, grade-is-figure}
 use Rattle.claims.proofs.Answers.{demand1-answers}
 use Rattle.claims.proofs.Scripts.{scripts-replay, replay-bounded}
+
+-- AN ACCEPTED PLAN is written again where it has room
+no-room : (p : Plan) (buffer : List ℕ) → length buffer < length (planBytes p) → withPlan buffer (tableOf p) ≡ buffer
+no-room p buffer h =
+    let l : length buffer < 0 + length (planBytes p) = omega arith in
+    rw (planned p, lt-leb (0 + length (planBytes p)) (length buffer) l, and-false, and-false, and-false)
+
+pub plans-again : PlansAgain
+unfolding planRead
+plans-again P bytes buffer = record {
+  written = λ e room. ap (λ (a : Answer). rewritten a buffer (withPlan buffer (wholePlan P .plan))) e ∙ record-again P bytes e buffer room .1;
+  too-short = short (ended plan P 0) refl;
+  refused = refused (ended plan P 0);
+}
+  where
+    short : (x : Read Plan) → ended plan P 0 ≡ x → length buffer < length P → rewritten (planRead x .answer) buffer (withPlan buffer (planRead x .plan)) ≡ buffer
+    short (Refused r q) e h = refl
+    short (Got p next) e h = no-room p buffer (rw (ended-there plan-law bytes e .0) at h)
+
+    refused : (x : Read Plan) → ¬ (planRead x .answer ≡ Accepted) → rewritten (planRead x .answer) buffer (withPlan buffer (planRead x .plan)) ≡ buffer
+    refused (Refused r q) n = refl
+    refused (Got p next) n = absurd (n refl)
 
 -- A WORD taken apart gives what it was put together from, the place cut to six bytes
 word-decoded : (kind number place : ℕ) → kind < 256 → number < 256 → decoded (word kind number place) ≡ inWord kind number (place % 281474976710656)

@@ -11,14 +11,13 @@ use borrow.Author.Tests.{lt-ltb, le-ltb, eq-eqb}
 use Rattle.record.specs.Read.{Read, Read.Got, Read.Refused, Bytes, ended}
 use Rattle.record.specs.Number.{number}
 use Rattle.record.specs.declared.Answer.the-variants.{Accepted, Grade, CertificateFault}
-use Rattle.record.proofs.Laws.{ended-back, carry}
+use Rattle.record.proofs.Laws.{carry}
 use Rattle.record.proofs.Parts.{Calls, Calls.no-call, Calls.call}
 use Rattle.connectivity.specs.Path.{Path}
 use Rattle.connectivity.specs.Build.{taken, final}
 use Rattle.connectivity.specs.Certificate.{Certificate, Certificate.separation, Certificate.tree, Certificate.ears, Certificate.build, grade}
 use Rattle.reading.specs.Plan.{Plan, Allowed, planBytes}
 use Rattle.reading.specs.Code.{graphOf}
-use Rattle.reading.proofs.Plans.{plan-law}
 use Rattle.certificates.specs.Tests.{allBelow, isBranch}
 use Rattle.certificates.specs.Records.{start, furtherPath, certificate}
 use Rattle.certificates.proofs.BuildCalls.{accepted-calls, calls-accepted}
@@ -26,10 +25,10 @@ use Rattle.sessions.specs.declared.Session.{Session}
 use Rattle.sessions.specs.declared.Opened.{Opened}
 use Rattle.sessions.specs.declared.Stepped.{Stepped}
 use Rattle.sessions.specs.Session.{openedOn, onOpening, opening, onStart, startStep, onPath, pathStep}
-use Rattle.checker.specs.Check.{planGraph, onCertificate, onPlan, checkOf, certificateAnswer}
+use Rattle.checker.specs.Check.{planGraph, onCertificate, checkOf, certificateAnswer}
 use Rattle.claims.specs.Session.{pairCount, due}
 use Rattle.claims.specs.Calls.{Finishes, sessionOn, Replayed}
-use Rattle.claims.proofs.Checking.{plan-simple, plan-few, on-certificate}
+use Rattle.claims.proofs.Checking.{plan-simple, plan-few, on-certificate, record-read, checked}
 use Rattle.claims.proofs.Sessions.{Opens, Opens.refused, Opens.accepted, opens, Building, start-step, start-building, path-step, path-building, closing-is, closed}
 
 -- a step that was accepted had something to read
@@ -42,10 +41,10 @@ none-left [] h = refl
 none-left (b ∷ l) h = absurd (omega arith)
 
 module _ (p : Plan) (al : Allowed p) where
-  -- OPENING on the plan's record is accepted exactly where there are enough edges
-  opening-read : opening (planBytes p) ≡ onOpening (Got p (length (planBytes p)))
+  -- OPENING on the plan's record is accepted exactly where there are enough pairs
+  pub opening-read : opening (planBytes p) ≡ onOpening (Got p (length (planBytes p)))
   unfolding opening
-  opening-read = ap (λ (x : Read Plan). onOpening x) (ended-back plan-law {v = p} refl al)
+  opening-read = ap (λ (x : Read Plan). onOpening x) (record-read p al)
 
   opening-there : opening (planBytes p) .answer ≡ Accepted → p .n + 2 ≤ pairCount p
   opening-there e = on (opens (Got p (length (planBytes p))))
@@ -93,13 +92,9 @@ module _ (p : Plan) (al : Allowed p) where
       more P n e r = (P ∷ r .0, n + r .1, call e (r .2), ap suc (r .3), r .4, omega (arith, r .5, length-drop n part))
 
   module _ (C : List ℕ) (bytes : Bytes C) where
-    checked : checkOf (planBytes p) C ≡ certificateAnswer p C
-    unfolding checkOf
-    checked = ap (λ (x : Read Plan). onPlan x C) (ended-back plan-law {v = p} refl al)
-
     graded : (x : Certificate) (next : ℕ) → ended (certificate (planGraph p)) C 0 ≡ Got x next → checkOf (planBytes p) C ≡ Grade (grade x)
     unfolding certificateAnswer
-    graded x next e = checked ∙ ap (λ (y : Read Certificate). onCertificate y) e
+    graded x next e = checked p al C ∙ ap (λ (y : Read Certificate). onCertificate y) e
 
     build-replayed : (a b c d : ℕ) (six further : List Path) (next : ℕ) → ended (certificate (planGraph p)) C 0 ≡ Got (build a b c d six further) next → Replayed p C
     build-replayed a b c d six further next e =
@@ -120,7 +115,7 @@ module _ (p : Plan) (al : Allowed p) where
 
     there : checkOf (planBytes p) C ≡ Grade 3 → Replayed p C
     unfolding certificateAnswer
-    there e = let q = on-certificate (ended (certificate (planGraph p)) C 0) (sym checked ∙ e) in on (q .0) (q .1) (q .2) (q .3)
+    there e = let q = on-certificate (ended (certificate (planGraph p)) C 0) (sym (checked p al C) ∙ e) in on (q .0) (q .1) (q .2) (q .3)
       where
         on : (x : Certificate) (next : ℕ) → ended (certificate (planGraph p)) C 0 ≡ Got x next → grade x ≡ 3 → Replayed p C
         on (separation S) next f k = absurd (omega arith)

@@ -1,6 +1,6 @@
 -- SESSIONS: what any list of calls gives from an opening, and that a closing that is accepted answers the plan's connectivity.
 -- Assumes nothing.
-use Prim.Native.Nat.{ℕ, _+_, _-_, _≤_}
+use Prim.Native.Nat.{ℕ, _+_, _≤_}
 use mathlib.Core.List.{List, [], _∷_, _++_}
 use mathlib.Core.Bool.{Bool, true, false, cond, _&&_}
 use mathlib.Core.Path.{_≡_, refl, sym, ap, _∙_, subst, fun-ext}
@@ -11,7 +11,7 @@ use borrow.Author.Tests.{ltb-true, ltb-false, eqb-true, le-leb}
 use Rattle.record.specs.Read.{Read, Read.Got, Read.Refused, Reader, Bytes, ended}
 use Rattle.record.specs.declared.Answer.the-variants.{Accepted, Grade, PlanFault, CertificateFault}
 use Rattle.record.proofs.Laws.{ended-there}
-use Rattle.connectivity.specs.Graph.{Graph, Adj, edgeCount, HasConnectivity}
+use Rattle.connectivity.specs.Graph.{Graph, Adj, HasConnectivity}
 use Rattle.connectivity.specs.Path.{Path}
 use Rattle.connectivity.specs.Build.{StartRules, Steps, taken, final, furtherCount}
 use Rattle.connectivity.specs.Certificate.{Certificate.build}
@@ -77,7 +77,7 @@ never-opened : (calls : List Call) → sessionAfter noSession calls ≡ noSessio
 never-opened [] = refl
 never-opened (c ∷ cs) = rw (never-accepts c) (never-opened cs)
 
--- OPENING: refused, with a session never opened; or accepted, on a plan that was read and has enough edges
+-- OPENING: refused, with a session never opened; or accepted, on a plan that was read and has enough pairs
 pub data Opens (x : Read Plan) : Type 0 where
   refused : (r q : ℕ) → onOpening x ≡ record { answer = PlanFault r q; session = noSession } → Opens x
   accepted : (p : Plan) (next : ℕ) → x ≡ Got p next → p .n + 2 ≤ pairCount p → onOpening x ≡ record { answer = Accepted; session = openedOn (graphOf p) } → Opens x

@@ -12,12 +12,12 @@ use Rattle.claims.specs.Starred.{starred, doubled, besideLink, AllAnswer
 
 pub all-starred : AllAnswered starred
 unfolding _needs⟨_⟩_ _▸_ _▹_ into many check ended folded number numberIn higherGroups edge plan someBelow allBelow anyLink each along distinct vertex sideVertex side pair vertexList path ear startPath furtherPath branchFour start certificate checkOf certificateAnswer
-all-starred = (refl, (refl, (refl, (refl, (refl, (refl, (refl, (refl, (refl, (refl, (refl, (refl, (refl, tt)))))))))))))
+all-starred = (refl, (refl, (refl, (refl, (refl, (refl, (refl, (refl, (refl, (refl, (refl, (refl, tt))))))))))))
 
 -- and those of request 1
 pub doubled-answered : AllAnswered doubled
 unfolding _needs⟨_⟩_ _▸_ _▹_ into many check ended folded number numberIn higherGroups edge plan someBelow allBelow anyLink each along distinct vertex sideVertex side pair vertexList path ear startPath furtherPath branchFour start certificate checkOf certificateAnswer
-doubled-answered = (refl, (refl, (refl, tt)))
+doubled-answered = (refl, (refl, (refl, (refl, tt))))
 
 -- barn A as the checking program prints it
 pub barn-a-printed : BarnAPrinted

@@ -1,8 +1,8 @@
 -- Session calls in any order, a start or a path handed any bytes; and a certificate of kind 3 handed in call by call.
-use Prim.Native.Nat.{ℕ, zero, suc, _-_}
+use Prim.Native.Nat.{ℕ, zero, suc}
 use mathlib.Core.List.{List, [], _∷_}
 use mathlib.Core.Path.{_≡_}
-use lib.ListN.{length, drop}
+use lib.ListN.{drop}
 use Rattle.record.specs.Read.{Read.Got, Bytes}
 use Rattle.record.specs.Number.{number}
 use Rattle.record.specs.declared.Answer.{Answer}
