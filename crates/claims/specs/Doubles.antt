@@ -48,7 +48,7 @@ unfoldable pub basePlan : Reader Plan
 basePlan = into (λ p. record { n = p .0; edges = p .1 })
     (number needs⟨ 3 ⟩ within 4 128 ▸ λ n. counted (number needs⟨ 4 ⟩ within 0 512) (baseEdge n) (λ before e. e) (0, 0))
 
--- its opening and its path count, which counted cables
+-- its opening, which counted cables
 abbrev pub baseOpening : Read Plan → Opened
 baseOpening (Got p next) =
     cond (ltb (length (p .edges)) (p .n + 2)) (record { answer = PlanFault 29 0; session = noSession }) (record { answer = Accepted; session = openedOn (graphOf p) })
