@@ -79,7 +79,7 @@ module _ (s : List ℕ) (bytes : Bytes s) {h : PlanHead} (e : h ≡ headOf (whol
 
   module _ {rows : List ℕ} {c : Numbers} (left : rows ≡ rowsLeft bareRows s) (k : c ≡ numbersOf (certificateNumbers rows (h .n))) where
     made-numbers : c ≡ numbersOf numbers
-    made-numbers = k ∙ (λ i. numbersOf (certificateNumbers ((left ∙ whole-arrays s whole .0) i) (e i .n)))
+    made-numbers = k ∙ (λ i. numbersOf (certificateNumbers ((left ∙ whole-arrays s whole .1) i) (e i .n)))
 
     first : getD (c .items) 0 0 ≡ getD numbers 0 0
     first = ap (λ (y : Numbers). getD (y .items) 0 0) made-numbers ∙ padded-at numberRoom numbers 0

@@ -167,7 +167,7 @@ module _ (s c : List ℕ) (h : PlanHead) (e : h ≡ headOf (wholePlan s)) where
           let n : h .n ≡ p .n = ap (λ (y : PlanHead). y .n) d in
           let q : h .d ≡ edgeCount (planGraph p) = ap (λ (y : PlanHead). y .d) d in
           let w : wholePlan s ≡ planRead (Got p next) = ap planRead k in
-          let g : rows ≡ graphOf p .rows = left ∙ whole-arrays s (ap (λ (y : PlanRead). y .answer) w) .0 ∙ ap (λ (y : PlanRead). y .plan .graph .rows) w in
+          let g : rows ≡ graphOf p .rows = left ∙ whole-arrays s (ap (λ (y : PlanRead). y .answer) w) .1 ∙ ap (λ (y : PlanRead). y .plan .graph .rows) w in
           (rw n (fits-table p a), rw (n, q, g) (plan-answer p a c))
       go (Refused q p) k d = let z : h .answer ≡ PlanFault q p = ap (λ (y : PlanHead). y .answer) d in let y : _≡_ {A = ℕ} 0 1 = cc in absurd (omega arith)
 
@@ -195,7 +195,7 @@ module _ (s : List ℕ) (h : PlanHead) (e : h ≡ headOf (leadingPlan s)) where
           let q : h .d ≡ edgeCount (planGraph p) = ap (λ (y : PlanHead). y .d) d in
           let t : h .next ≡ next = ap (λ (y : PlanHead). y .next) d in
           let w : leadingPlan s ≡ planRead (Got p next) = ap planRead k in
-          let g : rows ≡ graphOf p .rows = left ∙ leading-arrays s (ap (λ (y : PlanRead). y .answer) w) .0 ∙ ap (λ (y : PlanRead). y .plan .graph .rows) w in (
+          let g : rows ≡ graphOf p .rows = left ∙ leading-arrays s (ap (λ (y : PlanRead). y .answer) w) .1 ∙ ap (λ (y : PlanRead). y .plan .graph .rows) w in (
             rw t (spans-within (b .0) (omega arith)),
             rw n (fits-table p (b .1)),
             rw (n, m, q, t, g) (ap (λ (a : Answer). record { answer = a; n = p .n; m = length (p .edges) }) (plan-answer p (b .1) (drop next s))),

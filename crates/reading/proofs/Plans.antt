@@ -1,7 +1,7 @@
 -- The reader of a plan accepts exactly the records of the plans that are allowed, and gives the graph of each. Assumes nothing.
 use Prim.Native.Nat.{ℕ, _+_, _<_, _≤_}
 use mathlib.Core.List.{List, _++_}
-use mathlib.Core.Path.{_≡_, refl, sym, ap, _∙_}
+use mathlib.Core.Path.{_≡_, refl, sym, ap, subst, _∙_}
 use native.Mathlib.Omega.{arith}
 use lib.ListN.{length, drop}
 use Rattle.record.specs.Read.{Read, Read.Got, Read.Refused, Bytes, ended, within}
@@ -11,15 +11,15 @@ use Rattle.record.proofs.Groups.{number-law}
 use Rattle.record.proofs.Parts.{one-value, leads-there, leads-back}
 use Rattle.reading.specs.Plan.{Plan, Allowed, proper, follows, edge, plan, planBytes}
 use Rattle.graph.specs.Limits.{minVertices, maxVertices, maxEdges}
-use Rattle.graph.specs.Rows.{bareRows, joined}
-use Rattle.reading.specs.Code.{graphOf, noEnds, tableOf, planRead, wholePlan, leadingPlan, headOf, rowsLeft, endsLeft, byValue, laid}
+use Rattle.graph.specs.Rows.{bareRows}
+use Rattle.reading.specs.Code.{graphOf, noEnds, tableOf, planRead, wholePlan, leadingPlan, headOf, rowsLeft, endsRead, byValue}
 use Rattle.reading.specs.declared.PlanHead.{PlanHead}
 use Rattle.reading.specs.declared.PlanTable.{PlanTable}
 use Rattle.reading.specs.declared.PlanRead.{PlanRead}
 use Rattle.record.proofs.Bounds.{within-true, true-within}
 use Rattle.reading.proofs.EdgeTests.{proper-true}
-use Rattle.reading.proofs.Reading.{plan-few, left-got}
-use Rattle.reading.proofs.Ends.{ends-laid}
+use Rattle.reading.proofs.Reading.{rows-got}
+use Rattle.reading.proofs.Ends.{plan-few, ends-got}
 use Rattle.record.specs.Number.{numberLimit}
 
 pub plan-law : Reads plan planBytes Allowed
@@ -62,34 +62,37 @@ got : (x : Read Plan) (p : Plan) (next : ℕ) → x ≡ Got p next → planRead 
 unfolding planRead
 got x p next e = rw e
 
--- arrays that were bare when they were lent are then the plan's
+-- rows that were bare when they were lent are then the graph's, and the second reading gives the edges
 abbrev pub Arrays : List ℕ → PlanTable → Type 0
-Arrays s t = (rowsLeft bareRows s ≡ t .graph .rows) × (endsLeft noEnds s ≡ t .ends)
+Arrays s t = (t .m ≤ maxEdges) × (rowsLeft bareRows s ≡ t .graph .rows) × (endsRead noEnds (t .m) s ≡ t .ends)
 
 got-arrays : (s : List ℕ) {p : Plan} {next : ℕ} → plan s 0 ≡ Got p next → Arrays s (tableOf p)
 unfolding graphOf tableOf
-got-arrays s {p} e = (left-got joined bareRows s e, ap (λ (t : ℕ × List ℕ). t .1) (left-got laid (0, noEnds) s e) ∙ ends-laid (p .edges) (plan-few s e))
+got-arrays s e = (plan-few s e, rows-got bareRows s e, ends-got s e)
 
 pub leading-arrays : (s : List ℕ) → leadingPlan s .answer ≡ Accepted → Arrays s (leadingPlan s .plan)
 leading-arrays s e =
     let t = told (plan s 0) e in
-    let g = sym (got (plan s 0) (t .0) (t .1) (t .2)) in
-    let a = got-arrays s (t .2) in
-    (a .0 ∙ ap (λ (r : PlanRead). r .plan .graph .rows) g, a .1 ∙ ap (λ (r : PlanRead). r .plan .ends) g)
+    subst (λ (r : PlanRead). Arrays s (r .plan)) (sym (got (plan s 0) (t .0) (t .1) (t .2))) (got-arrays s (t .2))
 
 pub whole-arrays : (s : List ℕ) → wholePlan s .answer ≡ Accepted → Arrays s (wholePlan s .plan)
 whole-arrays s e =
     let t = told (ended plan s 0) e in
-    let g = sym (got (ended plan s 0) (t .0) (t .1) (t .2)) in
-    let a = got-arrays s (ended-got plan (t .2) .0) in
-    (a .0 ∙ ap (λ (r : PlanRead). r .plan .graph .rows) g, a .1 ∙ ap (λ (r : PlanRead). r .plan .ends) g)
+    subst (λ (r : PlanRead). Arrays s (r .plan)) (sym (got (ended plan s 0) (t .0) (t .1) (t .2))) (got-arrays s (ended-got plan (t .2) .0))
 
--- the plan by value from its numbers and those arrays
-pub valued : (x : Read Plan) {h : PlanHead} {rows ends : List ℕ} → h ≡ headOf (planRead x)
-    → (planRead x .answer ≡ Accepted → (rows ≡ planRead x .plan .graph .rows) × (ends ≡ planRead x .plan .ends)) → byValue h rows ends ≡ planRead x
+-- a plan that was refused has no edges
+pub head-few : (x : Read Plan) {h : PlanHead} → h ≡ headOf (planRead x) → (planRead x .answer ≡ Accepted → planRead x .plan .m ≤ maxEdges) → h .m ≤ maxEdges
 unfolding planRead
-valued (Got p next) {rows = rows} {ends = ends} e f = ap (λ (h : PlanHead). byValue h rows ends) e ∙ rw (f refl .0, f refl .1)
-valued (Refused r p) {rows = rows} {ends = ends} e f = ap (λ (h : PlanHead). byValue h rows ends) e
+head-few (Got p next) e f = omega (arith, ap (λ (h : PlanHead). h .m) e, f refl)
+head-few (Refused r p) e f = omega (arith, ap (λ (h : PlanHead). h .m) e)
+
+-- the plan by value from its numbers, those rows and those edges
+pub valued : (x : Read Plan) (s : List ℕ) {h : PlanHead} {rows : List ℕ} → h ≡ headOf (planRead x)
+    → (planRead x .answer ≡ Accepted → (rows ≡ planRead x .plan .graph .rows) × (endsRead noEnds (planRead x .plan .m) s ≡ planRead x .plan .ends))
+    → byValue h rows (endsRead noEnds (h .m) s) ≡ planRead x
+unfolding planRead
+valued (Got p next) s {rows = rows} e f = ap (λ (h : PlanHead). byValue h rows (endsRead noEnds (h .m) s)) e ∙ rw (f refl .0, f refl .1)
+valued (Refused r p) s {rows = rows} e f = ap (λ (h : PlanHead). byValue h rows (endsRead noEnds (h .m) s)) e
 
 pub accepted : (s : List ℕ) → Bytes s → wholePlan s .answer ≡ Accepted → (p : Plan) × Allowed p × (s ≡ planBytes p) × (wholePlan s .plan ≡ tableOf p)
 accepted s bytes e =

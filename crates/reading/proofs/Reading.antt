@@ -19,7 +19,8 @@ use Rattle.record.proofs.Laws.{on-got, carry}
 use Rattle.record.proofs.Loops.{needs-true, many-length, many-same, led-folded}
 use Rattle.reading.specs.Plan.{Plan, EdgeAllowed, edge, plan, proper, follows}
 use Rattle.graph.specs.Limits.{minVertices, maxVertices, maxEdges}
-use Rattle.reading.specs.Code.{graphOf, tableOf, noPlan, testedEdge, edgeRead, edgeLoop, refusedHead, planRead, headOf, edgeAfter, edgeTaken, edgesIn, planLeft, withArrays}
+use Rattle.graph.specs.Rows.{joined}
+use Rattle.reading.specs.Code.{graphOf, tableOf, noPlan, testedEdge, edgeRead, edgeLoop, refusedHead, planRead, headOf, edgeAfter, edgeJoined, edgesIn, rowsLeft, withArrays}
 use Rattle.reading.specs.declared.PlanHead.{PlanHead}
 use Rattle.reading.specs.declared.Edge.{Edge}
 use Rattle.reading.specs.declared.Edge.the-variants.{Joins, Fault}
@@ -113,69 +114,56 @@ module _ (s : List ℕ) where
         go (Got l next) k = rw (many-length (edge n) (λ before e. e) m (0, 0) s at k, pairs-counted n l (within-true minVertices maxVertices n f .0) (edges-tested n m (0, 0) s at k) m)
         go (Refused r p) k = refl
 
--- what each of these statements leads to
-module _ {T : Type 0} (step : T → ℕ × ℕ → T) (t : T) (s : List ℕ) where
-  pub left-first : {r p : ℕ} → asRead (numberAt s 0) ≡ Refused r p → t ≡ planLeft step t s
-  unfolding planLeft number _needs⟨_⟩_
-  left-first e = rw e
+-- what each of these statements leaves of the rows
+module _ (rows s : List ℕ) where
+  pub rows-first : {r p : ℕ} → asRead (numberAt s 0) ≡ Refused r p → rows ≡ rowsLeft rows s
+  unfolding rowsLeft number _needs⟨_⟩_
+  rows-first e = rw e
 
-  pub left-range : {n mid : ℕ} → Value n mid ≡ numberAt s 0 → within minVertices maxVertices n ≡ false → t ≡ planLeft step t s
-  unfolding planLeft number _needs⟨_⟩_
-  left-range e f = rw (← e, f)
+  pub rows-range : {n mid : ℕ} → Value n mid ≡ numberAt s 0 → within minVertices maxVertices n ≡ false → rows ≡ rowsLeft rows s
+  unfolding rowsLeft number _needs⟨_⟩_
+  rows-range e f = rw (← e, f)
 
   module _ {n mid : ℕ} (e : Value n mid ≡ numberAt s 0) (f : within minVertices maxVertices n ≡ true) where
-    pub left-second : {r p : ℕ} → asRead (numberAt s mid) ≡ Refused r p → t ≡ planLeft step t s
-    unfolding planLeft number _needs⟨_⟩_
-    left-second g = rw (← e, f, g)
+    pub rows-second : {r p : ℕ} → asRead (numberAt s mid) ≡ Refused r p → rows ≡ rowsLeft rows s
+    unfolding rowsLeft number _needs⟨_⟩_
+    rows-second g = rw (← e, f, g)
 
-    pub left-many : {m at : ℕ} → Value m at ≡ numberAt s mid → within 0 maxEdges m ≡ false → t ≡ planLeft step t s
-    unfolding planLeft number _needs⟨_⟩_
-    left-many g h = rw (← e, f, ← g, h)
+    pub rows-many : {m at : ℕ} → Value m at ≡ numberAt s mid → within 0 maxEdges m ≡ false → rows ≡ rowsLeft rows s
+    unfolding rowsLeft number _needs⟨_⟩_
+    rows-many g h = rw (← e, f, ← g, h)
 
-    pub left-edges : {m at : ℕ} → Value m at ≡ numberAt s mid → within 0 maxEdges m ≡ true → edgesIn step n m t s at ≡ planLeft step t s
-    unfolding planLeft number _needs⟨_⟩_
-    left-edges g h = rw (← e, f, ← g, h)
+    pub rows-edges : {m at : ℕ} → Value m at ≡ numberAt s mid → within 0 maxEdges m ≡ true → edgesIn n m rows s at ≡ rowsLeft rows s
+    unfolding rowsLeft number _needs⟨_⟩_
+    rows-edges g h = rw (← e, f, ← g, h)
 
-module _ {T : Type 0} (step : T → ℕ × ℕ → T) where
-  folded-taken : (before : ℕ × ℕ) (t : T) (es : List (ℕ × ℕ)) → folded (edgeTaken step) (before, t) es .1 ≡ folded step t es
-  unfolding folded
-  folded-taken before t [] = refl
-  folded-taken before t (e ∷ es) = folded-taken e (step t e) es
+folded-rows : (before : ℕ × ℕ) (rows : List ℕ) (es : List (ℕ × ℕ)) → folded edgeJoined (before, rows) es .1 ≡ folded joined rows es
+unfolding folded
+folded-rows before rows [] = refl
+folded-rows before rows (e ∷ es) = folded-rows e (joined rows e) es
 
-  edges-got : (n m : ℕ) (t : T) (s : List ℕ) (at : ℕ) {l : List (ℕ × ℕ)} {next : ℕ} → many (edge n) (λ before e. e) m (0, 0) s at ≡ Got l next → edgesIn step n m t s at ≡ folded step t l
-  unfolding edgesIn
-  edges-got n m t s at {l} e =
-      let k : many (edgeAfter n) (edgeTaken step) m ((0, 0), t) s at ≡ many (edge n) (λ before e. e) m (0, 0) s at =
-      many-same (λ st before. st .0 ≡ before) (edgeAfter n) (edgeTaken step) (edge n) (λ before e. e) (λ st u r s at. rw r) (λ st u r s at a mid e. refl) m ((0, 0), t) (0, 0) refl s at
-      in
-      ap (λ (st : (ℕ × ℕ) × T). st .1) (led-folded (edgeAfter n) (edgeTaken step) m ((0, 0), t) s at (k ∙ e)) ∙ folded-taken (0, 0) t l
+edges-got : (n m : ℕ) (rows s : List ℕ) (at : ℕ) {l : List (ℕ × ℕ)} {next : ℕ} → many (edge n) (λ before e. e) m (0, 0) s at ≡ Got l next → edgesIn n m rows s at ≡ folded joined rows l
+unfolding edgesIn
+edges-got n m rows s at {l} e =
+    let k : many (edgeAfter n) edgeJoined m ((0, 0), rows) s at ≡ many (edge n) (λ before e. e) m (0, 0) s at =
+    many-same (λ st before. st .0 ≡ before) (edgeAfter n) edgeJoined (edge n) (λ before e. e) (λ st u r s at. rw r) (λ st u r s at a mid e. refl) m ((0, 0), rows) (0, 0) refl s at
+    in
+    ap (λ (st : (ℕ × ℕ) × List ℕ). st .1) (led-folded (edgeAfter n) edgeJoined m ((0, 0), rows) s at (k ∙ e)) ∙ folded-rows (0, 0) rows l
 
-  -- where the plan is read, all its edges are taken in
-  pub left-got : (t : T) (s : List ℕ) {p : Plan} {next : ℕ} → plan s 0 ≡ Got p next → planLeft step t s ≡ folded step t (p .edges)
-  unfolding planLeft plan into _▸_ _▹_
-  left-got t s {p} {next} e =
-      let a = on-got _ _ e in
-      let b = on-got ((number needs⟨ 3 ⟩ within minVertices maxVertices) s 0) _ (a .2) in
-      let c = on-got _ _ (b .3) in
-      let d = on-got ((number needs⟨ 4 ⟩ within 0 maxEdges) s (b .1)) _ (c .2) in
-      let k : planLeft step t s ≡ folded step t (c .0) =
-      ap (λ (x : Read ℕ). orKept x (λ n mid. orKept ((number needs⟨ 4 ⟩ within 0 maxEdges) s mid) (λ m at. edgesIn step n m t s at) t) t) (b .2)
-      ∙ ap (λ (x : Read ℕ). orKept x (λ m at. edgesIn step (b .0) m t s at) t) (d .2)
-      ∙ edges-got (b .0) (d .0) t s (d .1) (d .3)
-      in
-      carry (λ p n. planLeft step t s ≡ folded step t (p .edges)) (a .3) (carry (λ (x : ℕ × List (ℕ × ℕ)) n. planLeft step t s ≡ folded step t (x .1)) (c .3) k)
-
--- a plan that was read has no more edges than the limit
-pub plan-few : (s : List ℕ) {p : Plan} {next : ℕ} → plan s 0 ≡ Got p next → length (p .edges) ≤ maxEdges
-unfolding plan into _▸_ _▹_
-plan-few s {p} {next} e =
+-- where the plan is read, all its edges are joined
+pub rows-got : (rows s : List ℕ) {p : Plan} {next : ℕ} → plan s 0 ≡ Got p next → rowsLeft rows s ≡ folded joined rows (p .edges)
+unfolding rowsLeft plan into _▸_ _▹_
+rows-got rows s {p} {next} e =
     let a = on-got _ _ e in
     let b = on-got ((number needs⟨ 3 ⟩ within minVertices maxVertices) s 0) _ (a .2) in
     let c = on-got _ _ (b .3) in
     let d = on-got ((number needs⟨ 4 ⟩ within 0 maxEdges) s (b .1)) _ (c .2) in
-    let k = within-true 0 maxEdges (d .0) (needs-true number 4 (within 0 maxEdges) {s = s} {at = b .1} (d .2) .1) in
-    let n : length (c .0) ≤ maxEdges = omega (arith, many-length (edge (b .0)) (λ before e. e) (d .0) (0, 0) s (d .1) (d .3), k .1) in
-    carry (λ p n. length (p .edges) ≤ maxEdges) (a .3) (carry (λ (x : ℕ × List (ℕ × ℕ)) n. length (x .1) ≤ maxEdges) (c .3) n)
+    let k : rowsLeft rows s ≡ folded joined rows (c .0) =
+    ap (λ (x : Read ℕ). orKept x (λ n mid. orKept ((number needs⟨ 4 ⟩ within 0 maxEdges) s mid) (λ m at. edgesIn n m rows s at) rows) rows) (b .2)
+    ∙ ap (λ (x : Read ℕ). orKept x (λ m at. edgesIn (b .0) m rows s at) rows) (d .2)
+    ∙ edges-got (b .0) (d .0) rows s (d .1) (d .3)
+    in
+    carry (λ p n. rowsLeft rows s ≡ folded joined rows (p .edges)) (a .3) (carry (λ (x : ℕ × List (ℕ × ℕ)) n. rowsLeft rows s ≡ folded joined rows (x .1)) (c .3) k)
 
 -- a whole record, from what was read up to the last edge
 module _ (s : List ℕ) {r : PlanHead} (e : r ≡ headOf (planRead (plan s 0))) where

@@ -64,34 +64,34 @@ leadingPlan s = planRead (plan s 0)
 abbrev pub headOf : PlanRead → PlanHead
 headOf r = record { answer = r .answer; n = r .plan .graph .n; m = r .plan .m; d = r .plan .graph .d; next = r .next }
 
--- an edge is read beside the edge before it, and taken in by a step
-abbrev pub edgeAfter : {T : Type 0} → ℕ → (ℕ × ℕ) × T → Reader (ℕ × ℕ)
+-- an edge is read beside the edge before it, and joined in the rows
+abbrev pub edgeAfter : ℕ → (ℕ × ℕ) × List ℕ → Reader (ℕ × ℕ)
 edgeAfter n st = edge n (st .0)
 
-abbrev pub edgeTaken : {T : Type 0} → (T → ℕ × ℕ → T) → (ℕ × ℕ) × T → ℕ × ℕ → (ℕ × ℕ) × T
-edgeTaken step st e = (e, step (st .1) e)
+abbrev pub edgeJoined : (ℕ × ℕ) × List ℕ → ℕ × ℕ → (ℕ × ℕ) × List ℕ
+edgeJoined st e = (e, joined (st .1) e)
 
--- what the edges that stand before a fault lead to, or all m of them
-unfoldable pub edgesIn : {T : Type 0} → (T → ℕ × ℕ → T) → ℕ → ℕ → T → List ℕ → ℕ → T
-edgesIn step n m t s at = led (edgeAfter n) (edgeTaken step) m ((0, 0), t) s at .1
+-- the rows with the edges joined that stand before a fault, or all m of them
+unfoldable pub edgesIn : ℕ → ℕ → List ℕ → List ℕ → ℕ → List ℕ
+edgesIn n m rows s at = led (edgeAfter n) edgeJoined m ((0, 0), rows) s at .1
 
--- what reading a plan leads to; where n or m is refused, nothing changes
-unfoldable pub planLeft : {T : Type 0} → (T → ℕ × ℕ → T) → T → List ℕ → T
-planLeft step t s =
+-- what reading a plan leaves of the rows that it is lent; where n or m is refused, the rows as they were
+unfoldable pub rowsLeft : List ℕ → List ℕ → List ℕ
+rowsLeft rows s =
     orKept ((number needs⟨ 3 ⟩ within minVertices maxVertices) s 0) (λ n mid.
-    orKept ((number needs⟨ 4 ⟩ within 0 maxEdges) s mid) (λ m at. edgesIn step n m t s at) t) t
+    orKept ((number needs⟨ 4 ⟩ within 0 maxEdges) s mid) (λ m at. edgesIn n m rows s at) rows) rows
 
--- what it leaves of the rows that it is lent: each edge is joined in them
-abbrev pub rowsLeft : List ℕ → List ℕ → List ℕ
-rowsLeft rows s = planLeft joined rows s
+-- the next number in the array
+abbrev pub numberLaid : ℕ × List ℕ → ℕ → ℕ × List ℕ
+numberLaid st v = (st .0 + 1, set (st .1) (st .0) v)
 
--- the next edge in the array, behind those before it; nothing changes past its end
-abbrev pub laid : ℕ × List ℕ → ℕ × ℕ → ℕ × List ℕ
-laid st e = (st .0 + 1, set (set (st .1) (2 * st .0) (e .0)) (2 * st .0 + 1) (e .1))
+-- the array with the next k numbers of the record, from its beginning on
+unfoldable pub numbersIn : ℕ → List ℕ → List ℕ → ℕ → List ℕ
+numbersIn k ends s at = led (λ st. number) numberLaid k (0, ends) s at .1
 
--- what it leaves of the array that it is lent: the edges one after the other, as far as there is room
-abbrev pub endsLeft : List ℕ → List ℕ → List ℕ
-endsLeft ends s = planLeft laid (0, ends) s .1
+-- the array with the numbers of m edges, which stand behind n and m
+unfoldable pub endsRead : List ℕ → ℕ → List ℕ → List ℕ
+endsRead ends m s = orKept (number s 0) (λ n mid. orKept (number s mid) (λ k at. numbersIn (2 * m) ends s at) ends) ends
 
 -- a plan with these arrays; none where it was refused
 abbrev pub withArrays : Answer → PlanHead → List ℕ → List ℕ → PlanTable

@@ -1,12 +1,11 @@
-// The plan record, read into lent arrays or into a plan by value.
+// The plan record, read into lent rows or into a plan by value.
 ghost use mathlib.Core.Path.{_≡_};
 ghost use Prim.Native.Nat.{_≤_, _<_};
 ghost use Rattle.record.specs.Loop.{runs};
 ghost use Rattle.vertexset.specs.Set.{capacity};
 ghost use Rattle.graph.specs.Limits.{maxEdges};
-ghost use Rattle.graph.specs.Rows.{joined};
 ghost use Rattle.reading.specs.Plan.{edge, proper, follows};
-ghost use Rattle.reading.specs.Code.{wholePlan, leadingPlan, headOf, rowsLeft, endsLeft, byValue, edgeRead, testedEdge, edgeFault, refusedHead, edgeLoop, edgesIn, laid, countedPair, keyOf};
+ghost use Rattle.reading.specs.Code.{wholePlan, leadingPlan, headOf, rowsLeft, noEnds, endCount, numbersIn, endsRead, byValue, edgeRead, testedEdge, edgeFault, refusedHead, edgeLoop, edgesIn, countedPair, keyOf};
 use graph::GraphTable;
 use record::Answer;
 use record::Number;
@@ -117,21 +116,6 @@ fn edge_fault(x: Edge) -> PlanHead
     }
 }
 
-// The edge from u to v comes after i others, as far as there is room.
-fn lay(ends: &mut [u16], i: u16, u: u16, v: u16)
-    ensures { λ r. ⌜ now (ends .exit) ≡ laid (i, now (ends .entry)) (u, v) .1 ⌝ }
-{
-    let k = 2 * i as usize;
-    if ends.len() <= k {
-        return;
-    }
-    ends[k] = u;
-    if ends.len() <= k + 1 {
-        return;
-    }
-    ends[k + 1] = v;
-}
-
 // A pair more, where the edge from u to v is not the one before it.
 fn count_pair(d: u16, lower: u16, higher: u16, u: u16, v: u16) -> u16
     requires { ⌜ d < maxEdges ⌝ }
@@ -143,19 +127,17 @@ fn count_pair(d: u16, lower: u16, higher: u16, u: u16, v: u16) -> u16
     d + 1
 }
 
-// The edges of a plan, joined in the rows and laid in the array as they come; an array without room takes none.
+// The edges of a plan, joined in the rows as they come.
 fn read_edges<'a>(
     s: &'a [u8],
     n: u16,
     m: u16,
     from: usize,
     rows: &'a mut [u64; GraphTable::ROW_WORDS],
-    ends: &'a mut [u16],
 ) -> PlanHead
     requires { ⌜ (n ≤ capacity) × (m ≤ maxEdges) ⌝ }
     ensures { λ r. ⌜ r ≡ runs (edgeLoop n m) m (0, 0) ((0, 0), 0) (now (s .entry)) from ⌝ }
-    ensures { λ r. ⌜ now (rows .exit) ≡ edgesIn joined n m (now (rows .entry)) (now (s .entry)) from ⌝ }
-    ensures { λ r. ⌜ now (ends .exit) ≡ edgesIn laid n m (0, now (ends .entry)) (now (s .entry)) from .1 ⌝ }
+    ensures { λ r. ⌜ now (rows .exit) ≡ edgesIn n m (now (rows .entry)) (now (s .entry)) from ⌝ }
 {
     let mut at = from;
     let mut lower: u16 = 0;
@@ -168,7 +150,6 @@ fn read_edges<'a>(
             return edge_fault(x);
         };
         graph::join(rows, u, v);
-        lay(ends, m - left, u, v);
         d = count_pair(d, lower, higher, u, v);
         lower = u;
         higher = v;
@@ -184,16 +165,11 @@ fn read_edges<'a>(
     }
 }
 
-// A plan at the start of s, up to its last edge, whatever follows. Its edges are joined in the rows and laid in the array as they
-// come, so those before a fault stay in them.
-fn read_leading_arrays<'a>(
-    s: &'a [u8],
-    rows: &'a mut [u64; GraphTable::ROW_WORDS],
-    ends: &'a mut [u16],
-) -> PlanHead
+// A plan at the start of s, up to its last edge, whatever follows. Its edges are joined in the rows as they come, so those before
+// a fault stay in them.
+pub fn read_leading_rows<'a>(s: &'a [u8], rows: &'a mut [u64; GraphTable::ROW_WORDS]) -> PlanHead
     ensures { λ r. ⌜ r ≡ headOf (leadingPlan (now (s .entry))) ⌝ }
     ensures { λ r. ⌜ now (rows .exit) ≡ rowsLeft (now (rows .entry)) (now (s .entry)) ⌝ }
-    ensures { λ r. ⌜ now (ends .exit) ≡ endsLeft (now (ends .entry)) (now (s .entry)) ⌝ }
 {
     let x = record::read_number(s, 0);
     let Number::Value(n, m_at) = x else {
@@ -212,20 +188,15 @@ fn read_leading_arrays<'a>(
     if GraphTable::MAX_EDGES < m {
         return refused(4, m_at);
     }
-    read_edges(s, n, m, at, rows, ends)
+    read_edges(s, n, m, at, rows)
 }
 
 // A whole plan record: a byte after its last edge is refused.
-fn read_plan_arrays<'a>(
-    s: &'a [u8],
-    rows: &'a mut [u64; GraphTable::ROW_WORDS],
-    ends: &'a mut [u16],
-) -> PlanHead
+pub fn read_plan_rows<'a>(s: &'a [u8], rows: &'a mut [u64; GraphTable::ROW_WORDS]) -> PlanHead
     ensures { λ r. ⌜ r ≡ headOf (wholePlan (now (s .entry))) ⌝ }
     ensures { λ r. ⌜ now (rows .exit) ≡ rowsLeft (now (rows .entry)) (now (s .entry)) ⌝ }
-    ensures { λ r. ⌜ now (ends .exit) ≡ endsLeft (now (ends .entry)) (now (s .entry)) ⌝ }
 {
-    let head = read_leading_arrays(s, rows, ends);
+    let head = read_leading_rows(s, rows);
     let answer = head.answer;
     let next = head.next;
     let Answer::Accepted = answer else {
@@ -237,37 +208,52 @@ fn read_plan_arrays<'a>(
     head
 }
 
-// The same without the array of edges, for callers that only need the rows.
-pub fn read_leading_rows<'a>(s: &'a [u8], rows: &'a mut [u64; GraphTable::ROW_WORDS]) -> PlanHead
-    ensures { λ r. ⌜ r ≡ headOf (leadingPlan (now (s .entry))) ⌝ }
-    ensures { λ r. ⌜ now (rows .exit) ≡ rowsLeft (now (rows .entry)) (now (s .entry)) ⌝ }
+// The next count numbers of the record, laid in the array from its beginning on.
+fn lay_numbers<'a>(s: &'a [u8], from: usize, count: usize, ends: &'a mut [u16; PlanTable::ENDS])
+    requires { ⌜ count ≤ endCount ⌝ }
+    ensures { λ r. ⌜ now (ends .exit) ≡ numbersIn count (now (ends .entry)) (now (s .entry)) from ⌝ }
 {
-    let mut ends = [0u16; 0];
-    read_leading_arrays(s, rows, &mut ends)
+    let mut at = from;
+    let mut i = 0;
+    while i < count {
+        let x = record::read_number(s, at);
+        let Number::Value(v, next) = x else {
+            return;
+        };
+        ends[i] = v;
+        at = next;
+        i += 1;
+    }
 }
 
-pub fn read_plan_rows<'a>(s: &'a [u8], rows: &'a mut [u64; GraphTable::ROW_WORDS]) -> PlanHead
-    ensures { λ r. ⌜ r ≡ headOf (wholePlan (now (s .entry))) ⌝ }
-    ensures { λ r. ⌜ now (rows .exit) ≡ rowsLeft (now (rows .entry)) (now (s .entry)) ⌝ }
+// The edges of a plan that was accepted, in the order of its record. A second reading, so that callers who only need the rows keep no array.
+fn read_ends<'a>(s: &'a [u8], m: u16, ends: &'a mut [u16; PlanTable::ENDS])
+    requires { ⌜ m ≤ maxEdges ⌝ }
+    ensures { λ r. ⌜ now (ends .exit) ≡ endsRead (now (ends .entry)) m (now (s .entry)) ⌝ }
 {
-    let mut ends = [0u16; 0];
-    read_plan_arrays(s, rows, &mut ends)
+    let x = record::read_number(s, 0);
+    let Number::Value(_, m_at) = x else {
+        return;
+    };
+    let y = record::read_number(s, m_at);
+    let Number::Value(_, at) = y else {
+        return;
+    };
+    lay_numbers(s, at, 2 * m as usize, ends);
 }
 
-// What was read into arrays that were bare, as a plan by value.
-fn by_value(
-    head: PlanHead,
-    rows: [u64; GraphTable::ROW_WORDS],
-    ends: [u16; PlanTable::ENDS],
-) -> PlanRead
-    ensures { λ r. ⌜ r ≡ byValue head rows ends ⌝ }
+// What was read into rows that were bare, as a plan by value.
+fn by_value(s: &[u8], head: PlanHead, rows: [u64; GraphTable::ROW_WORDS]) -> PlanRead
+    requires { ⌜ head .m ≤ maxEdges ⌝ }
+    ensures { λ r. ⌜ r ≡ byValue head rows (endsRead noEnds (head .m) (now (s .entry))) ⌝ }
 {
     let answer = head.answer;
+    let mut ends = [0u16; PlanTable::ENDS];
     let Answer::Accepted = answer else {
         let plan = PlanTable {
             graph: GraphTable::none(),
             m: 0,
-            ends: [0u16; PlanTable::ENDS],
+            ends,
         };
         return PlanRead {
             answer,
@@ -275,6 +261,7 @@ fn by_value(
             next: head.next,
         };
     };
+    read_ends(s, head.m, &mut ends);
     let graph = GraphTable {
         n: head.n,
         d: head.d,
@@ -296,16 +283,14 @@ pub fn read_leading_plan(s: &[u8]) -> PlanRead
     ensures { λ r. ⌜ r ≡ leadingPlan (now (s .entry)) ⌝ }
 {
     let mut rows = [0u64; GraphTable::ROW_WORDS];
-    let mut ends = [0u16; PlanTable::ENDS];
-    let head = read_leading_arrays(s, &mut rows, &mut ends);
-    by_value(head, rows, ends)
+    let head = read_leading_rows(s, &mut rows);
+    by_value(s, head, rows)
 }
 
 pub fn read_plan(s: &[u8]) -> PlanRead
     ensures { λ r. ⌜ r ≡ wholePlan (now (s .entry)) ⌝ }
 {
     let mut rows = [0u64; GraphTable::ROW_WORDS];
-    let mut ends = [0u16; PlanTable::ENDS];
-    let head = read_plan_arrays(s, &mut rows, &mut ends);
-    by_value(head, rows, ends)
+    let head = read_plan_rows(s, &mut rows);
+    by_value(s, head, rows)
 }
