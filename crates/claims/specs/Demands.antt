@@ -27,7 +27,7 @@ use Rattle.certifier.specs.Made.{roomAsked, made, madeFrom, filledFrom}
 use Rattle.script.specs.declared.Part.the-variants.{Within, Cut}
 use Rattle.script.specs.Script.{partAt}
 use Rattle.script.specs.Replay.{answerWord, answerBytes, partOf, reply, replayOf}
-use Rattle.fikzarn.specs.Words.{madeWord, replayWord}
+use Rattle.fikzarn.specs.Words.{planRewritten, madeWord, replayWord}
 use Rattle.lines.specs.Lines.{inputLimit, planWord, certificateWord, faultLine, tooLong}
 use Rattle.gradeline.specs.Line.{gradedLine, gradeLine}
 use Rattle.certifybytes.specs.Bytes.{certifyBytes}
@@ -173,7 +173,17 @@ CertificateOfPlan =
     (P buffer : List ℕ) (p : Plan) → IsPlan P p → (x : Writes P buffer)
     → x .certificate ≡ listBytes numberBytes (certificate pathSpace (2 * p .n + 1) (p .n) (listed (p .edges)))
 
--- THE EXPORTS. A word stands for its answer;
+-- THE EXPORTS. `fikzarn_plan` writes an accepted plan again byte for byte, doubles included, where it has room, and keeps every byte
+-- behind it; else it changes no byte.
+pub record PlanAgain (P buffer : List ℕ) : Type 0 where
+  pub written : wholePlan P .answer ≡ Accepted → length P ≤ length buffer → planRewritten P buffer ≡ P ++ drop (length P) buffer
+  pub too-short : length buffer < length P → planRewritten P buffer ≡ buffer
+  pub refused : ¬ (wholePlan P .answer ≡ Accepted) → planRewritten P buffer ≡ buffer
+
+abbrev pub PlansAgain : Type 0
+PlansAgain = (P : List ℕ) → Bytes P → (buffer : List ℕ) → PlanAgain P buffer
+
+-- A word stands for its answer;
 abbrev pub WordsDecode : Type 0
 WordsDecode = (a : Answer) → Fits a → decoded (answerWord a) ≡ a
 

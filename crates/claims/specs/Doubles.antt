@@ -1,21 +1,24 @@
 -- REQUEST 1 of document 02, two cables between the same boxes: what does not change with it.
 use Prim.Native.Nat.{ℕ, _+_}
 use mathlib.Core.List.{List}
-use mathlib.Core.Bool.{Bool, true, _&&_, _||_}
+use mathlib.Core.Bool.{Bool, true, cond, _&&_, _||_}
 use mathlib.Core.Path.{_≡_}
 use mathlib.Core.Logic.{_↔_}
 use lib.Dec.{ltb, eqb}
 use lib.ListN.{length}
-use Rattle.record.specs.Read.{Read.Got, Read.Refused, Reader, Bytes, Each, _needs⟨_⟩_, _▸_, into, counted, within, ended}
+use Rattle.record.specs.Read.{Read, Read.Got, Read.Refused, Reader, Each, _needs⟨_⟩_, _▸_, into, counted, within, ended}
 use Rattle.record.specs.Number.{number}
-use Rattle.graph.specs.Limits.{minVertices, maxVertices, maxEdges}
+use Rattle.record.specs.declared.Answer.the-variants.{Accepted, PlanFault}
 use Rattle.connectivity.specs.Lists.{In}
+use Rattle.connectivity.specs.Build.{furtherCount}
 use Rattle.reading.specs.Plan.{Plan, Allowed, proper, plan, planBytes, once}
-use Rattle.sessions.specs.Session.{opening}
+use Rattle.reading.specs.Code.{graphOf}
+use Rattle.sessions.specs.declared.Opened.{Opened}
+use Rattle.sessions.specs.Session.{opening, noSession, openedOn}
 use Rattle.checker.specs.Check.{onPlan, onLeading, checkOf, gradeOf}
-use Rattle.certifier.specs.Made.{madeFrom, filledFrom}
+use Rattle.certifier.specs.Made.{madeBy, madeFrom, filledBy, filledFrom}
 use Rattle.claims.specs.Certified.{HasFigure}
-use Rattle.claims.specs.Session.{pairCount}
+use Rattle.claims.specs.Session.{pairCount, due}
 
 -- the edge e comes after the edge d: the base edition's test for 6
 abbrev pub comesAfter : ℕ × ℕ → ℕ × ℕ → Bool
@@ -37,19 +40,30 @@ pub record SameOnce (p : Plan) : Type 0 where
 abbrev pub DoublesAside : Type 0
 DoublesAside = (p : Plan) → Allowed p → SameOnce p
 
--- the base edition's plan record, to the letter
+-- the base edition's plan record: document 01's Records as it stood, with its limits and its test for 6 written out
 unfoldable pub baseEdge : ℕ → ℕ × ℕ → Reader (ℕ × ℕ)
 baseEdge n before = (number ▸ λ lower. number) needs⟨ 5 ⟩ proper n needs⟨ 6 ⟩ comesAfter before
 
 unfoldable pub basePlan : Reader Plan
 basePlan = into (λ p. record { n = p .0; edges = p .1 })
-    (number needs⟨ 3 ⟩ within minVertices maxVertices ▸ λ n. counted (number needs⟨ 4 ⟩ within 0 maxEdges) (baseEdge n) (λ before e. e) (0, 0))
+    (number needs⟨ 3 ⟩ within 4 128 ▸ λ n. counted (number needs⟨ 4 ⟩ within 0 512) (baseEdge n) (λ before e. e) (0, 0))
 
--- A record that the base edition accepted is accepted, as the same plan and with the same answers, and where document 01 counts cables its
--- pairs are as many; one that it refused is refused with the same number at the same place, but for 6.
+-- its opening and its path count, which counted cables
+abbrev pub baseOpening : Read Plan → Opened
+baseOpening (Got p next) =
+    cond (ltb (length (p .edges)) (p .n + 2)) (record { answer = PlanFault 29 0; session = noSession }) (record { answer = Accepted; session = openedOn (graphOf p) })
+baseOpening (Refused r q) = record { answer = PlanFault r q; session = noSession }
+
+-- A record is read as the base edition read it, whole or with bytes behind it, unless that edition refused it by 6: so every record that
+-- it accepted is accepted, as the same plan, and every other refusal has its number and place. The plan of a record that it accepted has as many
+-- pairs as cables, so what counted cables counts the same; and every call that takes a plan answers what its definition gives on
+-- the base edition's reading.
 pub record BaseKept : Type 0 where
-  pub reads : (s : List ℕ) (p : Plan) (next : ℕ) → basePlan s 0 ≡ Got p next → plan s 0 ≡ Got p next
-  pub refuses : (s : List ℕ) (r q : ℕ) → basePlan s 0 ≡ Refused r q → ¬ (r ≡ 6) → plan s 0 ≡ Refused r q
-  pub counts : (s : List ℕ) (p : Plan) (next : ℕ) → basePlan s 0 ≡ Got p next → pairCount p ≡ length (p .edges)
-  pub answers : (P C : List ℕ) (p : Plan) (next : ℕ) → ended basePlan P 0 ≡ Got p next → checkOf P C ≡ onPlan (ended basePlan P 0) C
+  pub whole : (P : List ℕ) → ((q : ℕ) → ¬ (ended basePlan P 0 ≡ Refused 6 q)) → ended plan P 0 ≡ ended basePlan P 0
+  pub leading : (s : List ℕ) → ((q : ℕ) → ¬ (basePlan s 0 ≡ Refused 6 q)) → plan s 0 ≡ basePlan s 0
+  pub counts : (s : List ℕ) (p : Plan) (next : ℕ) → basePlan s 0 ≡ Got p next → (pairCount p ≡ length (p .edges)) × (due p ≡ furtherCount (length (p .edges)) (p .n))
+  pub checks : (P C : List ℕ) (p : Plan) (next : ℕ) → ended basePlan P 0 ≡ Got p next → checkOf P C ≡ onPlan (ended basePlan P 0) C
   pub grades : (s : List ℕ) (p : Plan) (next : ℕ) → basePlan s 0 ≡ Got p next → gradeOf s ≡ onLeading (basePlan s 0) s
+  pub opens : (P : List ℕ) (p : Plan) (next : ℕ) → ended basePlan P 0 ≡ Got p next → opening P ≡ baseOpening (ended basePlan P 0)
+  pub makes : (P buffer : List ℕ) (p : Plan) (next : ℕ) → ended basePlan P 0 ≡ Got p next → madeFrom P buffer ≡ madeBy buffer Accepted (graphOf p)
+  pub fills : (P buffer : List ℕ) (p : Plan) (next : ℕ) → ended basePlan P 0 ≡ Got p next → filledFrom P buffer ≡ filledBy buffer Accepted (graphOf p)

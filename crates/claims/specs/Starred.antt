@@ -1,4 +1,4 @@
--- The starred barns and plans of document 01, as records with their answers.
+-- The starred barns and plans of document 01, with the one that request 1 changes, as records with their answers.
 use Prim.Native.Nat.{ℕ}
 use mathlib.Core.List.{List, [], _∷_, _++_}
 use mathlib.Core.Path.{_≡_}
@@ -51,12 +51,11 @@ starred =
     -- the starred plans
     example [] [] (PlanFault 1 0) ∷
     example (132 ∷ 0 ∷ []) [] (PlanFault 2 0) ∷
-    -- document 01 had 6 at 4 here; by request 1 of document 02 it is a good plan, so what is at fault is the certificate, which is empty
-    example (4 ∷ 2 ∷ 0 ∷ 1 ∷ 0 ∷ 1 ∷ []) [] (CertificateFault 1 0) ∷
-    -- and a cable before its predecessor is 6
-    example (4 ∷ 2 ∷ 0 ∷ 2 ∷ 0 ∷ 1 ∷ []) [] (PlanFault 6 4) ∷ []
+    -- document 01 has 6 at 4 here; by request 1 of document 02 it is a good plan, of figure 0
+    example (4 ∷ 2 ∷ 0 ∷ 1 ∷ 0 ∷ 1 ∷ []) (0 ∷ 2 ∷ 0 ∷ 1 ∷ []) (Grade 0) ∷ []
 
--- request 1 of document 02: A, B and C with the cable 0 1 doubled. C has then six cables, as many as n + 2, and still five pairs.
+-- request 1 of document 02: A, B and C with the cable 0 1 doubled (C has then six cables, as many as n + 2, and still five pairs), and a cable
+-- before its predecessor
 abbrev pub doubledB : List ℕ
 doubledB = 4 ∷ 6 ∷ 0 ∷ 1 ∷ 0 ∷ 1 ∷ 0 ∷ 2 ∷ 0 ∷ 3 ∷ 1 ∷ 2 ∷ 1 ∷ 3 ∷ []
 
@@ -64,9 +63,10 @@ abbrev pub doubled : List Example
 doubled =
     example (4 ∷ 7 ∷ 0 ∷ 1 ∷ 0 ∷ 1 ∷ 0 ∷ 2 ∷ 0 ∷ 3 ∷ 1 ∷ 2 ∷ 1 ∷ 3 ∷ 2 ∷ 3 ∷ []) (exampleA .certificate) (Grade 3) ∷
     example doubledB (2 ∷ 0 ∷ 1 ∷ 2 ∷ 3 ∷ 0 ∷ 1 ∷ 2 ∷ 3 ∷ 0 ∷ 3 ∷ 1 ∷ 1 ∷ 2 ∷ []) (Grade 2) ∷
-    example doubledB (3 ∷ 0 ∷ 1 ∷ 2 ∷ 3 ∷ 0 ∷ 1 ∷ 2 ∷ 3 ∷ 0 ∷ 3 ∷ 1 ∷ 1 ∷ 2 ∷ []) (CertificateFault 29 0) ∷ []
+    example doubledB (3 ∷ 0 ∷ 1 ∷ 2 ∷ 3 ∷ 0 ∷ 1 ∷ 2 ∷ 3 ∷ 0 ∷ 3 ∷ 1 ∷ 1 ∷ 2 ∷ []) (CertificateFault 29 0) ∷
+    example (4 ∷ 2 ∷ 0 ∷ 2 ∷ 0 ∷ 1 ∷ []) [] (PlanFault 6 4) ∷ []
 
--- the checker answers each as document 01 says
+-- the checker answers each as said
 abbrev pub AllAnswered : List Example → Type 0
 AllAnswered [] = Unit {0}
 AllAnswered (b ∷ l) = (checkOf (b .plan) (b .certificate) ≡ b .answer) × AllAnswered l

@@ -1,6 +1,6 @@
 // The plan record, read into lent arrays or into a plan by value.
 ghost use mathlib.Core.Path.{_≡_};
-ghost use Prim.Native.Nat.{_≤_, _<_};
+ghost use Prim.Native.Nat.{_+_, _*_, _≤_, _<_};
 ghost use Rattle.record.specs.Loop.{runs};
 ghost use Rattle.vertexset.specs.Set.{capacity};
 ghost use Rattle.graph.specs.Limits.{maxEdges};
@@ -54,17 +54,18 @@ pub fn proper(n: u16, u: u16, v: u16) -> bool
     v < n
 }
 
+// An edge as one number, so that one comparison tells the order of two.
+fn key(u: u16, v: u16) -> u32
+    ensures { λ r. ⌜ r ≡ u * 65536 + v ⌝ }
+{
+    u as u32 * 65536 + v as u32
+}
+
 // The edge from u to v does not come before the edge from lower to higher.
 pub fn follows(lower: u16, higher: u16, u: u16, v: u16) -> bool
     ensures { λ r. ⌜ r ≡ follows (lower, higher) (u, v) ⌝ }
 {
-    if lower < u {
-        return true;
-    }
-    if lower == u {
-        return higher <= v;
-    }
-    false
+    key(lower, higher) <= key(u, v)
 }
 
 // The edge from u to v that was read at a place, tested.
@@ -131,13 +132,10 @@ fn count_pair(d: u16, lower: u16, higher: u16, u: u16, v: u16) -> u16
     requires { ⌜ d < maxEdges ⌝ }
     ensures { λ r. ⌜ r ≡ countedPair (lower, higher) d (u, v) ⌝ }
 {
-    if lower != u {
-        return d + 1;
+    if key(lower, higher) == key(u, v) {
+        return d;
     }
-    if higher != v {
-        return d + 1;
-    }
-    d
+    d + 1
 }
 
 // The edges of a plan, joined in the rows and laid in the array as they come.

@@ -1,16 +1,16 @@
--- `reading::follows` meets its contract: the tests that led to a return pick the case. Assumes nothing.
-use borrow.Author.Tests.{lt-ltb, le-ltb, eq-eqb, ne-eqb}
+-- `reading::follows` meets its contract: the order of two edges is that of their numbers. Assumes nothing.
+use Prim.Native.Nat.{_<_}
+use mathlib.Core.Path.{_∙_}
+use borrow.Author.Needs.{needs}
+use native.Mathlib.Omega.{arith}
+use Rattle.reading.proofs.EdgeTests.{key-follows}
 use Rattle.reading.proofs.follows.Statement.{statement}
 use Rattle.reading.proofs.follows.Tie as tie
 
 returns : tie.Need-returns
-returns c = rw (lt-ltb _ _ (c .if1 .taken))
-
-returns-2 : tie.Need-returns-2
-returns-2 c = rw (le-ltb _ _ (c .before .if1 .left), eq-eqb _ _ (c .if2 .taken))
-
-returns-3 : tie.Need-returns-3
-returns-3 c = rw (le-ltb _ _ (c .before .if1 .left), ne-eqb _ _ (c .if2 .left))
+returns c =
+    let a = c .before .before .args in
+    rw (c .before .key .ensures, c .key2 .ensures) (key-follows (a .lower, a .higher) (a .u, a .v) (omega arith) (omega arith))
 
 pub follows-spec : {M : Type 1} → statement M
-follows-spec = tie.close (tie.spec returns returns-2 returns-3)
+follows-spec = tie.close (tie.spec (λ c κs. search needs) (λ c κs. search needs) returns)
