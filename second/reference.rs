@@ -981,6 +981,7 @@ fn build(plan: &Plan, random: &mut Random) -> Result<Whole, (usize, usize)> {
         }
         let path = if early.is_some() { early } else { due_path(&neighbours, &build, random)? };
         let Some(path) = path else { break };
+        // Where one link holds both ends, that link is an edge, and is led over the path.
         if build.one_link_holds(path[0], path[path.len() - 1]) {
             reroute(&mut build, &mut paths, &path);
         } else {
@@ -995,8 +996,8 @@ fn build(plan: &Plan, random: &mut Random) -> Result<Whole, (usize, usize)> {
     Ok((four, paths))
 }
 
-/// A path from inside a link; where all links are edges, one through a vertex outside the build; none where that is all inside. Where
-/// the ends of a link separate its inner vertices from the rest, these ends.
+/// A path from inside a link; where all links are edges, one through a vertex outside the build; none where no vertex is outside. Or
+/// the ends of a link, where they separate its inner vertices from the rest.
 fn due_path(neighbours: &[Vec<usize>], build: &Build, random: &mut Random) -> Result<Option<Vec<usize>>, (usize, usize)> {
     let long: Vec<&Vec<usize>> = build.links.iter().filter(|link| link.len() > 2).collect();
     if !long.is_empty() {
