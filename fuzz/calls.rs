@@ -101,32 +101,32 @@ fn check(plan: &[u8], certificate: &[u8]) -> Result<Answer, String> {
 /// The certifier's choice is its own: the second implementation has to accept it with the plan's connectivity. Doubles change nothing.
 fn certify(bytes: &[u8], room: usize, fill: u8) -> Result<Answer, String> {
     let length = fikzarn::CERTIFICATE_ROOM - 8 + room;
-    let mut out = vec![fill; length];
-    let made = fikzarn::certify(bytes, &mut out).map(|made| (made.grade, made.certificate.len()));
+    let (made, out) = certified(bytes, length, fill);
     let expected = match reference::read_plan(bytes) {
         Err((number, place)) => Answer::PlanFault(number, place),
         Ok(_) if length < fikzarn::CERTIFICATE_ROOM => Answer::PlanFault(30, 0),
         Ok(plan) => Answer::Grade(reference::connectivity_by_low_points(&plan)),
     };
-    let size = match made {
-        Ok((grade, size)) => {
-            same("certify", Answer::Grade(grade), expected)?;
-            same("its certificate", reference::check(bytes, &out[..size]), expected)?;
-            same("its length", size <= fikzarn::CERTIFICATE_ROOM, true)?;
-            if let Some(once) = once(bytes) {
-                let mut out_once = vec![fill; length];
-                fikzarn::certify(&once, &mut out_once).ok();
-                same("the certificate with each double written once", &out_once, &out)?;
-            }
-            size
-        }
-        Err(refused) => {
-            same("certify", plain(refused), expected)?;
-            0
-        }
-    };
+    same("certify", made.map_or_else(plain, |(grade, _)| Answer::Grade(grade)), expected)?;
+    let size = made.map_or(0, |(_, size)| size);
+    if made.is_ok() {
+        same("its certificate", reference::check(bytes, &out[..size]), expected)?;
+        same("its length", size <= fikzarn::CERTIFICATE_ROOM, true)?;
+    }
     same("certify's buffer behind the certificate", &out[size..], &vec![fill; length - size][..])?;
+    if let Some(once) = once(bytes) {
+        let (made_once, out_once) = certified(&once, length, fill);
+        same("certify with each double written once", made_once, made)?;
+        same("certify's buffer with each double written once", out_once, out)?;
+    }
     Ok(expected)
+}
+
+/// The grade and the length, or the refusal; and the whole buffer.
+fn certified(bytes: &[u8], length: usize, fill: u8) -> (Result<(u8, usize), fikzarn::Answer>, Vec<u8>) {
+    let mut out = vec![fill; length];
+    let made = fikzarn::certify(bytes, &mut out).map(|made| (made.grade, made.certificate.len()));
+    (made, out)
 }
 
 fn session(bytes: &[u8], room: usize, fill: u8) -> Result<Vec<Answer>, String> {

@@ -4,7 +4,7 @@ use crate::library::{self, Lent};
 use crate::reference::*;
 use crate::Tally;
 
-/// "The length is at most 1,536"; 30 below.
+/// "the length is at most 1,536"; 30 below.
 pub const SPACE: usize = 1536;
 /// Up to here the figure is found as document 01 words it, above by low points.
 const MOST_BY_REMOVAL: usize = 48;
@@ -71,7 +71,8 @@ impl Run {
         }
     }
 
-    /// A plan record, refused or not, and a buffer of any size: "plan faults come, for the maker, before 30".
+    /// A plan record, refused or not, and a buffer of any size: "Plan faults come before certificate faults, and for the maker before
+    /// 30."
     fn sized(&mut self, record: &[u8], answer: Result<u8, Fault>) {
         let smaller = self.random.below(SPACE);
         let size = *self.random.pick(&[0, smaller, SPACE - 1, SPACE, SPACE + smaller]);

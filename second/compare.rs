@@ -71,7 +71,7 @@ impl Tally {
     }
 
     fn see_shapes(&mut self, plan: &Plan) {
-        shapes(plan).into_iter().for_each(|shape| *self.shapes.entry(shape).or_default() += 1);
+        shapes(plan).into_iter().for_each(|(shape, holds)| *self.shapes.entry(shape).or_default() += holds as u64);
     }
 
     /// The first case that differs is printed whole, in decimal.
@@ -83,17 +83,18 @@ impl Tally {
         }
     }
 
-    /// Prints the counts; right if nothing differs and every outcome that is due was seen, with doubles too.
+    /// Prints the counts; right if nothing differs, and every outcome that is due was seen, with doubles too, and every shape.
     fn close(self, count: u64, due: Vec<(&'static str, u8)>) -> bool {
         for ((name, number), [all, with_doubles]) in &self.outcomes {
             println!("  {}: {all}, {with_doubles} with doubles", outcome(name, *number));
         }
         self.shapes.iter().for_each(|(name, count)| println!("  {name}: {count}"));
         let seen = |key: &(&str, u8)| self.outcomes.get(key).is_some_and(|&[_, with_doubles]| with_doubles > 0);
-        let missing: Vec<_> = due.into_iter().filter(|key| !seen(key)).collect();
-        missing.iter().for_each(|(name, number)| println!("never seen with doubles: {}", outcome(name, *number)));
+        let mut missing: Vec<String> = due.iter().filter(|key| !seen(key)).map(|(name, number)| outcome(name, *number)).collect();
+        missing.extend(self.shapes.iter().filter(|(_, &count)| count == 0).map(|(name, _)| name.to_string()));
+        missing.iter().for_each(|missing| println!("never seen with doubles: {missing}"));
         println!("{count} compared, {} differ", self.differ);
-        self.differ == 0 && missing.is_empty() && self.shapes.len() == generate::SHAPES
+        self.differ == 0 && missing.is_empty()
     }
 }
 
@@ -221,7 +222,8 @@ fn sessions(count: u64, seed: u64, program: &str) -> bool {
             let what = format!("line {}: expected {}, the program printed {}", same + 1, line(&expected), line(&printed));
             tally.differs(&[("script", &bytes)], what);
         }
-        if let Some(what) = replayed(&bytes, &answers, end, &mut random) {
+        let room = any_room(answers.len(), &mut random);
+        if let Some(what) = replayed(&bytes, &answers, end, room, &mut random) {
             tally.differs(&[("script", &bytes)], what);
         }
     }
@@ -264,13 +266,17 @@ fn lines(script: &[u8], answers: &[(Answer, Option<usize>)], end: End, plan: &[u
     lines + last + "\n"
 }
 
-/// What is wrong with the library's replay, in a buffer that has room for all answers or, one time in four, perhaps not.
-fn replayed(script: &[u8], answers: &[(Answer, Option<usize>)], end: End, random: &mut Random) -> Option<String> {
-    let size = match random.below(4) {
-        0 => random.below(8 * answers.len() + 8),
-        1 => 8 * answers.len(),
-        _ => 8 * answers.len() + random.below(64),
-    };
+/// Room for all answers or, one time in four, perhaps not.
+fn any_room(answers: usize, random: &mut Random) -> usize {
+    match random.below(4) {
+        0 => random.below(8 * answers + 8),
+        1 => 8 * answers,
+        _ => 8 * answers + random.below(64),
+    }
+}
+
+/// What is wrong with the library's replay into a buffer of so many bytes.
+fn replayed(script: &[u8], answers: &[(Answer, Option<usize>)], end: End, size: usize, random: &mut Random) -> Option<String> {
     let made = answers.len().min(size / 8);
     let expected = if made < answers.len() { 3 } else { end as u64 };
     let words: Vec<u8> = answers[..made].iter().flat_map(|&(answer, _)| library::word(answer).to_le_bytes()).collect();

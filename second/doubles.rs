@@ -1,10 +1,10 @@
 // compare doubles: a plan with doubles beside the same plan with each double written once. The library writes the same certificate for
-// both, and gives every certificate, and every list of session calls, the same answers beside both.
+// both. Every certificate, and every list of session calls, gets the same answers with both, those of the second implementation.
 use crate::certify::{certified, figure, SPACE};
 use crate::generate::{doubled, every_plan, larger_plan, Generator, Script};
-use crate::library::{self, Lent};
+use crate::library;
 use crate::reference::*;
-use crate::Tally;
+use crate::{replayed, Tally};
 
 /// Certificates that are checked beside each larger plan.
 const CHECKS: usize = 10;
@@ -63,11 +63,14 @@ impl Run {
     fn check(&mut self, record: &[u8], certificate: &[u8]) {
         let Ok(plan) = read_plan(record) else { return };
         let (doubled, simple) = self.both(&plan);
-        let (given, once) = (library::check(&doubled, certificate), library::check(&simple, certificate));
-        self.tally.count(check(&simple, certificate), &doubled);
-        if given != once {
-            let what = format!("{}, with each double written once {}", library::told(given), library::told(once));
-            self.tally.differs(&[("plan", &doubled), ("certificate", certificate)], what);
+        let expected = check(&simple, certificate);
+        self.tally.count(expected, &doubled);
+        for plan in [&doubled, &simple] {
+            let given = library::check(plan, certificate);
+            if given != library::word(expected) {
+                let what = format!("expected {expected:?}, the library gave {}", library::told(given));
+                self.tally.differs(&[("plan", plan), ("certificate", certificate)], what);
+            }
         }
     }
 
@@ -76,16 +79,12 @@ impl Run {
         let (doubled, simple) = self.both(&plan);
         let encoded = |plan: &[u8]| Script { plan: plan.to_vec(), calls: script.calls.clone() }.encode(usize::MAX);
         let scripts = [encoded(&doubled), encoded(&simple)];
-        for (answer, _) in replay(&scripts[1]).0 {
-            self.tally.count(answer, &doubled);
-        }
-        let [given, once] = scripts.each_ref().map(|script| {
-            let mut out = Lent::new(8 * script.len(), &mut self.random);
-            let (end, made) = library::session(script, out.buffer());
-            (end, out.written(8 * made).to_vec(), out.touched(8 * made))
-        });
-        if given != once || given.2.is_some() {
-            self.tally.differs(&[("script", &scripts[0])], format!("{given:?}, with each double written once {once:?}"));
+        let (answers, end) = replay(&scripts[1]);
+        answers.iter().for_each(|&(answer, _)| self.tally.count(answer, &doubled));
+        for script in &scripts {
+            if let Some(what) = replayed(script, &answers, end, 8 * script.len(), &mut self.random) {
+                self.tally.differs(&[("script", script)], what);
+            }
         }
     }
 }

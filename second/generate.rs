@@ -278,26 +278,20 @@ fn at_the_bound(random: &mut Random) -> Plan {
     doubled(&numbered(n, &edges, random), random)
 }
 
-/// How many names `shapes` has.
-pub const SHAPES: usize = 7;
-
-/// What a plan with doubles is an example of.
-pub fn shapes(plan: &Plan) -> Vec<&'static str> {
+/// Whether a plan with doubles is an example of each of these; a plan without doubles is of none.
+pub fn shapes(plan: &Plan) -> [(&'static str, bool); 7] {
     let times: Vec<usize> = plan.edges.chunk_by(|a, b| a == b).map(|same| same.len()).collect();
     let (n, m, d) = (plan.n, plan.edges.len(), times.len());
-    if m == d {
-        return Vec::new();
-    }
-    let shapes: [(&str, bool); SHAPES] = [
-        ("first edge doubled", times[0] > 1),
-        ("last edge doubled", times[d - 1] > 1),
+    let shapes = [
+        ("first edge doubled", times.first() > Some(&1)),
+        ("last edge doubled", times.last() > Some(&1)),
         ("an edge three times or more", times.iter().any(|&times| times > 2)),
         ("every edge doubled", times.iter().all(|&times| times > 1)),
         ("512 edges, fewer pairs", m == MOST_EDGES),
         ("n+1 pairs, more edges", d == n + 1),
         ("n+2 pairs, more edges", d == n + 2),
     ];
-    shapes.into_iter().filter(|(_, holds)| *holds).map(|(name, _)| name).collect()
+    shapes.map(|(name, holds)| (name, holds && m > d))
 }
 
 /// How many plans on 4, 5, 6 and 7 vertices have the figures 0, 1, 2 and 3.
@@ -591,17 +585,8 @@ fn damaged_items(mut items: Vec<Vec<usize>>, plan: &Plan, random: &mut Random) -
         3 => left_out(&mut items, at),
         4 => items[at] = random_walk(plan, random),
         5 => items.insert(at, random_walk(plan, random)),
-        6 if last > 2 => {
-            items[at].pop();
-            items[at][0] = last - 1;
-        }
-        7 => {
-            // One vertex more at the end, a neighbour if there is one.
-            let from = items[at][last];
-            let near: Vec<usize> = (0..plan.n).filter(|&v| plan.adjacent(v, from)).collect();
-            items[at].push(if near.is_empty() { from } else { *random.pick(&near) });
-            items[at][0] = last + 1;
-        }
+        6 if last > 2 => shortened(&mut items[at]),
+        7 => lengthened(&mut items[at], plan, random),
         8 if last > 1 => items[at][last] = items[at][1],
         9 | 10 => changed_side(&mut items, plan.n, random),
         11 | 12 => offered(&mut items, plan, random),
@@ -641,6 +626,20 @@ fn left_out(items: &mut Vec<Vec<usize>>, at: usize) {
     if items[0] == [2] && at >= 3 && items.len() > 4 {
         items[2][0] -= 1;
     }
+}
+
+/// One vertex fewer at the end.
+fn shortened(item: &mut Vec<usize>) {
+    item.pop();
+    item[0] = item.len() - 1;
+}
+
+/// One vertex more at the end, a neighbour if there is one.
+fn lengthened(item: &mut Vec<usize>, plan: &Plan, random: &mut Random) {
+    let from = item[item.len() - 1];
+    let near: Vec<usize> = (0..plan.n).filter(|&v| plan.adjacent(v, from)).collect();
+    item.push(if near.is_empty() { from } else { *random.pick(&near) });
+    item[0] = item.len() - 1;
 }
 
 /// Goes on from the last vertex of a path to its first, if they are adjacent: equal ends, every step an edge.

@@ -3,7 +3,8 @@
 // A box is a vertex here, a cable an edge, a lost box a removed vertex, a further path a BG-path.
 // Nothing is tuned: sets are vectors, and each test stands beside the sentence that asks for it.
 
-/// "An answer is a grade, or the record at fault with a number and a place. An accepted opening, start or path has a case of its own."
+/// "An answer is a grade, or the record at fault with a number and a place. An accepted opening, start or path has a case of its own,
+/// without a grade."
 #[derive(Debug, PartialEq, Eq, Clone, Copy)]
 pub enum Answer {
     Accepted,
@@ -40,7 +41,7 @@ impl Plan {
         Plan { n, edges }
     }
 
-    /// "Different pairs of boxes with at least one cable between them."
+    /// The "different pairs of boxes with at least one cable between them".
     pub fn pairs(&self) -> Vec<(usize, usize)> {
         let mut pairs = self.edges.clone();
         pairs.dedup();
@@ -66,8 +67,8 @@ impl Plan {
         lists
     }
 
-    /// "Exactly m-n-2 further paths"; none where m is below n+2 (29). Request 1: "wherever 01 counts cables in the rules of kind 3,
-    /// in the session and in the test against n+2, m becomes the number of cabled pairs".
+    /// "then exactly m−n−2 further paths"; none where m is below n+2 (29). Request 1: "wherever 01 counts cables in the rules of
+    /// kind 3, in the session and in the test against n+2, m becomes the number of cabled pairs".
     pub fn further_paths(&self) -> Option<usize> {
         self.pairs().len().checked_sub(self.n + 2)
     }
@@ -86,7 +87,7 @@ impl<'a> Reader<'a> {
         Reader { bytes, place: 0 }
     }
 
-    /// "Groups of seven bits, lowest group first. A byte of 128 or more says that another follows."
+    /// "A number is written in groups of seven bits, lowest group first. A byte of 128 or more says that another follows."
     fn number(&mut self) -> Result<usize, Fault> {
         // 1: "The record ends inside a number or before one that is due. Place: its length."
         let ended = Err((1, self.bytes.len()));
@@ -96,7 +97,7 @@ impl<'a> Reader<'a> {
             return Ok(first as usize);
         }
         let Some(&second) = self.bytes.get(self.place + 1) else { return ended };
-        // 2: "A number's second byte is 0, or is 128 or more. Place: the number's first byte."
+        // 2: "A number's second byte is 0, or is 128 or more. Place: the number's first byte".
         if second == 0 || second >= 128 {
             return Err((2, self.place));
         }
@@ -119,7 +120,7 @@ impl<'a> Reader<'a> {
         self.number_within(0, n - 1, 9)
     }
 
-    /// "A path is written as a length L and then L boxes." 9: "a length above n or below the least named for that path".
+    /// "A path is written as a length L and then L boxes". 9: "a length above n or below the least named for that path".
     fn path(&mut self, n: usize, least: usize) -> Result<Vec<usize>, Fault> {
         let length = self.number_within(least, n, 9)?;
         (0..length).map(|_| self.vertex(n)).collect()
@@ -151,7 +152,7 @@ fn plan_from(reader: &mut Reader) -> Result<Plan, Fault> {
     let m = reader.number_within(0, MOST_EDGES, 4)?;
     let mut edges: Vec<(usize, usize)> = Vec::new();
     for _ in 0..m {
-        // "A cable is read whole, then tested for 5, 6. Place: lower box."
+        // "A cable is read whole, then tested for 5, 6." Both: "Place: lower box."
         let place = reader.place;
         let lower = reader.number()?;
         let higher = reader.number()?;
@@ -184,7 +185,7 @@ pub fn read_plan_prefix(bytes: &[u8]) -> Result<(Plan, usize), Fault> {
 
 // ---------------------------------------------------------------- certificates
 
-/// "Plan faults come before certificate faults."
+/// "Plan faults come before certificate faults".
 pub fn check(plan: &[u8], certificate: &[u8]) -> Answer {
     match read_plan(plan) {
         Err((number, place)) => Answer::PlanFault(number, place),
@@ -229,7 +230,7 @@ fn check_side(plan: &Plan, reader: &mut Reader, removed: &[usize]) -> Result<(),
         }
         side.push(vertex);
     }
-    // "The rest is every box neither lost nor in the side."
+    // "the rest is every box neither lost nor in the side".
     let rest: Vec<usize> = (0..n).filter(|v| !removed.contains(v) && !side.contains(v)).collect();
     // 22: "Side or rest empty. Place: side count."
     if side.is_empty() || rest.is_empty() {
@@ -244,13 +245,14 @@ fn check_side(plan: &Plan, reader: &mut Reader, removed: &[usize]) -> Result<(),
     Ok(())
 }
 
-/// Kind 1: "a box c; a first box; n-1 pairs (new box, a box named before as first box or new box) with a cable between the two; a side. c is lost."
+/// Kind 1: "a box c; a first box; n−1 pairs (new box, a box named before as first box or new box) with a cable between the two; a side.
+/// c is lost."
 fn check_tree(plan: &Plan, reader: &mut Reader) -> Result<(), Fault> {
     let n = plan.n;
     let removed = reader.vertex(n)?;
     let mut named = vec![reader.vertex(n)?];
     for _ in 0..n - 1 {
-        // "A pair of kind 1 is read whole, then tested for 24, 25, 26. Place: its new box's."
+        // "A path or a pair of kind 1 is read whole, then tested for 24, 25, 26, 27." The place is "for a pair of kind 1 its new box's".
         let place = reader.place;
         let new = reader.vertex(n)?;
         let old = reader.vertex(n)?;
@@ -268,7 +270,7 @@ fn check_tree(plan: &Plan, reader: &mut Reader) -> Result<(), Fault> {
     check_side(plan, reader, &[removed])
 }
 
-/// Kind 2: "two boxes, ascending, which are lost; an ear count of 1 to n-2; the ears; a side."
+/// Kind 2: "two boxes, ascending, which are lost; an ear count of 1 to n−2; the ears; a side."
 fn check_ears(plan: &Plan, reader: &mut Reader) -> Result<(), Fault> {
     let n = plan.n;
     let lower = reader.vertex_above(n, None)?;
@@ -286,7 +288,7 @@ fn check_ears(plan: &Plan, reader: &mut Reader) -> Result<(), Fault> {
             reached[vertex] = true;
         }
     }
-    // 28: "A box that isn't in after a certificate's last ear. Place: after it"; "28 comes before the side".
+    // 28: "A box that isn't in after a certificate's last ear"; "Place: after it"; "28 comes before the side".
     if reached.contains(&false) {
         return Err((28, reader.place));
     }
@@ -312,16 +314,16 @@ fn later_ear_fault(plan: &Plan, reached: &[bool], ear: &[usize]) -> Option<u8> {
     (inner(ear).iter().any(|&v| reached[v]) || repeated(ear)).then_some(26)
 }
 
-/// Kind 3: the start, "then exactly m-n-2 further paths, a count that isn't written".
+/// Kind 3: the start, "then exactly m−n−2 further paths, a count that isn't written".
 fn check_build(plan: &Plan, reader: &mut Reader) -> Result<(), Fault> {
-    // 29: "Kind 3 with m below n+2. Place: 0"; "for a certificate 29 comes right after the kind".
+    // 29: "Kind 3, or opening a session, with m below n+2. Place: 0." "For a certificate 29 comes right after the kind".
     let Some(further) = plan.further_paths() else { return Err((29, 0)) };
     let mut build = read_start(plan, reader)?;
     for _ in 0..further {
         let path = read_bg_path(plan, &build, reader)?;
         build.take(path);
     }
-    // 28: "a box that is no branch box after its last path (the sixth, where none follows). Place: after it."
+    // 28: "a box that is no branch box after its last path (the sixth, where none follows)"; "Place: after it".
     if !build.complete() {
         return Err((28, reader.place));
     }
@@ -344,7 +346,7 @@ pub fn inner(path: &[usize]) -> &[usize] {
 
 // ---------------------------------------------------------------- building for grade 3
 
-/// "A box of the build is either a branch box or an inner box of just one link."
+/// "A box of the build is either a branch box or an inner box of just one link".
 #[derive(Debug, PartialEq, Eq, Clone)]
 pub struct Build {
     pub inside: Vec<bool>,
@@ -353,7 +355,7 @@ pub struct Build {
 }
 
 impl Build {
-    /// "The four branch boxes are in from the first."
+    /// "The four branch boxes are in from the first".
     pub fn new(n: usize, four: &[usize]) -> Build {
         let mut build = Build { inside: vec![false; n], branch: vec![false; n], links: Vec::new() };
         for &vertex in four {
@@ -399,7 +401,8 @@ impl Build {
     }
 }
 
-/// "Four ascending branch boxes p, q, r, s; six paths for pq, pr, ps, qr, qs, rs in that order, written from the first to the second."
+/// "four ascending branch boxes p, q, r, s; six paths for pq, pr, ps, qr, qs, rs in that order, written from the first to the second,
+/// with L of 2 or more".
 fn read_start(plan: &Plan, reader: &mut Reader) -> Result<Build, Fault> {
     let n = plan.n;
     let mut four: Vec<usize> = Vec::new();
@@ -426,11 +429,11 @@ fn start_path_fault(plan: &Plan, build: &Build, path: &[usize], first: usize, se
     if path[0] != first || path[path.len() - 1] != second {
         return Some(25);
     }
-    // "Every inner box of a start path must be new, so the six meet only at their ends."
+    // "every inner box of a start path must be new, so the six meet only at their ends".
     (inner(path).iter().any(|&v| build.inside[v]) || repeated(path)).then_some(26)
 }
 
-/// A further path, "read whole, then tested for 24, 25, 26, 27. Place: for a path its length's."
+/// A further path, "read whole, then tested for 24, 25, 26, 27"; the place is "for a path its length's".
 fn read_bg_path(plan: &Plan, build: &Build, reader: &mut Reader) -> Result<Vec<usize>, Fault> {
     let place = reader.place;
     let path = reader.path(plan.n, 2)?;
@@ -440,7 +443,8 @@ fn read_bg_path(plan: &Plan, build: &Build, reader: &mut Reader) -> Result<Vec<u
     }
 }
 
-/// "A further path has L of 2 or more, two different ends in the build and all inner boxes new. No link may hold both its ends."
+/// "A further path has L of 2 or more, two different ends in the build and all inner boxes new. No link may hold both its ends, the
+/// link's own ends counted."
 fn bg_path_fault(plan: &Plan, build: &Build, path: &[usize]) -> Option<u8> {
     let (first, last) = (path[0], path[path.len() - 1]);
     if !neighbours_adjacent(plan, path) {
@@ -465,7 +469,7 @@ pub struct Session {
     taken: usize,
 }
 
-/// "A refused opening gives a session never opened." 29 is the plan's here, and comes "after all plan faults".
+/// "A refused opening gives a session never opened". 29 is the plan's here, and comes "after all plan faults".
 pub fn open(bytes: &[u8]) -> (Answer, Session) {
     let never = Session { plan: None, build: None, taken: 0 };
     match read_plan(bytes) {
@@ -478,7 +482,7 @@ pub fn open(bytes: &[u8]) -> (Answer, Session) {
 impl Session {
     /// The number is the count of unread bytes. "On refusal a session, its unread record and a buffer are as before."
     pub fn start(self, part: &[u8]) -> (Answer, Session, usize) {
-        // 31: "a second start", or a session never opened; "a session call gives 31 before reading".
+        // 31: "a second start", or a session never opened. "A session call gives 31 before reading."
         let (Some(plan), None) = (&self.plan, &self.build) else { return self.refuse((31, 0), part) };
         let mut reader = Reader::new(part);
         match read_start(plan, &mut reader) {
@@ -491,7 +495,7 @@ impl Session {
     }
 
     pub fn path(mut self, part: &[u8]) -> (Answer, Session, usize) {
-        // 31: "a path before the start or after m-n-2 paths".
+        // 31: "a path before the start or after m−n−2 paths".
         let (Some(plan), Some(build)) = (&self.plan, &mut self.build) else { return self.refuse((31, 0), part) };
         if plan.further_paths() == Some(self.taken) {
             return self.refuse((31, 0), part);
@@ -510,9 +514,9 @@ impl Session {
     /// "Closing hands back grade 3 and the session unaltered."
     pub fn close(self) -> (Answer, Session) {
         let answer = match (&self.plan, &self.build) {
-            // 31: "closing before the start and all m-n-2 paths are in".
+            // 31: "closing before the start and all m−n−2 paths are in".
             (Some(plan), Some(build)) if plan.further_paths() == Some(self.taken) => {
-                // 28: "a box that is no branch box at closing. Place: 0 at closing."
+                // 28: a box that is no branch box; "0 at closing".
                 if build.complete() {
                     Answer::Grade(3)
                 } else {
@@ -971,48 +975,61 @@ fn build(plan: &Plan, random: &mut Random) -> Result<Whole, (usize, usize)> {
     let eager = *random.pick(&[0, 10, 50, 90]);
     let detour = *random.pick(&[0, 10, 50]);
     loop {
-        if random.chance(eager) {
-            if let Some(path) = any_bg_path(&neighbours, &build, random) {
-                build.take(path.clone());
-                paths.push(path);
-                continue;
-            }
-        }
-        if random.chance(detour) && reroute_somewhere(&neighbours, &mut build, &mut paths, random) {
+        let early = if random.chance(eager) { any_bg_path(&neighbours, &build, random) } else { None };
+        if early.is_none() && random.chance(detour) && reroute_somewhere(&neighbours, &mut build, &mut paths, random) {
             continue;
         }
-        let turned: Vec<usize> = (0..build.links.len()).filter(|&i| build.links[i].len() > 2).collect();
-        if !turned.is_empty() {
-            // A link with inner vertices: from one of them to the rest of the build, avoiding the link's ends.
-            let link = &build.links[*random.pick(&turned)];
-            let (a, b) = (link[0], link[link.len() - 1]);
-            let mut goal = build.inside.clone();
-            link.iter().for_each(|&v| goal[v] = false);
-            let path = search(&neighbours, inner(link), &goal, &marks(plan.n, &[a, b]), random).map_err(|_| (a, b))?;
+        let path = if early.is_some() { early } else { due_path(&neighbours, &build, random)? };
+        let Some(path) = path else { break };
+        // Where one link holds both ends, that link is an edge, and is led over the path.
+        if build.one_link_holds(path[0], path[path.len() - 1]) {
+            reroute(&mut build, &mut paths, &path);
+        } else {
             build.take(path.clone());
             paths.push(path);
-        } else if build.inside.contains(&false) {
-            // All links are edges and a vertex is outside: from x out and back to another vertex y of the build.
-            let (x, c) = edge_outwards(&neighbours, &build.inside, random);
-            let mut goal = build.inside.clone();
-            goal[x] = false;
-            let back = search(&neighbours, &[c], &goal, &marks(plan.n, &[x]), random).expect("2-connected");
-            let path = [vec![x], back].concat();
-            if build.one_link_holds(x, path[path.len() - 1]) {
-                reroute(&mut build, &mut paths, &path);
-            } else {
-                build.take(path.clone());
-                paths.push(path);
-            }
-        } else {
-            // Only edges are left.
-            let mut unused: Vec<(usize, usize)> =
-                plan.pairs().into_iter().filter(|&(a, b)| !build.one_link_holds(a, b)).collect();
-            random.shuffle(&mut unused);
-            paths.extend(unused.into_iter().map(|(a, b)| if random.chance(50) { vec![a, b] } else { vec![b, a] }));
-            return Ok((four, paths));
         }
     }
+    // Only edges are left.
+    let mut unused: Vec<(usize, usize)> = plan.pairs().into_iter().filter(|&(a, b)| !build.one_link_holds(a, b)).collect();
+    random.shuffle(&mut unused);
+    paths.extend(unused.into_iter().map(|(a, b)| if random.chance(50) { vec![a, b] } else { vec![b, a] }));
+    Ok((four, paths))
+}
+
+/// A path from inside a link; where all links are edges, one through a vertex outside the build; none where no vertex is outside. Or
+/// the ends of a link, where they separate its inner vertices from the rest.
+fn due_path(neighbours: &[Vec<usize>], build: &Build, random: &mut Random) -> Result<Option<Vec<usize>>, (usize, usize)> {
+    let long: Vec<&Vec<usize>> = build.links.iter().filter(|link| link.len() > 2).collect();
+    if !long.is_empty() {
+        let link = *random.pick(&long);
+        return path_from_inside(neighbours, build, link, random).map(Some);
+    }
+    if build.inside.contains(&false) {
+        return Ok(Some(path_out_and_back(neighbours, build, random)));
+    }
+    Ok(None)
+}
+
+/// From an inner vertex of a link to the rest of the build, avoiding the link's ends; or these, where there is no such path.
+fn path_from_inside(
+    neighbours: &[Vec<usize>],
+    build: &Build,
+    link: &[usize],
+    random: &mut Random,
+) -> Result<Vec<usize>, (usize, usize)> {
+    let (a, b) = (link[0], link[link.len() - 1]);
+    let mut goal = build.inside.clone();
+    link.iter().for_each(|&v| goal[v] = false);
+    search(neighbours, inner(link), &goal, &marks(neighbours.len(), &[a, b]), random).map_err(|_| (a, b))
+}
+
+/// From a vertex of the build to one outside, and back to another vertex of the build.
+fn path_out_and_back(neighbours: &[Vec<usize>], build: &Build, random: &mut Random) -> Vec<usize> {
+    let (x, c) = edge_outwards(neighbours, &build.inside, random);
+    let mut goal = build.inside.clone();
+    goal[x] = false;
+    let back = search(neighbours, &[c], &goal, &marks(neighbours.len(), &[x]), random).expect("2-connected");
+    [vec![x], back].concat()
 }
 
 /// Four branch vertices and six links between them, or a separation pair.
@@ -1024,14 +1041,7 @@ pub fn start(neighbours: &[Vec<usize>], random: &mut Random) -> Result<Whole, (u
     if near.len() == 2 {
         return Err((near[0], near[1]));
     }
-    // Three links from u to w: a path between two neighbours of u, and one from a third neighbour to that path.
-    let without_u = marks(n, &[u]);
-    let across = search(neighbours, &[near[0]], &marks(n, &[near[1]]), &without_u, random).expect("2-connected");
-    let third = search(neighbours, &[near[2]], &marks(n, &across), &without_u, random).expect("2-connected");
-    let w = third[third.len() - 1];
-    let at = across.iter().position(|&v| v == w).expect("on the path");
-    let back: Vec<usize> = across[at..].iter().rev().copied().collect();
-    let mut links = [across[..=at].to_vec(), back, third].map(|tail| [vec![u], tail].concat());
+    let (w, mut links) = three_links(neighbours, u, &near, random);
     random.shuffle(&mut links);
     // From inside one link to inside another, avoiding u and w.
     let from = links.iter().position(|link| link.len() > 2).expect("at most one link is an edge");
@@ -1045,18 +1055,34 @@ pub fn start(neighbours: &[Vec<usize>], random: &mut Random) -> Result<Whole, (u
             None => pieces.push(link),
         }
     }
-    let mut four = [u, w, x, y];
+    Ok(in_order([u, w, x, y], pieces))
+}
+
+/// A vertex w and three links from u to it: a path between two neighbours of u, and one from a third neighbour to that path.
+fn three_links(neighbours: &[Vec<usize>], u: usize, near: &[usize], random: &mut Random) -> (usize, [Vec<usize>; 3]) {
+    let n = neighbours.len();
+    let without_u = marks(n, &[u]);
+    let across = search(neighbours, &[near[0]], &marks(n, &[near[1]]), &without_u, random).expect("2-connected");
+    let third = search(neighbours, &[near[2]], &marks(n, &across), &without_u, random).expect("2-connected");
+    let w = third[third.len() - 1];
+    let at = across.iter().position(|&v| v == w).expect("on the path");
+    let back: Vec<usize> = across[at..].iter().rev().copied().collect();
+    (w, [across[..=at].to_vec(), back, third].map(|tail| [vec![u], tail].concat()))
+}
+
+/// The four ascending, and the six links between them in the order and the direction of a start.
+fn in_order(mut four: [usize; 4], mut links: Vec<Vec<usize>>) -> Whole {
     four.sort();
     let mut paths = Vec::new();
     for (i, j) in [(0, 1), (0, 2), (0, 3), (1, 2), (1, 3), (2, 3)] {
         let (first, second) = (four[i], four[j]);
-        let piece = pieces.iter_mut().find(|piece| piece.contains(&first) && piece.contains(&second)).expect("a link");
-        if piece[0] == second {
-            piece.reverse();
+        let link = links.iter_mut().find(|link| link.contains(&first) && link.contains(&second)).expect("a link");
+        if link[0] == second {
+            link.reverse();
         }
-        paths.push(piece.clone());
+        paths.push(link.clone());
     }
-    Ok((four, paths))
+    (four, paths)
 }
 
 /// A BG-path from a vertex of the build, if that vertex has one.

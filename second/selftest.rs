@@ -55,7 +55,7 @@ fn program_vectors(file: &str) -> bool {
     differ == 0
 }
 
-/// Blocks of lines: a call, " = ", its answer.
+/// Blocks of lines: a call, ` = `, its answer.
 fn session_vectors(file: &str) -> bool {
     let text = std::fs::read_to_string(file).expect("session vectors");
     let mut session = open(&[]).1;
@@ -148,53 +148,51 @@ fn numbers(words: &str) -> Vec<u8> {
     words.split_whitespace().map(|word| word.parse().expect("a byte")).collect()
 }
 
+const A_BUILD: &str = "3 0 1 2 3 2 0 1 2 0 2 2 0 3 2 1 2 2 1 3 2 2 3";
+const FIVE: &str = "5 10 0 1 0 2 0 3 0 4 1 2 1 3 1 4 2 3 2 4 3 4";
+
+/// A name, a plan and a certificate, and their answer.
+const BARNS: [(&str, &str, &str, Answer); 23] = [
+    ("A", "4 6 0 1 0 2 0 3 1 2 1 3 2 3", A_BUILD, Answer::Grade(3)),
+    ("B", "4 5 0 1 0 2 0 3 1 2 1 3", "2 0 1 2 3 0 1 2 3 0 3 1 1 2", Answer::Grade(2)),
+    ("C", "4 5 0 1 0 2 0 3 1 2 1 3", "3", Answer::CertificateFault(29, 0)),
+    ("D", "4 3 0 1 1 2 2 3", "1 1 0 1 0 2 1 3 2 1 0", Answer::Grade(1)),
+    ("E", "4 0", "0 1 0", Answer::Grade(0)),
+    ("F", "4 0", "0 0", Answer::CertificateFault(22, 1)),
+    ("G", FIVE, "3 0 1 2 3 3 0 4 1 2 0 2 2 0 3 2 1 2 2 1 3 2 2 3 2 4 2 2 4 3 2 0 1", Answer::Grade(3)),
+    ("H", FIVE, "3 0 1 2 3 3 0 4 1 2 0 2 2 0 3 2 1 2 2 1 3 2 2 3 2 0 1 2 4 2 2 4 3", Answer::CertificateFault(27, 24)),
+    ("I", "5 7 0 2 0 3 0 4 1 2 1 3 1 4 2 3", "3 0 1 2 3 3 0 4 1 2 0 2 2 0 3 2 1 2 2 1 3 2 2 3", Answer::CertificateFault(28, 24)),
+    (
+        "0 4 1 beside the link 0 1",
+        FIVE,
+        "3 0 1 2 3 2 0 1 2 0 2 2 0 3 2 1 2 2 1 3 2 2 3 3 0 4 1",
+        Answer::CertificateFault(27, 23),
+    ),
+    ("no plan", "", "", Answer::PlanFault(1, 0)),
+    ("plan", "3 0", "0 1 0", Answer::PlanFault(3, 0)),
+    ("plan", "128 1 0", "0 1 0", Answer::Grade(0)),
+    ("plan", "129 1 0", "0 1 0", Answer::PlanFault(3, 0)),
+    ("plan", "132 0", "0 1 0", Answer::PlanFault(2, 0)),
+    ("plan", "4 129 4", "0 1 0", Answer::PlanFault(4, 1)),
+    ("plan", "4 1 1 1", "0 1 0", Answer::PlanFault(5, 2)),
+    ("plan", "4 2 0 1 0 1", "0 1 2", Answer::Grade(0)),
+    ("plan", "4 2 0 2 0 1", "0 1 2", Answer::PlanFault(6, 4)),
+    ("plan", "4 0 0", "0 1 0", Answer::PlanFault(7, 2)),
+    ("A, first and last doubled", "4 8 0 1 0 1 0 2 0 3 1 2 1 3 2 3 2 3", A_BUILD, Answer::Grade(3)),
+    ("B, one doubled", "4 6 0 1 0 2 0 3 1 2 1 2 1 3", "2 0 1 2 3 0 1 2 3 0 3 1 1 2", Answer::Grade(2)),
+    ("C, one doubled", "4 6 0 1 0 2 0 3 1 2 1 2 1 3", "3", Answer::CertificateFault(29, 0)),
+];
+
 fn barns() -> bool {
-    const A_BUILD: &str = "3 0 1 2 3 2 0 1 2 0 2 2 0 3 2 1 2 2 1 3 2 2 3";
-    const FIVE: &str = "5 10 0 1 0 2 0 3 0 4 1 2 1 3 1 4 2 3 2 4 3 4";
-    let cases = [
-        ("A", "4 6 0 1 0 2 0 3 1 2 1 3 2 3", A_BUILD, Answer::Grade(3)),
-        ("B", "4 5 0 1 0 2 0 3 1 2 1 3", "2 0 1 2 3 0 1 2 3 0 3 1 1 2", Answer::Grade(2)),
-        ("C", "4 5 0 1 0 2 0 3 1 2 1 3", "3", Answer::CertificateFault(29, 0)),
-        ("D", "4 3 0 1 1 2 2 3", "1 1 0 1 0 2 1 3 2 1 0", Answer::Grade(1)),
-        ("E", "4 0", "0 1 0", Answer::Grade(0)),
-        ("F", "4 0", "0 0", Answer::CertificateFault(22, 1)),
-        ("G", FIVE, "3 0 1 2 3 3 0 4 1 2 0 2 2 0 3 2 1 2 2 1 3 2 2 3 2 4 2 2 4 3 2 0 1", Answer::Grade(3)),
-        ("H", FIVE, "3 0 1 2 3 3 0 4 1 2 0 2 2 0 3 2 1 2 2 1 3 2 2 3 2 0 1 2 4 2 2 4 3", Answer::CertificateFault(27, 24)),
-        (
-            "I",
-            "5 7 0 2 0 3 0 4 1 2 1 3 1 4 2 3",
-            "3 0 1 2 3 3 0 4 1 2 0 2 2 0 3 2 1 2 2 1 3 2 2 3",
-            Answer::CertificateFault(28, 24),
-        ),
-        (
-            "0 4 1 beside the link 0 1",
-            FIVE,
-            "3 0 1 2 3 2 0 1 2 0 2 2 0 3 2 1 2 2 1 3 2 2 3 3 0 4 1",
-            Answer::CertificateFault(27, 23),
-        ),
-        ("no plan", "", "", Answer::PlanFault(1, 0)),
-        ("plan", "3 0", "0 1 0", Answer::PlanFault(3, 0)),
-        ("plan", "128 1 0", "0 1 0", Answer::Grade(0)),
-        ("plan", "129 1 0", "0 1 0", Answer::PlanFault(3, 0)),
-        ("plan", "132 0", "0 1 0", Answer::PlanFault(2, 0)),
-        ("plan", "4 129 4", "0 1 0", Answer::PlanFault(4, 1)),
-        ("plan", "4 1 1 1", "0 1 0", Answer::PlanFault(5, 2)),
-        ("plan", "4 2 0 1 0 1", "0 1 2", Answer::Grade(0)),
-        ("plan", "4 2 0 2 0 1", "0 1 2", Answer::PlanFault(6, 4)),
-        ("plan", "4 0 0", "0 1 0", Answer::PlanFault(7, 2)),
-        ("A, first and last doubled", "4 8 0 1 0 1 0 2 0 3 1 2 1 3 2 3 2 3", A_BUILD, Answer::Grade(3)),
-        ("B, one doubled", "4 6 0 1 0 2 0 3 1 2 1 2 1 3", "2 0 1 2 3 0 1 2 3 0 3 1 1 2", Answer::Grade(2)),
-        ("C, one doubled", "4 6 0 1 0 2 0 3 1 2 1 2 1 3", "3", Answer::CertificateFault(29, 0)),
-    ];
-    let mut right = program_line(&[numbers(cases[0].1), numbers(cases[0].2)].concat()) == "boxes 4 cables 6 grade 3";
-    for (name, plan, certificate, expected) in cases {
+    let mut right = program_line(&[numbers(BARNS[0].1), numbers(BARNS[0].2)].concat()) == "boxes 4 cables 6 grade 3";
+    for (name, plan, certificate, expected) in BARNS {
         let given = check(&numbers(plan), &numbers(certificate));
         if given != expected {
             println!("{name}: {plan} with {certificate}: expected {expected:?}, given {given:?}");
             right = false;
         }
     }
-    println!("{} cases, {}", cases.len(), if right { "all agree" } else { "DIFFERENT" });
+    println!("{} cases, {}", BARNS.len(), if right { "all agree" } else { "DIFFERENT" });
     right
 }
 
@@ -224,6 +222,7 @@ fn certify_all(count: u64, seed: u64) -> bool {
     println!("seed {seed}");
     let mut random = Random::new(seed);
     let mut grades = [0; 4];
+    let mut doubled = 0;
     let mut additions = [0; 3];
     let mut longest = [0; 4];
     for _ in 0..count {
@@ -234,6 +233,7 @@ fn certify_all(count: u64, seed: u64) -> bool {
         let mut right = check(&encode_plan(&plan), &record) == Answer::Grade(figure);
         right &= plan.n > 40 || figure == connectivity(&plan);
         if let Certificate::Build { four, paths } = &certificate {
+            doubled += (plan != plan.simple()) as u64;
             right &= each_pair_once(&plan, paths);
             right &= certificate.items().concat().len() + 2 * plan.n == 3 * plan.pairs().len() + 13;
             count_additions(plan.n, four, paths, &mut additions);
@@ -246,8 +246,8 @@ fn certify_all(count: u64, seed: u64) -> bool {
         }
     }
     println!("{count} certificates accepted, by grade {grades:?}, longest records {longest:?}");
-    println!("additions vertex-vertex, edge-vertex, edge-edge: {additions:?}");
-    additions.iter().all(|&count| count > 0) && grades.iter().all(|&count| count > 0)
+    println!("additions vertex-vertex, edge-vertex, edge-edge: {additions:?}; {doubled} builds of plans with doubles");
+    doubled > 0 && additions.iter().all(|&count| count > 0) && grades.iter().all(|&count| count > 0)
 }
 
 /// "What a finished build of kind 3 uses just once is then each cabled pair."
@@ -317,8 +317,8 @@ fn outcomes(count: u64, seed: u64) -> bool {
     right
 }
 
-/// A grade is the connectivity; "a certificate of kind 3 is accepted exactly when these calls accept it and no byte is left"; the
-/// plan is written again as it was; doubles change no answer.
+/// A grade is the connectivity. "A certificate of kind 3 is accepted exactly when these calls accept it and no byte is left." The plan
+/// is written again as it was, and doubles change no answer.
 fn consistent(plan: &[u8], certificate: &[u8], answer: Answer) -> bool {
     let Ok(graph) = read_plan(plan) else { return true };
     let true_grade = match answer {

@@ -149,6 +149,7 @@ def max_boxes():
 
 
 def max_cables():
+    """The largest number of cables in a plan, each cable of a double counted."""
     return _library.fikzarn_max_cables()
 
 
