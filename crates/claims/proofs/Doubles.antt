@@ -14,7 +14,7 @@ use Rattle.connectivity.proofs.Edges.{EdgeBefore}
 use Rattle.reading.specs.Plan.{Plan, Allowed, planBytes, once}
 use Rattle.reading.specs.Code.{graphOf}
 use Rattle.reading.proofs.Plans.{injective}
-use Rattle.reading.proofs.Doubles.{once-in, in-left, once-allowed, once-after, once-graph}
+use Rattle.reading.proofs.Doubles.{once-in, once-has, once-allowed, once-after, once-graph}
 use Rattle.reading.proofs.Repeats.{rows-once}
 use Rattle.sessions.specs.declared.Opened.{Opened}
 use Rattle.sessions.specs.Session.{opening, noSession, openedOn}
@@ -83,7 +83,7 @@ module _ (p : Plan) (a : Allowed p) where
   same-once = record {
     allowed = allowed;
     ascending = each-same (λ d e. e) true-after (0, 0) (once p .edges) (once-after p a);
-    same-pairs = λ e. (in-left (p .n) (p .edges) (a .least) (a .each) e, once-in (0, 0) (p .edges) e);
+    same-pairs = λ e. (once-has (p .n) (p .edges) (a .least) (a .each) e, once-in (0, 0) (p .edges) e);
     figures = figures;
     answers = answers;
     makes = makes;

@@ -43,7 +43,7 @@ pub same-turn : {H : TGraph} (G : TGraph) (v w : ℕ) → SameGraph H (addEdge G
 same-turn {H} G v w e = subst (λ (k : ℕ × ℕ). SameGraph H (record { vertices = G .vertices; edges = k ∷ G .edges })) (edge-comm v w) e
 
 -- Edges that are left out.
-is-pair : (e f : ℕ × ℕ) → isPair e (f .0) (f .1) ≡ true → e ≡ f
+pub is-pair : (e f : ℕ × ℕ) → isPair e (f .0) (f .1) ≡ true → e ≡ f
 is-pair e f h = let r = and-true (eqb (e .0) (f .0)) (eqb (e .1) (f .1)) h in let p = eqb-true (e .0) (f .0) (r .0) in let q = eqb-true (e .1) (f .1) (r .1) in λ i. (p i, q i)
 
 pair-is : (e f : ℕ × ℕ) → e ≡ f → isPair e (f .0) (f .1) ≡ true

@@ -8,24 +8,18 @@ use mathlib.Core.Path.{_≡_, refl, sym, ap, fun-ext, _∙_}
 use native.Mathlib.Omega.{arith}
 use lib.Dec.{ltb, eqb}
 use lib.ListN.{length}
-use borrow.Author.Tests.{eqb-true, eqb-false, lt-ltb, le-leb, eq-eqb}
+use borrow.Author.Tests.{eqb-false, lt-ltb, le-leb, eq-eqb}
 use Rattle.record.specs.Read.{Each, folded}
 use Rattle.connectivity.specs.Lists.{In}
 use Rattle.connectivity.specs.Graph.{isPair, listed, fromEdges, Simple, edgeCount}
-use Rattle.connectivity.proofs.Lists.{and-true}
+use Rattle.connectivity.proofs.TopologicalGraph.{is-pair}
 use Rattle.connectivity.proofs.Edges.{EdgeList, EdgeBefore, AscendingEdges, ascending-nodup, listed-in, in-listed, fromEdges-simple, fromEdges-count}
-use Rattle.graph.specs.Limits.{minVertices, maxEdges}
+use Rattle.graph.specs.Limits.{minVertices}
 use Rattle.reading.specs.Plan.{Plan, Allowed, EdgeAllowed, proper, follows, onceAfter, once}
 use Rattle.reading.specs.Code.{countedPair, edgeLoop}
 use Rattle.reading.proofs.EdgeTests.{Proper, follows-true, each-proper}
 
--- two edges are the same, or differ
-pair-same : (d e : ℕ × ℕ) → isPair d (e .0) (e .1) ≡ true → d ≡ e
-pair-same d e h = let t = and-true (eqb (d .0) (e .0)) (eqb (d .1) (e .1)) h in both d e (eqb-true _ _ (t .0)) (eqb-true _ _ (t .1))
-  where
-    both : (d e : ℕ × ℕ) → d .0 ≡ e .0 → d .1 ≡ e .1 → d ≡ e
-    both d e a b = rw (← a, ← b)
-
+-- two edges that differ
 pair-other : (d e : ℕ × ℕ) → isPair d (e .0) (e .1) ≡ false → d .0 ≡ e .0 → d .1 ≡ e .1 → ⊥
 pair-other d e h a b = go (eqb (d .0) (e .0)) refl (eqb (d .1) (e .1)) refl h
   where
@@ -45,15 +39,15 @@ once-in before (d ∷ es) e i = go (isPair before (d .0) (d .1)) (once-in d es e
     go false later (inl i) = inl i
     go false later (inr i) = inr (later i)
 
-pub in-once : (before : ℕ × ℕ) (es : List (ℕ × ℕ)) (e : ℕ × ℕ) → In e es → (before ≡ e) ⊎ In e (onceAfter before es)
+in-once : (before : ℕ × ℕ) (es : List (ℕ × ℕ)) (e : ℕ × ℕ) → In e es → (before ≡ e) ⊎ In e (onceAfter before es)
 unfolding onceAfter
 in-once before [] e i = absurd i
 in-once before (d ∷ es) e i = go (isPair before (d .0) (d .1)) refl (in-once d es e) i
   where
     go : (b : Bool) → isPair before (d .0) (d .1) ≡ b → (In e es → (d ≡ e) ⊎ In e (onceAfter d es)) → In e (d ∷ es)
         → (before ≡ e) ⊎ In e (cond b (onceAfter d es) (d ∷ onceAfter d es))
-    go true h later (inl j) = inl (pair-same before d h ∙ sym j)
-    go true h later (inr j) = ⊎-elim (λ k. inl (pair-same before d h ∙ k)) (λ k. inr k) (later j)
+    go true h later (inl j) = inl (is-pair before d h ∙ sym j)
+    go true h later (inr j) = ⊎-elim (λ k. inl (is-pair before d h ∙ k)) (λ k. inr k) (later j)
     go false h later (inl j) = inr (inl j)
     go false h later (inr j) = ⊎-elim (λ k. inr (inl (sym k))) (λ k. inr (inr k)) (later j)
 
@@ -68,11 +62,11 @@ once-ascends n before [] h = tt
 once-ascends n before (e ∷ es) h = go (isPair before (e .0) (e .1)) refl (once-ascends n e es (h .1))
   where
     go : (b : Bool) → isPair before (e .0) (e .1) ≡ b → AscendingEdges (e ∷ onceAfter e es) → AscendingEdges (before ∷ cond b (onceAfter e es) (e ∷ onceAfter e es))
-    go true k r = rw (pair-same before e k) r
+    go true k r = rw (is-pair before e k) r
     go false k r = (after-other before e k (follows-true before e (h .0 .1)), r)
 
 -- the loop counts the edges that are left
-pub counts-once : (n m : ℕ) (before : ℕ × ℕ) (d : ℕ) (es : List (ℕ × ℕ)) → folded (edgeLoop n m .step) (before, d) es .1 ≡ d + length (onceAfter before es)
+counts-once : (n m : ℕ) (before : ℕ × ℕ) (d : ℕ) (es : List (ℕ × ℕ)) → folded (edgeLoop n m .step) (before, d) es .1 ≡ d + length (onceAfter before es)
 unfolding folded onceAfter
 counts-once n m before d [] = omega arith
 counts-once n m before d (e ∷ es) = go (isPair before (e .0) (e .1)) (λ k. counts-once n m e k es)
@@ -90,7 +84,7 @@ counted-most before d e = go (isPair before (e .0) (e .1))
     go true = omega arith
     go false = omega arith
 
-pub once-most : (before : ℕ × ℕ) (es : List (ℕ × ℕ)) → length (onceAfter before es) ≤ length es
+once-most : (before : ℕ × ℕ) (es : List (ℕ × ℕ)) → length (onceAfter before es) ≤ length es
 unfolding onceAfter
 once-most before [] = omega arith
 once-most before (e ∷ es) = go (isPair before (e .0) (e .1)) (once-most e es)
@@ -108,7 +102,7 @@ module _ (n : ℕ) (es : List (ℕ × ℕ)) (big : minVertices ≤ n) (h : Each 
   abbrev left : List (ℕ × ℕ)
   left = onceAfter (0, 0) es
 
-  pub once-list : EdgeList n left
+  once-list : EdgeList n left
   once-list = record {
     big = big;
     each = λ e i. each-proper n (0, 0) es h e (once-in (0, 0) es e i);
@@ -116,8 +110,8 @@ module _ (n : ℕ) (es : List (ℕ × ℕ)) (big : minVertices ≤ n) (h : Each 
   }
 
   -- no edge is (0, 0)
-  pub in-left : (e : ℕ × ℕ) → In e es → In e left
-  in-left e i = ⊎-elim (λ k. absurd (first e (each-proper n (0, 0) es h e i) k)) (λ k. k) (in-once (0, 0) es e i)
+  pub once-has : (e : ℕ × ℕ) → In e es → In e left
+  once-has e i = ⊎-elim (λ k. absurd (first e (each-proper n (0, 0) es h e i) k)) (λ k. k) (in-once (0, 0) es e i)
     where
       first : (e : ℕ × ℕ) → (e .0 < e .1) × (e .1 < n) → _≡_ {A = ℕ × ℕ} (0, 0) e → ⊥
       first e b k = let z : 0 ≡ e .1 = ap (λ (d : ℕ × ℕ). d .1) k in omega (arith, b .0)
@@ -129,14 +123,14 @@ module _ (n : ℕ) (es : List (ℕ × ℕ)) (big : minVertices ≤ n) (h : Each 
       same : (u v : ℕ) (a : Bool) → listed left u v ≡ a → (b : Bool) → listed es u v ≡ b → a ≡ b
       same u v true e true f = refl
       same u v true e false f = sym (in-listed es u v (⊎-map (once-in (0, 0) es (u, v)) (once-in (0, 0) es (v, u)) (listed-in left u v e))) ∙ f
-      same u v false e true f = sym (sym (in-listed left u v (⊎-map (in-left (u, v)) (in-left (v, u)) (listed-in es u v f))) ∙ e)
+      same u v false e true f = sym (sym (in-listed left u v (⊎-map (once-has (u, v)) (once-has (v, u)) (listed-in es u v f))) ∙ e)
       same u v false e false f = refl
 
   -- .. which is simple, and whose edges are as many as those left
   pub plan-simple : Simple (fromEdges n es)
   plan-simple = rw (← once-graph) (fromEdges-simple n left once-list)
 
-  pub pair-count : edgeCount (fromEdges n es) ≡ length left
+  pair-count : edgeCount (fromEdges n es) ≡ length left
   pair-count = rw (← once-graph) (fromEdges-count n left once-list)
 
   pub pairs-most : edgeCount (fromEdges n es) ≤ length es

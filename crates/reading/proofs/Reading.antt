@@ -72,7 +72,7 @@ edge-tested n before s at g =
 pub edge-low : (n : ℕ) (before : ℕ × ℕ) (s : List ℕ) (at : ℕ) {e : ℕ × ℕ} {next : ℕ} → edge n before s at ≡ Got e next → (e .0 < e .1) × (e .1 < n)
 edge-low n before s at g = proper-true n _ (edge-tested n before s at g .0)
 
-pub edges-tested : (n k : ℕ) (before : ℕ × ℕ) (s : List ℕ) (at : ℕ) {l : List (ℕ × ℕ)} {next : ℕ} → many (edge n) (λ before e. e) k before s at ≡ Got l next
+edges-tested : (n k : ℕ) (before : ℕ × ℕ) (s : List ℕ) (at : ℕ) {l : List (ℕ × ℕ)} {next : ℕ} → many (edge n) (λ before e. e) k before s at ≡ Got l next
     → Each (EdgeAllowed n) (λ before e. e) before l
 unfolding many Each
 edges-tested n zero before s at g = carry (λ l z. Each (EdgeAllowed n) (λ before e. e) before l) g tt

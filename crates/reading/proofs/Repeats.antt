@@ -6,12 +6,12 @@ use mathlib.Core.Path.{_≡_, refl, ap, _∙_}
 use native.Mathlib.Omega.{arith}
 use lib.Dec.{eqb}
 use lib.ListN.{length, length-set, length-replicate}
-use borrow.Author.Tests.{eqb-true, eq-eqb, ne-eqb}
+use borrow.Author.Tests.{eq-eqb, ne-eqb}
 use Rattle.record.specs.Read.{Each, folded}
 use Rattle.vertexset.specs.Set.{has, withBit, capacity}
 use Rattle.vertexset.proofs.Laws.{has-insert, insert-again}
 use Rattle.connectivity.specs.Graph.{isPair}
-use Rattle.connectivity.proofs.Lists.{and-true}
+use Rattle.connectivity.proofs.TopologicalGraph.{is-pair}
 use Rattle.graph.specs.Rows.{rowWords, joined, bareRows}
 use Rattle.reading.specs.Plan.{Plan, Allowed, EdgeAllowed, onceAfter, once}
 use Rattle.reading.proofs.EdgeTests.{proper-true}
@@ -32,7 +32,7 @@ set-again ws u v h k =
     second : has (withBit (withBit ws u) v) v ≡ true
     second = both v ∙ rw (eq-eqb v v refl, or-true)
 
-pub joined-again : (rows : List ℕ) (e : ℕ × ℕ) → length rows ≡ rowWords → e .0 < capacity → e .1 < capacity → joined (joined rows e) e ≡ joined rows e
+joined-again : (rows : List ℕ) (e : ℕ × ℕ) → length rows ≡ rowWords → e .0 < capacity → e .1 < capacity → joined (joined rows e) e ≡ joined rows e
 joined-again rows e l h k = set-again rows (e .0 * capacity + e .1) (e .1 * capacity + e .0) (omega arith) (omega arith)
 
 -- where the edge before is joined already, an edge equal to it may be left out
@@ -45,10 +45,7 @@ rows-after n b before (e ∷ es) rows l h k = go (isPair before (e .0) (e .1)) r
     go : (t : Bool) → isPair before (e .0) (e .1) ≡ t → ((r : List ℕ) → length r ≡ rowWords → joined r e ≡ r → folded joined r (onceAfter e es) ≡ folded joined r es)
         → folded joined rows (cond t (onceAfter e es) (e ∷ onceAfter e es)) ≡ folded joined (joined rows e) es
     go true t ih =
-        let q = and-true (eqb (before .0) (e .0)) (eqb (before .1) (e .1)) t in
-        let u : before .0 ≡ e .0 = eqb-true _ _ (q .0) in
-        let v : before .1 ≡ e .1 = eqb-true _ _ (q .1) in
-        let s : joined rows e ≡ rows = rw (← u, ← v) k in
+        let s : joined rows e ≡ rows = rw (← is-pair before e t) k in
         rw s (ih rows l s)
     go false t ih =
         let q = proper-true n e (h .0 .0) in

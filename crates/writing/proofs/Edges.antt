@@ -7,7 +7,7 @@ use mathlib.Core.Path.{_≡_, refl, sym, ap, _∙_}
 use native.Mathlib.Omega.{arith}
 use native.Mathlib.Decide.{ℕ-discrete}
 use lib.ListN.{length, length-append}
-use Rattle.record.specs.Number.{listBytes, numberBytes, numberLimit}
+use Rattle.record.specs.Number.{listBytes, numberBytes}
 use Rattle.record.specs.Write.{overwritten}
 use Rattle.record.proofs.Write.{few-bytes, overwritten-none, overwritten-length, overwritten-more}
 use Rattle.connectivity.proofs.Lists.{and-true}

@@ -1,6 +1,4 @@
 -- `reading::follows` meets its contract: the order of two edges is that of their numbers. Assumes nothing.
-use Prim.Native.Nat.{_<_}
-use mathlib.Core.Path.{_∙_}
 use borrow.Author.Needs.{needs}
 use native.Mathlib.Omega.{arith}
 use Rattle.reading.proofs.EdgeTests.{key-follows}

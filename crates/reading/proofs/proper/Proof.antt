@@ -1,5 +1,4 @@
 -- `reading::proper` meets its contract: the test that led to a return picks the case. Assumes nothing.
-use mathlib.Core.Path.{_∙_}
 use borrow.Author.Tests.{lt-ltb, le-ltb}
 use Rattle.reading.proofs.proper.Statement.{statement}
 use Rattle.reading.proofs.proper.Tie as tie

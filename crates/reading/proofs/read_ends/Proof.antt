@@ -1,7 +1,6 @@
 -- `reading::read_ends` meets its contract: a number that can't be read ends the reading. Assumes nothing.
 use mathlib.Core.Path.{sym, _∙_}
 use borrow.Author.Needs.{needs}
-use native.Mathlib.Omega.{arith}
 use Rattle.reading.proofs.Ends.{read-first, read-second, read-both}
 use Rattle.reading.proofs.read_ends.Statement.{statement}
 use Rattle.reading.proofs.read_ends.Tie as tie
