@@ -142,4 +142,4 @@ pub sequenced-once : {P C : List ℕ} (c : Sequenced P C) → EachPairOnce (c .p
 sequenced-once c =
     let a = c .is-plan .allowed in
     let o = edges-once (planGraph (c .plan)) (plan-simple (c .plan) a) (c .p) (c .q) (c .r) (c .s) (c .start) (c .further) (sequenced-rules c) in
-    record { nodup = o .nodup; is-pair = λ e i. edge-pair (c .plan) a e (o .is-edge e i); used = λ e i. o .used e (pair-edge (c .plan) a e i) }
+    record { nodup = o .nodup; cabled = λ e i. edge-pair (c .plan) a e (o .is-edge e i); used = λ e i. o .used e (pair-edge (c .plan) a e i) }

@@ -1,4 +1,4 @@
--- A plan and the plan with each double written once get the same answers from every call. Assumes nothing.
+-- A plan and the plan with each double written once get the same answers from checker, maker and opening. Assumes nothing.
 use Prim.Native.Nat.{ℕ, _+_}
 use mathlib.Core.List.{List}
 use mathlib.Core.Bool.{true, cond, or-true}

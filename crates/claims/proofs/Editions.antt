@@ -1,4 +1,4 @@
--- REQUEST 1 keeps what every call gave to a plan record in the base edition, but for refusals by 6. Assumes nothing.
+-- REQUEST 1 keeps what checker, checking program, opening and maker gave for a plan record in the base edition, but for refusals by 6. Assumes nothing.
 use Prim.Native.Nat.{ℕ, zero, suc, _<_, _≤_}
 use mathlib.Core.List.{List, [], _∷_}
 use mathlib.Core.Bool.{Bool, true, false, cond, _&&_, _||_}
@@ -19,7 +19,7 @@ use Rattle.connectivity.proofs.Edges.{EdgeBefore, AscendingEdges, ascending-nod
 use Rattle.reading.specs.Plan.{Plan, EdgeAllowed, proper, follows, edge, plan}
 use Rattle.reading.specs.Code.{graphOf}
 use Rattle.reading.proofs.EdgeTests.{each-proper}
-use Rattle.sessions.specs.Session.{opening}
+use Rattle.sessions.specs.Session.{opening, onOpening}
 use Rattle.checker.specs.Check.{onPlan, onLeading, checkOf, gradeOf}
 use Rattle.claims.specs.Session.{pairCount}
 use Rattle.claims.specs.Doubles.{comesAfter, baseEdge, basePlan, baseOpening, BaseKept}
@@ -151,19 +151,23 @@ module _ (s : List ℕ) {p : Plan} {next : ℕ} (e : basePlan s 0 ≡ Got p next
         once = ascending-nodup (p .edges) (strict-ascends (p .n) (0, 0) (p .edges) (h .1));
       }
 
-base-opens : (P : List ℕ) (p : Plan) (next : ℕ) → ended basePlan P 0 ≡ Got p next → opening P ≡ baseOpening (ended basePlan P 0)
+base-opens : (P : List ℕ) → ((q : ℕ) → ¬ (ended basePlan P 0 ≡ Refused 6 q)) → opening P ≡ baseOpening (ended basePlan P 0)
 unfolding opening graphOf
-base-opens P p next h = rw (but-got (ended-but P) h, h, base-counts P (ended-got basePlan h .0))
+base-opens P n = ap (λ (x : Read Plan). onOpening x) (but-same (ended-but P) n) ∙ on (ended basePlan P 0) refl
+  where
+    on : (x : Read Plan) → ended basePlan P 0 ≡ x → onOpening x ≡ baseOpening x
+    on (Got p next) h = rw (base-counts P (ended-got basePlan h .0))
+    on (Refused r q) h = refl
 
--- WHAT THE BASE EDITION GAVE FOR A PLAN RECORD IS KEPT, BUT FOR REFUSALS BY 6.
+-- WHAT CHECKER, CHECKING PROGRAM, OPENING AND MAKER GAVE IN THE BASE EDITION IS KEPT, BUT FOR REFUSALS BY 6.
 pub base-kept : BaseKept
 unfolding checkOf gradeOf
 base-kept = record {
   whole = λ P n. but-same (ended-but P) n;
   leading = λ s n. but-same (plan-but s) n;
   counts = λ s p next h. (base-counts s h, ap (λ (d : ℕ). furtherCount d (p .n)) (base-counts s h));
-  checks = λ P C p next h. ap (λ (x : Read Plan). onPlan x C) (but-got (ended-but P) h);
-  grades = λ s p next h. ap (λ (x : Read Plan). onLeading x s) (but-got (plan-but s) h);
+  checks = λ P C n. ap (λ (x : Read Plan). onPlan x C) (but-same (ended-but P) n);
+  grades = λ s n. ap (λ (x : Read Plan). onLeading x s) (but-same (plan-but s) n);
   opens = base-opens;
   makes = λ P buffer p next h. made-on P buffer (but-got (ended-but P) h ∙ h);
   fills = λ P buffer p next h. filled-on P buffer (but-got (ended-but P) h ∙ h);

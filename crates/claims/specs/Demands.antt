@@ -114,7 +114,7 @@ Demand2Sequence = (P C : List ℕ) → Bytes P → Bytes C → (checkOf P C ≡ 
 -- "What a finished build of kind 3 uses just once is then each cabled pair.", and it uses nothing else.
 pub record EachPairOnce (p : Plan) (paths : List Path) : Type 0 where
   pub nodup : NoDup (usedEdges paths)
-  pub is-pair : (e : ℕ × ℕ) → In e (usedEdges paths) → In e (p .edges)
+  pub cabled : (e : ℕ × ℕ) → In e (usedEdges paths) → In e (p .edges)
   pub used : (e : ℕ × ℕ) → In e (p .edges) → In e (usedEdges paths)
 
 abbrev pub PairsOnce : Type 0

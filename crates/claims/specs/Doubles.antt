@@ -20,16 +20,16 @@ use Rattle.certifier.specs.Made.{madeBy, madeFrom, filledBy, filledFrom}
 use Rattle.claims.specs.Certified.{HasFigure}
 use Rattle.claims.specs.Session.{pairCount, due}
 
--- the edge e comes after the edge d: the base edition's test for 6
+-- an edge comes after its predecessor: the base edition's test for 6
 abbrev pub comesAfter : ℕ × ℕ → ℕ × ℕ → Bool
-comesAfter d e = ltb (d .0) (e .0) || (eqb (d .0) (e .0) && ltb (d .1) (e .1))
+comesAfter before e = ltb (before .0) (e .0) || (eqb (before .0) (e .0) && ltb (before .1) (e .1))
 
 -- "Losing boxes is no different for it." A plan and the plan with each double written once: the second is a plan, no cable of it is equal to its
--- predecessor, and it has a cable between the same boxes; the two have the same figure, every certificate gets the same answer beside
--- both, the maker writes the same bytes, and a session on the one is a session on the other.
+-- predecessor, and it has a cable between two boxes exactly where the first has one; the two have the same figure, every certificate gets the
+-- same answer beside both, the maker answers and writes the same, and opening gives the same answer and the same session.
 pub record SameOnce (p : Plan) : Type 0 where
   pub allowed : Allowed (once p)
-  pub ascending : Each (λ d e. comesAfter d e ≡ true) (λ d e. e) (0, 0) (once p .edges)
+  pub ascending : Each (λ before e. comesAfter before e ≡ true) (λ before e. e) (0, 0) (once p .edges)
   pub same-pairs : (e : ℕ × ℕ) → In e (p .edges) ↔ In e (once p .edges)
   pub figures : (k : ℕ) → HasFigure (planBytes p) k ↔ HasFigure (planBytes (once p)) k
   pub answers : (C : List ℕ) → checkOf (planBytes p) C ≡ checkOf (planBytes (once p)) C
@@ -56,14 +56,14 @@ baseOpening (Refused r q) = record { answer = PlanFault r q; session = noSession
 
 -- A record is read as the base edition read it, whole or with bytes behind it, unless that edition refused it by 6: so every record that
 -- it accepted is accepted, as the same plan, and every other refusal has its number and place. The plan of a record that it accepted has as many
--- pairs as cables, so what counted cables counts the same; and every call that takes a plan answers what its definition gives on
--- the base edition's reading.
+-- pairs as cables, so what counted cables counts the same. Unless that edition refused the plan by 6, the checker, the checking program and
+-- opening answer what they answered there; and for a plan that it accepted the maker answers and writes what it did.
 pub record BaseKept : Type 0 where
   pub whole : (P : List ℕ) → ((q : ℕ) → ¬ (ended basePlan P 0 ≡ Refused 6 q)) → ended plan P 0 ≡ ended basePlan P 0
   pub leading : (s : List ℕ) → ((q : ℕ) → ¬ (basePlan s 0 ≡ Refused 6 q)) → plan s 0 ≡ basePlan s 0
   pub counts : (s : List ℕ) (p : Plan) (next : ℕ) → basePlan s 0 ≡ Got p next → (pairCount p ≡ length (p .edges)) × (due p ≡ furtherCount (length (p .edges)) (p .n))
-  pub checks : (P C : List ℕ) (p : Plan) (next : ℕ) → ended basePlan P 0 ≡ Got p next → checkOf P C ≡ onPlan (ended basePlan P 0) C
-  pub grades : (s : List ℕ) (p : Plan) (next : ℕ) → basePlan s 0 ≡ Got p next → gradeOf s ≡ onLeading (basePlan s 0) s
-  pub opens : (P : List ℕ) (p : Plan) (next : ℕ) → ended basePlan P 0 ≡ Got p next → opening P ≡ baseOpening (ended basePlan P 0)
+  pub checks : (P C : List ℕ) → ((q : ℕ) → ¬ (ended basePlan P 0 ≡ Refused 6 q)) → checkOf P C ≡ onPlan (ended basePlan P 0) C
+  pub grades : (s : List ℕ) → ((q : ℕ) → ¬ (basePlan s 0 ≡ Refused 6 q)) → gradeOf s ≡ onLeading (basePlan s 0) s
+  pub opens : (P : List ℕ) → ((q : ℕ) → ¬ (ended basePlan P 0 ≡ Refused 6 q)) → opening P ≡ baseOpening (ended basePlan P 0)
   pub makes : (P buffer : List ℕ) (p : Plan) (next : ℕ) → ended basePlan P 0 ≡ Got p next → madeFrom P buffer ≡ madeBy buffer Accepted (graphOf p)
   pub fills : (P buffer : List ℕ) (p : Plan) (next : ℕ) → ended basePlan P 0 ≡ Got p next → filledFrom P buffer ≡ filledBy buffer Accepted (graphOf p)

@@ -81,15 +81,15 @@ rowsLeft rows s =
     orKept ((number needs⟨ 3 ⟩ within minVertices maxVertices) s 0) (λ n mid.
     orKept ((number needs⟨ 4 ⟩ within 0 maxEdges) s mid) (λ m at. edgesIn n m rows s at) rows) rows
 
--- the next number in the array
+-- a number laid at the next place of the array
 abbrev pub numberLaid : ℕ × List ℕ → ℕ → ℕ × List ℕ
 numberLaid st v = (st .0 + 1, set (st .1) (st .0) v)
 
--- the array with the next k numbers of the record, from its beginning on
+-- the array with the next k numbers of the record laid from place 0 on, or those before one that can't be read
 unfoldable pub numbersIn : ℕ → List ℕ → List ℕ → ℕ → List ℕ
 numbersIn k ends s at = led (λ st. number) numberLaid k (0, ends) s at .1
 
--- the array with the numbers of m edges, which stand behind n and m
+-- the array with the numbers of the first m edges, which stand behind the record's two counts
 unfoldable pub endsRead : List ℕ → ℕ → List ℕ → List ℕ
 endsRead ends m s = orKept (number s 0) (λ n mid. orKept (number s mid) (λ k at. numbersIn (2 * m) ends s at) ends) ends
 
@@ -103,7 +103,7 @@ withArrays (CertificateFault r p) h rows ends = noPlan
 abbrev pub byValue : PlanHead → List ℕ → List ℕ → PlanRead
 byValue h rows ends = record { answer = h .answer; plan = withArrays (h .answer) h rows ends; next = h .next }
 
--- an edge as one number, in the same order
+-- an edge as one number, in the same order where its higher vertex is below 65,536
 abbrev pub keyOf : ℕ × ℕ → ℕ
 keyOf e = e .0 * 65536 + e .1
 

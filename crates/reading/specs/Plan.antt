@@ -1,9 +1,8 @@
 -- The plan record: which bytes are a plan, and which one.
 use Prim.Native.Nat.{ℕ, _≤_}
 use mathlib.Core.List.{List, [], _∷_, _++_}
-use mathlib.Core.Bool.{Bool, cond, _&&_, _||_}
+use mathlib.Core.Bool.{Bool, true, cond, _&&_, _||_}
 use mathlib.Core.Path.{_≡_}
-use mathlib.Core.Bool.{true}
 use lib.Dec.{ltb, leb, eqb}
 use lib.ListN.{length}
 use Rattle.graph.specs.Limits.{minVertices, maxVertices, maxEdges}
@@ -41,7 +40,7 @@ edgeBytes e = numberBytes (e .0) ++ numberBytes (e .1)
 abbrev pub planBytes : Plan → List ℕ
 planBytes p = numberBytes (p .n) ++ (numberBytes (length (p .edges)) ++ listBytes edgeBytes (p .edges))
 
--- a plan that Records allows, with that request
+-- a plan that Records allows, with request 1
 abbrev pub EdgeAllowed : ℕ → ℕ × ℕ → ℕ × ℕ → Type 0
 EdgeAllowed n before e = (proper n e ≡ true) × (follows before e ≡ true)
 

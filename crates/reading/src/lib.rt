@@ -279,6 +279,7 @@ fn by_value(s: &[u8], head: PlanHead, rows: [u64; GraphTable::ROW_WORDS]) -> Pla
     }
 }
 
+// The same by value: a plan at the start of s.
 pub fn read_leading_plan(s: &[u8]) -> PlanRead
     ensures { λ r. ⌜ r ≡ leadingPlan (now (s .entry)) ⌝ }
 {
@@ -287,6 +288,7 @@ pub fn read_leading_plan(s: &[u8]) -> PlanRead
     by_value(s, head, rows)
 }
 
+// A whole plan record by value.
 pub fn read_plan(s: &[u8]) -> PlanRead
     ensures { λ r. ⌜ r ≡ wholePlan (now (s .entry)) ⌝ }
 {
