@@ -36,19 +36,22 @@ fn number(word: Option<&String>, otherwise: u64) -> u64 {
 fn every_family() {
     let random = &mut Random::new(SEED);
     table::head();
+    let mut largest = Vec::new();
     for family in FAMILIES {
-        rows(family.name, family.sizes, |n| {
+        largest.push(rows(family.name, family.sizes, |n| {
             let plan = family.drawn(n, random);
             let certificate = encode_certificate(&certify_with(&plan, random));
             Case::new(&plan, family.grade, certificate)
-        });
+        }));
     }
     rows("hostile certificate", &SIZES, |n| hostile::case(n, 4 * n, random));
     rows("hostile, few edges", &SIZES, |n| hostile::case(n, hostile::least_edges(n), random));
+    table::lengths(&largest);
 }
 
-fn rows(name: &str, sizes: &[usize], mut case: impl FnMut(usize) -> Case) {
-    table::rows(name, sizes.iter().map(|&n| (0..GRAPHS).map(|_| case(n)).collect()));
+/// The family's name and its cases of the last size.
+fn rows<'a>(name: &'a str, sizes: &[usize], mut case: impl FnMut(usize) -> Case) -> (&'a str, Vec<Case>) {
+    (name, table::rows(name, sizes.iter().map(|&n| (0..GRAPHS).map(|_| case(n)).collect())))
 }
 
 /// The row of one plan record.

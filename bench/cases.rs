@@ -12,6 +12,11 @@ extern "C" {
     fn bench_clock() -> u64;
 }
 
+#[cfg(lengths)]
+extern "C" {
+    fn fikzarn_certificate_length(plan: *const u8, plan_len: usize) -> u64;
+}
+
 #[cfg(old)]
 extern "C" {
     fn old_fikzarn_check(plan: *const u8, plan_len: usize, cert: *const u8, cert_len: usize) -> u64;
@@ -109,9 +114,28 @@ impl Case {
     }
 
     pub fn time_certify(&self, library: &Library, times: u32) -> f64 {
-        let mut out = [0; SPACE];
-        let made = self.certify(library, &mut out);
-        microseconds(times, || demand(self.certify(library, &mut out) == made, "the certifier answers the same length"))
+        self.time_lent(library, &mut [0; SPACE], times)
+    }
+
+    /// The new library's certifier, lent just as many bytes as its certificate has.
+    pub fn time_exact(&self, times: u32) -> f64 {
+        let length = self.made(NEW);
+        self.time_lent(NEW, &mut [0; SPACE][..length], times)
+    }
+
+    fn time_lent(&self, library: &Library, out: &mut [u8], times: u32) -> f64 {
+        let made = self.certify(library, out);
+        microseconds(times, || demand(self.certify(library, out) == made, "the certifier answers the same length"))
+    }
+
+    /// The new library's answer without a buffer.
+    #[cfg(lengths)]
+    pub fn time_length(&self, times: u32) -> f64 {
+        let due = self.graded() + 65536 * self.made(NEW) as u64;
+        microseconds(times, || {
+            let word = unsafe { fikzarn_certificate_length(self.plan.as_ptr(), self.plan.len()) };
+            demand(word == due, "the length is the certificate's");
+        })
     }
 }
 

@@ -82,8 +82,8 @@ impl Row {
     }
 }
 
-/// The rows of a family, one for each size. The sizes too are timed in turns, for the growth.
-pub fn rows(name: &str, sizes: impl Iterator<Item = Vec<Case>>) {
+/// The rows of a family, one for each size. The sizes too are timed in turns, for the growth. Hands back the cases of the last size.
+pub fn rows(name: &str, sizes: impl Iterator<Item = Vec<Case>>) -> Vec<Case> {
     let mut rows: Vec<Row> = sizes.map(Row::new).collect();
     for _ in 0..TIMINGS / rows[0].cases.len() {
         rows.iter_mut().for_each(Row::time);
@@ -92,6 +92,7 @@ pub fn rows(name: &str, sizes: impl Iterator<Item = Vec<Case>>) {
     if rows.len() > 1 {
         println!("{:<20} growth in searches from {} vertices: {}", "", rows[0].cases[0].n, growths(&rows));
     }
+    rows.pop().map_or(Vec::new(), |row| row.cases)
 }
 
 /// The table of one plan, with its connectivity and a certificate from the second implementation.
@@ -99,8 +100,33 @@ pub fn one(name: &str, plan: &Plan) {
     let certificate = encode_certificate(&certify_with(plan, &mut Random::new(1)));
     let case = Case::new(plan, connectivity_by_low_points(plan), certificate);
     head();
-    rows(name, [vec![case]].into_iter());
+    let cases = rows(name, [vec![case]].into_iter());
+    lengths(&[(name, cases)]);
 }
+
+/// Certify lent more than it needs, lent just the length, and the length without a buffer; of the new library, where it answers that.
+#[cfg(lengths)]
+pub fn lengths(families: &[(&str, Vec<Case>)]) {
+    println!();
+    println!("{:<20}vertices edges grade | bytes certify us | exact us /certify | length us /certify", "graph");
+    for (name, cases) in families {
+        let mut times = [const { Vec::new() }; 3];
+        for case in (0..TIMINGS / cases.len()).flat_map(|_| cases) {
+            times[0].push(case.time_certify(NEW, CALLS));
+            times[1].push(case.time_exact(CALLS));
+            times[2].push(case.time_length(CALLS));
+        }
+        let Case { n, m, grade, .. } = cases[0];
+        let bytes = median(&cases.iter().map(|case| case.made(NEW) as f64).collect::<Vec<_>>());
+        let [certify, exact, length] = &times;
+        let beside = |list: &[f64]| format!("{:>9.2} {:>8.3}", median(list), median(&over(list, certify)));
+        print!("{name:<20} {n:>7} {m:>5} {grade:>5} | {bytes:>5.0} {:>10.2} ", median(certify));
+        println!("|{} | {}", beside(exact), beside(length));
+    }
+}
+
+#[cfg(not(lengths))]
+pub fn lengths(_: &[(&str, Vec<Case>)]) {}
 
 /// How far each library's times in searches rise above those in the first row: the largest over the first.
 fn growths(rows: &[Row]) -> String {

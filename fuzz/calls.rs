@@ -1,11 +1,12 @@
-//! One input, one call of the library, compared with the second implementation: the answer, and every byte of the buffer.
+//! One input, one call of the library, compared with the second implementation: the answer, and every byte of the buffer. `certify` is
+//! called with the largest buffer, with the one that the input asks for, and without any, for the length.
 //! The first byte of an input says which call it is and how much room its buffer has; the others are the call's records.
 use crate::reference::{self, Answer};
 use fikzarn::End;
 
 pub const CALLS: [&str; 4] = ["plan", "check", "certify", "session"];
 
-/// The first byte for a call; of the 64 rooms most are large enough.
+/// The first byte for a call with one of 64 rooms.
 pub fn first_byte(call: usize, room: usize) -> u8 {
     (call + 4 * room) as u8
 }
@@ -27,7 +28,7 @@ pub fn compare(input: &[u8]) -> Result<Compared, String> {
             let (plan, certificate) = bytes.split_at(plan_end(bytes, room));
             (vec![check(plan, certificate)?], has_doubles(plan))
         }
-        2 => (vec![certify(bytes, room, first)?], has_doubles(bytes)),
+        2 => (certify(bytes, room, first)?, has_doubles(bytes)),
         _ => (session(bytes, room, first)?, reference::next_part(&mut &*bytes).is_some_and(has_doubles)),
     };
     Ok(Compared { call, doubles, answers })
@@ -98,33 +99,55 @@ fn check(plan: &[u8], certificate: &[u8]) -> Result<Answer, String> {
     Ok(expected)
 }
 
-/// The certifier's choice is its own: the second implementation has to accept it with the plan's connectivity. Doubles change nothing.
-fn certify(bytes: &[u8], room: usize, fill: u8) -> Result<Answer, String> {
-    let length = fikzarn::CERTIFICATE_ROOM - 8 + room;
-    let (made, out) = certified(bytes, length, fill);
-    let expected = match reference::read_plan(bytes) {
-        Err((number, place)) => Answer::PlanFault(number, place),
-        Ok(_) if length < fikzarn::CERTIFICATE_ROOM => Answer::PlanFault(30, 0),
-        Ok(plan) => Answer::Grade(reference::connectivity_by_low_points(&plan)),
-    };
-    same("certify", made.map_or_else(plain, |(grade, _)| Answer::Grade(grade)), expected)?;
-    let size = made.map_or(0, |(_, size)| size);
-    if made.is_ok() {
-        same("its certificate", reference::check(bytes, &out[..size]), expected)?;
-        same("its length", size <= fikzarn::CERTIFICATE_ROOM, true)?;
+/// The certifier's choice is its own: the second implementation has to accept it with the plan's connectivity, and to find it as long
+/// as it has to be. It is the same whatever buffer is lent, and doubles change nothing.
+fn certify(bytes: &[u8], room: usize, fill: u8) -> Result<Vec<Answer>, String> {
+    let read = reference::read_plan(bytes);
+    let (made, out) = certified(bytes, fikzarn::CERTIFICATE_ROOM, fill);
+    let certificate = &out[..made.map_or(0, |(_, length)| length)];
+    let grade = read.as_ref().map(reference::connectivity_by_low_points);
+    let due = grade.map(|grade| (grade, certificate)).map_err(|&fault| fault);
+    let whole = lent("certify", (made, &out), due, fill)?;
+    if let Ok(plan) = &read {
+        same("its certificate", reference::check(bytes, certificate), whole)?;
+        reference::long_numbers(plan, certificate)?;
     }
-    same("certify's buffer behind the certificate", &out[size..], &vec![fill; length - size][..])?;
+    let length = fikzarn::certificate_length(bytes).map(|answered| (answered.grade, answered.length));
+    same("certificate_length", length, made)?;
+    let (made, out) = certified(bytes, lent_size(certificate.len(), room), fill);
+    let answer = lent("certify in another buffer", (made, &out), due, fill)?;
     if let Some(once) = once(bytes) {
-        let (made_once, out_once) = certified(&once, length, fill);
-        same("certify with each double written once", made_once, made)?;
-        same("certify's buffer with each double written once", out_once, out)?;
+        same("certify with each double written once", certified(&once, out.len(), fill), (made, out))?;
     }
+    Ok(vec![whole, answer])
+}
+
+/// Up to 8 bytes below the certificate's length or above it; a few bytes; any part of it; about as many as the longest has.
+fn lent_size(length: usize, room: usize) -> usize {
+    match room {
+        0..16 => (length + room).saturating_sub(8),
+        16..24 => room - 16,
+        24..56 => length * (room - 24) / 32,
+        _ => fikzarn::CERTIFICATE_ROOM - 60 + room,
+    }
+}
+
+type Made = Result<(u8, usize), fikzarn::Answer>;
+
+/// The answer, and every byte of the buffer: where a certificate is due it begins with it.
+fn lent(what: &str, (made, out): (Made, &[u8]), due: Result<(u8, &[u8]), reference::Fault>, fill: u8) -> Result<Answer, String> {
+    let (expected, certificate) = reference::lent(out.len(), due);
+    same(what, made.map_or_else(plain, |(grade, _)| Answer::Grade(grade)), expected)?;
+    same("its length", made.map_or(0, |(_, length)| length), certificate.len())?;
+    let mut buffer = certificate.to_vec();
+    buffer.resize(out.len(), fill);
+    same("its buffer", out, &buffer)?;
     Ok(expected)
 }
 
 /// The grade and the length, or the refusal; and the whole buffer.
-fn certified(bytes: &[u8], length: usize, fill: u8) -> (Result<(u8, usize), fikzarn::Answer>, Vec<u8>) {
-    let mut out = vec![fill; length];
+fn certified(bytes: &[u8], size: usize, fill: u8) -> (Made, Vec<u8>) {
+    let mut out = vec![fill; size];
     let made = fikzarn::certify(bytes, &mut out).map(|made| (made.grade, made.certificate.len()));
     (made, out)
 }

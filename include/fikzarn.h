@@ -49,13 +49,18 @@ uint64_t fikzarn_plan(const uint8_t *plan, size_t plan_len, uint8_t *out, size_t
 /* Checks a certificate record beside a plan record: a grade, a plan fault, or else a certificate fault. */
 uint64_t fikzarn_check(const uint8_t *plan, size_t plan_len, const uint8_t *certificate, size_t certificate_len);
 
-/* A buffer of this many bytes has room for the certificate of any plan. */
+/* No certificate that fikzarn_certify makes is longer: a buffer of this many bytes has room for that of any plan. */
 #define FIKZARN_CERTIFICATE_ROOM 1536
 
 /* Makes a certificate of a plan that fikzarn_check accepts with the grade in the answer. Beside a grade the place is the
  * certificate's length; `out` begins with the certificate, and every byte from the length on keeps its value. Else the answer is a
- * plan fault, 30 at 0 for an accepted plan where `out` is below FIKZARN_CERTIFICATE_ROOM bytes, and no byte of `out` changes. */
+ * plan fault, 30 at 0 for an accepted plan where `out` is shorter than its certificate, and no byte of `out` changes. The same plan
+ * gets the same certificate in every `out` that is as long as it or longer. */
 uint64_t fikzarn_certify(const uint8_t *plan, size_t plan_len, uint8_t *out, size_t out_len);
+
+/* What fikzarn_certify answers where `out` is long enough: a grade with the certificate's length as the place, or a plan fault, which
+ * is never 30. Writes nothing. */
+uint64_t fikzarn_certificate_length(const uint8_t *plan, size_t plan_len);
 
 /* How the replay of a script ended. */
 enum {
@@ -80,8 +85,9 @@ static inline uint64_t fikzarn_answer(const uint8_t *out, size_t i) {
     return word;
 }
 
-/* Which edition of the records this library reads, and its limits. Since edition 1 a cable of a plan may equal the one before it. */
-uint64_t fikzarn_edition(void);          /* 1 */
+/* Which edition of the records this library reads, and its limits. Since edition 1 a cable of a plan may equal the one before it;
+ * since edition 2 a buffer is refused, by 30, only where it is shorter than the certificate. */
+uint64_t fikzarn_edition(void);          /* 2 */
 uint64_t fikzarn_min_boxes(void);        /* 4 */
 uint64_t fikzarn_max_boxes(void);        /* 128 */
 uint64_t fikzarn_max_cables(void);       /* 512, each cable of a double counted */

@@ -30,7 +30,7 @@ REFUSALS = {
     27: "one link holds both ends",
     28: "a box is not in after the last ear, or is no branch box after the last path",
     29: "grade 3 needs at least two cabled pairs more than boxes",
-    30: "the buffer is shorter than 1,536 bytes",
+    30: "the buffer is shorter than this plan's certificate",
     31: "the session does not take this call now",
 }
 

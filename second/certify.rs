@@ -1,39 +1,45 @@
-// compare certify: the certificates that the library makes, under the figure and both checkers; and what becomes of the buffer.
-use crate::generate::{every_plan, larger_plan, Generator, FIGURES};
+// compare certify: the certificates that the library makes, under the figure, both checkers and request 2's counts; the lengths that it
+// answers without writing; and what becomes of buffers that are shorter, as long and longer.
+use crate::generate::{at_the_limit, every_plan, larger_plan, Generator, FIGURES};
+use crate::known::numbers_told;
 use crate::library::{self, Lent};
 use crate::reference::*;
 use crate::Tally;
 
-/// "the length is at most 1,536"; 30 below.
+/// Document 01: "the length is at most 1,536". No buffer need be longer.
 pub const SPACE: usize = 1536;
 /// Up to here the figure is found as document 01 words it, above by low points.
 const MOST_BY_REMOVAL: usize = 48;
 
+/// Outcomes beside the answers: a grade at the largest number of vertices, and a certificate with a number of two bytes.
+const LARGEST: &str = "128 vertices, grade";
+pub const LONG: &str = "a number of two bytes, grade";
+
 pub fn certify(count: u64, seed: u64) -> bool {
-    let mut run = Run { tally: Tally::new(seed), random: Random::new(!seed), calls: 0, longest: [0; 4] };
+    let mut run = Run { tally: Tally::new(seed), random: Random::new(!seed), calls: 0, plans: [0; 4], longest: [0; 4] };
     let mut right = true;
     for n in 4..=6 {
-        let before = run.grades();
-        every_plan(n).for_each(|plan| run.plan(&plan));
-        let after = run.grades();
-        // Two certificates a plan.
-        let figures = [0, 1, 2, 3].map(|k| (after[k] - before[k]) / 2);
+        let before = run.plans;
+        every_plan(n).for_each(|plan| run.record(&encode_plan(&plan)));
+        let figures = [0, 1, 2, 3].map(|grade| run.plans[grade] - before[grade]);
         println!("every plan on {n} vertices: figures {figures:?}, expected {:?}", FIGURES[n - 4]);
         right &= figures == FIGURES[n - 4];
     }
+    for n in MOST_VERTICES - 2..=MOST_VERTICES {
+        at_the_limit(n, &mut run.random).iter().for_each(|plan| run.record(&encode_plan(plan)));
+    }
     for turn in 0..count as usize {
         let plan = larger_plan(turn, &mut run.random);
-        run.plan(&plan);
+        run.record(&encode_plan(&plan));
     }
     let mut generator = Generator::new(seed);
-    for _ in 0..count {
-        let record = generator.plan_record();
-        let answer = read_plan(&record).map(|plan| figure(&plan));
-        run.sized(&record, answer);
-    }
-    println!("longest certificates by grade: {:?}", run.longest);
-    let due = (0..4).map(|grade| ("grade", grade)).chain((1..8).chain([30]).map(|number| ("plan refused", number)));
-    run.tally.close(run.calls, due.collect()) & right
+    (0..count).for_each(|_| run.record(&generator.plan_record()));
+    println!("plans by grade: {:?}, longest certificates: {:?}", run.plans, run.longest);
+    let mut due: Vec<(&str, u8)> = (0..4).flat_map(|grade| [("grade", grade), (LARGEST, grade)]).collect();
+    due.extend((1..8).chain([30]).map(|number| ("plan refused", number)));
+    // The rules leave no other place for it: a first ear through 128 vertices.
+    due.push((LONG, 2));
+    run.tally.close(run.calls, due) & right
 }
 
 pub fn figure(plan: &Plan) -> u8 {
@@ -48,56 +54,75 @@ struct Run {
     tally: Tally,
     random: Random,
     calls: u64,
+    plans: [usize; 4],
     longest: [usize; 4],
 }
 
 impl Run {
-    fn grades(&self) -> [usize; 4] {
-        [0, 1, 2, 3].map(|grade| self.tally.outcomes.get(&("grade", grade)).map_or(0, |&[all, _]| all as usize))
+    fn record(&mut self, record: &[u8]) {
+        match read_plan(record) {
+            Ok(plan) => self.accepted(record, &plan),
+            Err(fault) => {
+                let (shorter, longer) = (self.random.below(SPACE), self.random.within(SPACE, 4 * SPACE));
+                self.buffers(record, &[0, 1, shorter, SPACE, longer], Err(fault));
+            }
+        }
     }
 
-    /// An accepted plan: in the least buffer, in a larger one the same certificate, and in one that is too small none.
-    fn plan(&mut self, plan: &Plan) {
+    /// The certificate with room enough has to be right; then it is due in every buffer.
+    fn accepted(&mut self, record: &[u8], plan: &Plan) {
         self.tally.see_shapes(plan);
-        let record = encode_plan(plan);
-        let figure = figure(plan);
-        let larger = self.random.within(SPACE + 1, 4 * SPACE);
-        let smaller = *self.random.pick(&[0, 1, SPACE / 2, SPACE - 1]);
-        let first = self.call(&record, Ok(figure), SPACE);
-        let second = self.call(&record, Ok(figure), larger);
-        self.call(&record, Ok(figure), smaller);
-        if first != second {
-            self.tally.differs(&[("plan", &record)], format!("another certificate in a buffer of {larger} bytes"));
-        }
-    }
-
-    /// A plan record, refused or not, and a buffer of any size: "Plan faults come before certificate faults, and for the maker before
-    /// 30."
-    fn sized(&mut self, record: &[u8], answer: Result<u8, Fault>) {
-        let smaller = self.random.below(SPACE);
-        let size = *self.random.pick(&[0, smaller, SPACE - 1, SPACE, SPACE + smaller]);
-        self.call(record, answer, size);
-    }
-
-    /// One call. The answer is to be the plan's fault, or 30, or the plan's figure; the certificate is handed back.
-    fn call(&mut self, record: &[u8], answer: Result<u8, Fault>, size: usize) -> Vec<u8> {
-        let expected = match answer {
-            Err((number, place)) => Answer::PlanFault(number, place),
-            Ok(_) if size < SPACE => Answer::PlanFault(30, 0),
-            Ok(figure) => Answer::Grade(figure),
+        let grade = figure(plan);
+        let made = certified(record, SPACE, &mut self.random);
+        let counted = match made.wrong(record, Answer::Grade(grade)) {
+            Some(wrong) => Err(wrong),
+            None => long_numbers(plan, &made.certificate),
         };
+        self.count(record, Answer::Grade(grade));
+        match counted {
+            Err(wrong) => return self.differs(record, &made.certificate, wrong),
+            Ok(0) => {}
+            Ok(_) => self.tally.see((LONG, grade), record),
+        }
+        if plan.n == MOST_VERTICES {
+            self.tally.see((LARGEST, grade), record);
+        }
+        let length = made.certificate.len();
+        self.plans[grade as usize] += 1;
+        self.longest[grade as usize] = length.max(self.longest[grade as usize]);
+        let (shorter, longer) = (self.random.below(length), self.random.within(length, SPACE));
+        let larger = self.random.within(SPACE, 4 * SPACE);
+        let sizes = [0, 1, shorter, length - 1, length, length + 1, longer, larger];
+        self.buffers(record, &sizes, Ok((grade, &made.certificate)));
+    }
+
+    /// The length without a buffer, then a call with a buffer of each size.
+    fn buffers(&mut self, record: &[u8], sizes: &[usize], made: Result<(u8, &[u8]), Fault>) {
+        let (answer, certificate) = lent(usize::MAX, made);
+        self.count(record, answer);
+        let (word, length) = library::certificate_length(record);
+        if (word, length) != (library::word(answer), certificate.len()) {
+            let due = certificate.len();
+            self.differs(record, certificate, format!("a length of {due} is due, answered {length}, {}", library::told(word)));
+        }
+        for &size in sizes {
+            let (answer, due) = lent(size, made);
+            self.count(record, answer);
+            let given = certified(record, size, &mut self.random);
+            let wrong = given.other(answer).or((given.certificate != due).then(|| "another certificate".to_string()));
+            if let Some(wrong) = wrong {
+                self.differs(record, &given.certificate, format!("a buffer of {size} bytes: {wrong}"));
+            }
+        }
+    }
+
+    fn count(&mut self, record: &[u8], answer: Answer) {
         self.calls += 1;
-        self.tally.count(expected, record);
-        let made = certified(record, size, &mut self.random);
-        if let Answer::Grade(grade) = expected {
-            let longest = &mut self.longest[grade as usize];
-            *longest = made.certificate.len().max(*longest);
-        }
-        if let Some(wrong) = made.wrong(record, expected) {
-            let shown = &made.certificate;
-            self.tally.differs(&[("plan", record), ("certificate", shown)], format!("a buffer of {size} bytes: {wrong}"));
-        }
-        made.certificate
+        self.tally.count(answer, record);
+    }
+
+    fn differs(&mut self, record: &[u8], certificate: &[u8], what: String) {
+        self.tally.differs(&[("plan", record), ("certificate", certificate)], what);
     }
 }
 
@@ -119,13 +144,19 @@ pub fn certified(record: &[u8], size: usize, random: &mut Random) -> Made {
 }
 
 impl Made {
-    /// What is wrong with it where this answer is due: the word, the buffer, or what one of the checkers has against the certificate.
-    pub fn wrong(&self, record: &[u8], expected: Answer) -> Option<String> {
-        if self.word != library::word(expected) {
-            return Some(format!("expected {expected:?}, the library gave {}", library::told(self.word)));
+    /// What is wrong with it where this answer is due: the word, or a byte that is none of the certificate.
+    fn other(&self, expected: Answer) -> Option<String> {
+        match self.word == library::word(expected) {
+            true => self.touched.clone(),
+            false => Some(format!("expected {expected:?}, the library gave {}", library::told(self.word))),
         }
-        if self.touched.is_some() || !matches!(expected, Answer::Grade(_)) {
-            return self.touched.clone();
+    }
+
+    /// The same, or what one of the checkers has against the certificate.
+    pub fn wrong(&self, record: &[u8], expected: Answer) -> Option<String> {
+        let other = self.other(expected);
+        if other.is_some() || !matches!(expected, Answer::Grade(_)) {
+            return other;
         }
         let own = library::check(record, &self.certificate);
         let second = check(record, &self.certificate);
@@ -136,12 +167,15 @@ impl Made {
     }
 }
 
-/// The answer with room enough; both checkers are to accept the certificate with its grade.
+/// The answer with room enough; both checkers are to accept the certificate with its grade. Of kind 3 it tells how many numbers.
 pub fn known(record: &[u8], random: &mut Random) -> String {
     let made = certified(record, SPACE, random);
     let wrong = match made.word % 256 {
         1 => made.wrong(record, Answer::Grade((made.word >> 8) as u8)),
-        _ => made.touched,
+        _ => made.touched.clone(),
     };
-    wrong.unwrap_or_else(|| library::told(made.word))
+    let length = library::certificate_length(record);
+    let other = length != (made.word, made.certificate.len());
+    let other = other.then(|| format!("another length, {} for {}", length.1, made.certificate.len()));
+    wrong.or(other).unwrap_or_else(|| library::told(made.word) + &numbers_told(&made.certificate))
 }

@@ -1,8 +1,9 @@
 // Compares the library, linked as a C static library, with the second implementation over generated cases.
 //   compare plans COUNT SEED              plan records: the answer, and the record written again
-//   compare certificates COUNT SEED       plans with certificates: the answer
+//   compare certificates COUNT SEED       plans with certificates: the answer, and the length of those that are accepted
 //   compare sessions COUNT SEED PROGRAM   scripts of session calls: the answers, and the lines that the session program prints
-//   compare certify COUNT SEED            certificates that the library makes, for every small plan and COUNT larger ones
+//   compare certify COUNT SEED            certificates that the library makes, for every small plan, COUNT larger ones and COUNT plan
+//                                         records of any kind, in buffers that are shorter, as long and longer
 //   compare doubles COUNT SEED            plans with doubles beside the same plans with each double written once
 //   compare known FILE PROGRAM            known answers, by the library and by the checking program
 // Exit status 1 on any difference, or where a refusal or a grade never occurred, with doubles in the plan or at all.
@@ -107,7 +108,7 @@ fn has_double(record: &[u8]) -> bool {
 
 /// An outcome in words; only grades and refusals have a number.
 fn outcome(name: &str, number: u8) -> String {
-    if number > 0 || name == "grade" {
+    if number > 0 || name.ends_with("grade") {
         format!("{name} {number}")
     } else {
         name.to_string()
@@ -189,10 +190,18 @@ fn certificates(count: u64, seed: u64) -> bool {
             let what = format!("expected {expected:?}, the library gave {}", library::told(given));
             tally.differs(&[("plan", &plan), ("certificate", &certificate)], what);
         }
+        if let Answer::Grade(grade) = expected {
+            match reference::read_plan(&plan).map(|read| reference::long_numbers(&read, &certificate)) {
+                Ok(Ok(long)) if long > 0 => tally.see((certify::LONG, grade), &plan),
+                Ok(Err(what)) => tally.differs(&[("plan", &plan), ("certificate", &certificate)], what),
+                _ => {}
+            }
+        }
     }
     let mut due: Vec<(&str, u8)> = (0..4).map(|grade| ("grade", grade)).collect();
     due.extend((1..8).map(|number| ("plan refused", number)));
     due.extend([1, 2, 7, 8, 9].into_iter().chain(20..30).map(|number| ("certificate refused", number)));
+    due.push((certify::LONG, 2));
     tally.close(count, due)
 }
 

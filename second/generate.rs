@@ -223,6 +223,22 @@ pub fn larger_plan(turn: usize, random: &mut Random) -> Plan {
     }
 }
 
+/// Plans of every grade on n vertices, each as it is, numbered at random, and with doubles. A ring has a certificate whose first ear
+/// goes through all vertices.
+pub fn at_the_limit(n: usize, random: &mut Random) -> Vec<Plan> {
+    let (ring, shorter) = (cycle(n), cycle(n - 1));
+    let chord = [ring.clone(), vec![(0, n / 2)]].concat();
+    let pendant = [shorter.clone(), vec![(0, n - 1)]].concat();
+    let wheel = [shorter.clone(), (0..n - 1).map(|v| (v, n - 1)).collect()].concat();
+    let strip = (1..5).flat_map(|by| (0..n).map(move |v| (v, (v + by) % n))).collect();
+    let mut plans = Vec::new();
+    for edges in [Vec::new(), shorter, ring[1..].to_vec(), pendant, ring, chord, wheel, strip] {
+        let other = numbered(n, &edges, random);
+        plans.extend([Plan::new(n, edges), doubled(&other, random), other]);
+    }
+    plans
+}
+
 /// The plan, mostly numbered at random, each edge once; edges beyond the limit are left out.
 fn numbered(n: usize, edges: &[(usize, usize)], random: &mut Random) -> Plan {
     let mut labels: Vec<usize> = (0..n).collect();

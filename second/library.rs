@@ -6,6 +6,7 @@ mod foreign {
         pub fn fikzarn_plan(plan: *const u8, plan_len: usize, out: *mut u8, out_len: usize) -> u64;
         pub fn fikzarn_check(plan: *const u8, plan_len: usize, cert: *const u8, cert_len: usize) -> u64;
         pub fn fikzarn_certify(plan: *const u8, plan_len: usize, out: *mut u8, out_len: usize) -> u64;
+        pub fn fikzarn_certificate_length(plan: *const u8, plan_len: usize) -> u64;
         pub fn fikzarn_session(script: *const u8, script_len: usize, out: *mut u8, out_len: usize) -> u64;
     }
 }
@@ -19,9 +20,18 @@ pub fn check(plan: &[u8], certificate: &[u8]) -> u64 {
     unsafe { foreign::fikzarn_check(plan.as_ptr(), plan.len(), certificate.as_ptr(), certificate.len()) }
 }
 
-/// Writes a certificate of the plan into `out`. Beside a grade the word has the length as its place, which is handed back by itself.
+/// Writes a certificate of the plan into `out`. The answer, and the certificate's length.
 pub fn certify(plan: &[u8], out: &mut [u8]) -> (u64, usize) {
-    let word = unsafe { foreign::fikzarn_certify(plan.as_ptr(), plan.len(), out.as_mut_ptr(), out.len()) };
+    parted(unsafe { foreign::fikzarn_certify(plan.as_ptr(), plan.len(), out.as_mut_ptr(), out.len()) })
+}
+
+/// The answer and the length that `certify` gives with room enough.
+pub fn certificate_length(plan: &[u8]) -> (u64, usize) {
+    parted(unsafe { foreign::fikzarn_certificate_length(plan.as_ptr(), plan.len()) })
+}
+
+/// Beside a grade the word has a length as its place, which is handed back by itself.
+fn parted(word: u64) -> (u64, usize) {
     match word % 256 {
         1 => (word % (1 << 16), (word >> 16) as usize),
         _ => (word, 0),

@@ -1,5 +1,5 @@
-// The second implementation: plans, certificates, building sessions and a certifier, written from document 01 and request 1 of
-// document 02 alone.
+// The second implementation: plans, certificates, building sessions and a certifier, written from document 01 and requests 1 and 2
+// of document 02 alone.
 // A box is a vertex here, a cable an edge, a lost box a removed vertex, a further path a BG-path.
 // Nothing is tuned: sets are vectors, and each test stands beside the sentence that asks for it.
 
@@ -342,6 +342,58 @@ fn repeated(path: &[usize]) -> bool {
 
 pub fn inner(path: &[usize]) -> &[usize] {
     &path[1..path.len() - 1]
+}
+
+// ---------------------------------------------------------------- lengths and lent buffers
+
+/// Every number of a record.
+pub fn numbers(record: &[u8]) -> Result<Vec<usize>, Fault> {
+    let mut reader = Reader::new(record);
+    let mut numbers = Vec::new();
+    while reader.place < record.len() {
+        numbers.push(reader.number()?);
+    }
+    Ok(numbers)
+}
+
+/// Request 2: "With d cabled pairs, a side of s boxes and k ears, the maker's certificate has 2+s numbers for kind 0, 2n+2+s for kind
+/// 1, n+3k+3+s for kind 2 and 3d−2n+13 for kind 3." The same rules count the numbers of every accepted certificate.
+pub fn number_count(plan: &Plan, numbers: &[usize]) -> usize {
+    let (n, d) = (plan.n, plan.pairs().len());
+    match numbers[0] {
+        0 => 2 + numbers[1],
+        1 => 2 * n + 2 + numbers[2 * n + 1],
+        2 => {
+            let k = numbers[3];
+            let side = (0..k).fold(4, |ear, _| ear + 1 + numbers[ear]);
+            n + 3 * k + 3 + numbers[side]
+        }
+        _ => 3 * d + 13 - 2 * n,
+    }
+}
+
+/// How many numbers of an accepted certificate take two bytes, where it is as long as request 2 says; else what is wrong. "A number
+/// costs one byte below 128, else two."
+pub fn long_numbers(plan: &Plan, certificate: &[u8]) -> Result<usize, String> {
+    let numbers = numbers(certificate).map_err(|fault| format!("no numbers: {fault:?}"))?;
+    let long = numbers.iter().filter(|&&value| value >= 128).count();
+    let count = number_count(plan, &numbers);
+    let given = (numbers.len(), certificate.len());
+    match given == (count, count + long) {
+        true => Ok(long),
+        false => Err(format!("{given:?} numbers and bytes, expected {:?}", (count, count + long))),
+    }
+}
+
+/// What the maker answers, and the bytes that it writes, where it is lent so many bytes: from the plan's fault, or the grade and the
+/// certificate that it makes. "Plan faults come before certificate faults, and for the maker before 30."
+pub fn lent(room: usize, made: Result<(u8, &[u8]), Fault>) -> (Answer, &[u8]) {
+    match made {
+        Err((number, place)) => (Answer::PlanFault(number, place), &[]),
+        // Request 2: "Number 30 now means that the buffer is shorter than that certificate, and is given for nothing else."
+        Ok((_, certificate)) if room < certificate.len() => (Answer::PlanFault(30, 0), &[]),
+        Ok((grade, certificate)) => (Answer::Grade(grade), certificate),
+    }
 }
 
 // ---------------------------------------------------------------- building for grade 3

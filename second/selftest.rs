@@ -109,15 +109,24 @@ fn known_answer(call: &str, inputs: &[Vec<u8>]) -> String {
             Err((number, place)) => told(Answer::PlanFault(number, place)),
         },
         ("check", [plan, certificate]) => told(check(plan, certificate)),
-        ("certify", [plan]) => match read_plan(plan) {
-            Ok(read) => Some(check(plan, &certify(&read)))
-                .filter(|&answer| answer == Answer::Grade(connectivity(&read)))
-                .map_or("another grade".to_string(), told),
-            Err((number, place)) => told(Answer::PlanFault(number, place)),
-        },
+        ("certify", [plan]) => known_certify(plan),
         ("session", [script]) => known_session(script),
         ("program", [input]) => program_line(input),
         _ => "no such call".to_string(),
+    }
+}
+
+/// With room enough; in the least room the same, in less none.
+fn known_certify(record: &[u8]) -> String {
+    let plan = read_plan(record);
+    let certificate = plan.as_ref().map_or(Vec::new(), certify);
+    let made = plan.map(|plan| (connectivity(&plan), &certificate[..]));
+    let (answer, written) = lent(certificate.len(), made);
+    let none = made.is_ok() && lent(written.len() - 1, made) != (Answer::PlanFault(30, 0), &[]);
+    match answer {
+        _ if none => "written without room".to_string(),
+        Answer::Grade(_) if check(record, written) != answer => "another grade".to_string(),
+        _ => told(answer) + &known::numbers_told(written),
     }
 }
 
@@ -217,7 +226,8 @@ fn figures(most: usize) -> bool {
     right
 }
 
-/// Random certificates of random plans are accepted with the plan's connectivity; what kind 3 must show besides is tested too.
+/// Random certificates of random plans are accepted with the plan's connectivity, and are as long as request 2 says; what kind 3 must
+/// show besides is tested too.
 fn certify_all(count: u64, seed: u64) -> bool {
     println!("seed {seed}");
     let mut random = Random::new(seed);
@@ -225,6 +235,7 @@ fn certify_all(count: u64, seed: u64) -> bool {
     let mut doubled = 0;
     let mut additions = [0; 3];
     let mut longest = [0; 4];
+    let mut long = 0;
     for _ in 0..count {
         let plan = any_plan(&mut random);
         let certificate = certify_with(&plan, &mut random);
@@ -232,10 +243,12 @@ fn certify_all(count: u64, seed: u64) -> bool {
         let figure = connectivity_by_low_points(&plan);
         let mut right = check(&encode_plan(&plan), &record) == Answer::Grade(figure);
         right &= plan.n > 40 || figure == connectivity(&plan);
+        let counted = long_numbers(&plan, &record);
+        right &= counted.is_ok();
+        long += counted.is_ok_and(|count| count > 0) as u64;
         if let Certificate::Build { four, paths } = &certificate {
             doubled += (plan != plan.simple()) as u64;
             right &= each_pair_once(&plan, paths);
-            right &= certificate.items().concat().len() + 2 * plan.n == 3 * plan.pairs().len() + 13;
             count_additions(plan.n, four, paths, &mut additions);
         }
         grades[figure as usize] += 1;
@@ -247,7 +260,8 @@ fn certify_all(count: u64, seed: u64) -> bool {
     }
     println!("{count} certificates accepted, by grade {grades:?}, longest records {longest:?}");
     println!("additions vertex-vertex, edge-vertex, edge-edge: {additions:?}; {doubled} builds of plans with doubles");
-    doubled > 0 && additions.iter().all(|&count| count > 0) && grades.iter().all(|&count| count > 0)
+    println!("{long} records with a number of two bytes");
+    long > 0 && doubled > 0 && additions.iter().all(|&count| count > 0) && grades.iter().all(|&count| count > 0)
 }
 
 /// "What a finished build of kind 3 uses just once is then each cabled pair."
@@ -317,17 +331,18 @@ fn outcomes(count: u64, seed: u64) -> bool {
     right
 }
 
-/// A grade is the connectivity. "A certificate of kind 3 is accepted exactly when these calls accept it and no byte is left." The plan
-/// is written again as it was, and doubles change no answer.
+/// A grade is the connectivity, and the counts of request 2 hold. "A certificate of kind 3 is accepted exactly when these calls accept
+/// it and no byte is left." The plan is written again as it was, and doubles change no answer.
 fn consistent(plan: &[u8], certificate: &[u8], answer: Answer) -> bool {
     let Ok(graph) = read_plan(plan) else { return true };
     let true_grade = match answer {
         Answer::Grade(grade) => grade == connectivity_by_low_points(&graph),
         _ => true,
     };
+    let counted = !matches!(answer, Answer::Grade(_)) || long_numbers(&graph, certificate).is_ok();
     let by_calls = certificate.first() == Some(&3) && calls_accept(plan, &certificate[1..], &graph);
     let once = check(&encode_plan(&graph.simple()), certificate);
-    true_grade && by_calls == (answer == Answer::Grade(3)) && encode_plan(&graph) == plan && once == answer
+    true_grade && counted && by_calls == (answer == Answer::Grade(3)) && encode_plan(&graph) == plan && once == answer
 }
 
 fn calls_accept(plan: &[u8], parts: &[u8], graph: &Plan) -> bool {

@@ -49,7 +49,7 @@ static const uint8_t TWICE[] = {4, 2, 0, 1, 0, 1};
 static const uint8_t UNSORTED[] = {4, 2, 0, 2, 0, 1};
 
 static void limits(void) {
-    IS(fikzarn_edition(), 1);
+    IS(fikzarn_edition(), 2);
     IS(fikzarn_min_boxes(), 4);
     IS(fikzarn_max_boxes(), 128);
     IS(fikzarn_max_cables(), 512);
@@ -102,6 +102,19 @@ static void plans(void) {
     IS(kept(out, 0, sizeof out, 170), sizeof out);
 }
 
+/* The certificate that was made stands in a buffer of just its length, and in none that is shorter. */
+static void lent(const uint8_t *plan, size_t length, uint64_t made, const uint8_t *certificate, size_t size) {
+    uint8_t out[FIKZARN_CERTIFICATE_ROOM];
+    memset(out, 170, sizeof out);
+    const size_t shorter[] = {0, 1, size / 2, size - 1};
+    for (size_t i = 0; i < sizeof shorter / sizeof *shorter; i++)
+        IS(fikzarn_certify(plan, length, out, shorter[i]), word(FIKZARN_PLAN_FAULT, 30, 0));
+    IS(kept(out, 0, sizeof out, 170), sizeof out);
+    IS(fikzarn_certify(plan, length, out, size), made);
+    IS((uint64_t)memcmp(out, certificate, size), 0);
+    IS(kept(out, size, sizeof out, 170), sizeof out - size);
+}
+
 static void certified(const uint8_t *plan, size_t length, unsigned grade) {
     uint8_t out[FIKZARN_CERTIFICATE_ROOM + 8];
     memset(out, 170, sizeof out);
@@ -113,6 +126,21 @@ static void certified(const uint8_t *plan, size_t length, unsigned grade) {
         return;
     IS(fikzarn_check(plan, length, out, (size_t)size), word(FIKZARN_GRADE, grade, 0));
     IS(kept(out, (size_t)size, sizeof out, 170), sizeof out - size);
+    IS(fikzarn_certificate_length(plan, length), made);
+    lent(plan, length, made, out, (size_t)size);
+}
+
+/* The ring of 128 boxes. Its one ear goes through all of them, so that the ear's length is a number of two bytes. */
+static void ring(void) {
+    uint8_t plan[8 + 2 * 126] = {128, 1, 128, 1, 0, 1, 0, 127}, out[FIKZARN_CERTIFICATE_ROOM];
+    for (uint8_t box = 1; box < 127; box++) {
+        plan[6 + 2 * box] = box;
+        plan[7 + 2 * box] = (uint8_t)(box + 1);
+    }
+    certified(plan, sizeof plan, 2);
+    uint64_t made = fikzarn_certify(plan, sizeof plan, out, sizeof out);
+    IS(out[3] == 1 && out[4] == 128 && out[5] == 1, 1);
+    IS(fikzarn_place(made), 4 + 2 + 128 + 1 + (uint64_t)out[134]);
 }
 
 static void certificates(void) {
@@ -124,9 +152,11 @@ static void certificates(void) {
     certified(FOUR_DOUBLED, sizeof FOUR_DOUBLED, 3);
     certified(FIVE_DOUBLED, sizeof FIVE_DOUBLED, 3);
     certified(TWICE, sizeof TWICE, 0);
+    ring();
     uint8_t out[FIKZARN_CERTIFICATE_ROOM];
     memset(out, 170, sizeof out);
-    IS(fikzarn_certify(FOUR, sizeof FOUR, out, sizeof out - 1), word(FIKZARN_PLAN_FAULT, 30, 0));
+    IS(fikzarn_certificate_length(UNSORTED, sizeof UNSORTED), word(FIKZARN_PLAN_FAULT, 6, 4));
+    IS(fikzarn_certificate_length(FOUR, 0), word(FIKZARN_PLAN_FAULT, 1, 0));
     IS(fikzarn_certify(UNSORTED, sizeof UNSORTED, out, 0), word(FIKZARN_PLAN_FAULT, 6, 4));
     IS(fikzarn_certify(UNSORTED, sizeof UNSORTED, out, sizeof out), word(FIKZARN_PLAN_FAULT, 6, 4));
     IS(kept(out, 0, sizeof out, 170), sizeof out);

@@ -49,6 +49,13 @@ class Written(NamedTuple):
     record: bytes
 
 
+class Length(NamedTuple):
+    """An answer, and the length of the record that would be written beside it; 0 where none would be."""
+
+    answer: Answer
+    length: int
+
+
 class End(enum.IntEnum):
     """How the replay of a script ended: every call was made; the script ends inside the next call; the next call is none of `s`,
     `p`, `c`; or it is whole, but there was no room for its answer."""
@@ -75,7 +82,12 @@ def _path():
 def _loaded():
     library = ctypes.CDLL(_path())
     lent = [ctypes.c_char_p, ctypes.c_size_t]
-    for arguments, names in ((lent + lent, "plan check certify session"), ([], "edition min_boxes max_boxes max_cables certificate_room")):
+    functions = {
+        "plan check certify session": lent + lent,
+        "certificate_length": lent,
+        "edition min_boxes max_boxes max_cables certificate_room": [],
+    }
+    for names, arguments in functions.items():
         for name in names.split():
             function = getattr(library, "fikzarn_" + name)
             function.argtypes, function.restype = arguments, ctypes.c_uint64
@@ -112,16 +124,30 @@ def check(plan, certificate):
 
 
 def certify(plan, room=None):
-    """Makes a certificate that `check` accepts with the grade answered. `room` is its buffer in bytes: by default as many as any
-    certificate needs; with fewer the answer is 30 at 0. A plan fault comes first."""
+    """Makes a certificate that `check` accepts with the grade answered; the record has just its bytes. `room` is the buffer in
+    bytes, by default as many as the certificate of any plan needs: where it is shorter than the certificate the answer is 30 at 0.
+    A plan fault comes first."""
     plan = bytes(plan)
     room = certificate_room() if room is None else room
     out = _buffer(room)
-    answer = _answer(_library.fikzarn_certify(plan, len(plan), out, room))
-    if answer.case != Case.GRADE:
-        return Written(answer, b"")
-    # Beside a grade the word's place is the certificate's length.
-    return Written(answer._replace(place=0), out.raw[: answer.place])
+    answer, length = _graded(_library.fikzarn_certify(plan, len(plan), out, room))
+    return Written(answer, out.raw[:length])
+
+
+def certificate_length(plan):
+    """The length of the certificate that `certify` makes, with the same answer; never 30.
+
+    >>> certificate_length([4, 0]).length
+    3
+    """
+    plan = bytes(plan)
+    return _graded(_library.fikzarn_certificate_length(plan, len(plan)))
+
+
+def _graded(word):
+    """Beside a grade the word's place is a certificate's length."""
+    answer = _answer(word)
+    return Length(answer._replace(place=0), answer.place) if answer.case == Case.GRADE else Length(answer, 0)
 
 
 def session(script, room=None):

@@ -14,6 +14,9 @@ TWICE = bytes([4, 2, 0, 1, 0, 1])
 UNSORTED = bytes([4, 2, 0, 2, 0, 1])
 REFUSED = Answer(Case.PLAN_FAULT, 6, 4)
 ACCEPTED = Answer(Case.ACCEPTED, 0, 0)
+# The ring of 128 boxes: its certificate has one ear through all of them, whose length is a number of two bytes.
+RING = bytes([128, 1, 128, 1, 0, 1, 0, 127]) + b"".join(bytes([box, box + 1]) for box in range(1, 127))
+NO_ROOM = Answer(Case.PLAN_FAULT, 30, 0)
 SMALLER = {2: [4, 5, 0, 1, 0, 2, 0, 3, 1, 2, 1, 3], 1: [4, 3, 0, 1, 1, 2, 2, 3], 0: [4, 0]}
 
 
@@ -30,7 +33,7 @@ def script(plan=FIVE):
 class Calls(unittest.TestCase):
     def test_limits(self):
         limits = [fikzarn.edition(), fikzarn.min_boxes(), fikzarn.max_boxes(), fikzarn.max_cables(), fikzarn.certificate_room()]
-        self.assertEqual(limits, [1, 4, 128, 512, 1536])
+        self.assertEqual(limits, [2, 4, 128, 512, 1536])
 
     def test_check(self):
         self.assertEqual(fikzarn.check(FIVE, FIVE_BUILD), Answer(Case.GRADE, 3, 0))
@@ -60,8 +63,20 @@ class Calls(unittest.TestCase):
             self.assertEqual(fikzarn.check(plan, made.record), made.answer)
         self.assertEqual(fikzarn.certify(FIVE_DOUBLED), fikzarn.certify(FIVE))
         self.assertEqual(fikzarn.certify(TWICE).answer, Answer(Case.GRADE, 0, 0))
-        self.assertEqual(fikzarn.certify(FIVE, room=1535), (Answer(Case.PLAN_FAULT, 30, 0), b""))
         self.assertEqual(fikzarn.certify(UNSORTED, room=0), (REFUSED, b""))
+
+    def test_certificate_length(self):
+        for plan in (FIVE, FIVE_DOUBLED, RING, TWICE, *SMALLER.values()):
+            made = fikzarn.certify(plan)
+            length = len(made.record)
+            self.assertEqual(fikzarn.certificate_length(plan), (made.answer, length))
+            for room in (length, length + 1, 1535, 4000):
+                self.assertEqual(fikzarn.certify(plan, room), made)
+            for room in (0, 1, length // 2, length - 1):
+                self.assertEqual(fikzarn.certify(plan, room), (NO_ROOM, b""))
+        self.assertEqual(fikzarn.certify(RING).record[3:6], bytes([1, 128, 1]))
+        self.assertEqual(fikzarn.certificate_length(UNSORTED), (REFUSED, 0))
+        self.assertEqual(fikzarn.certificate_length(b""), (Answer(Case.PLAN_FAULT, 1, 0), 0))
 
     def test_session(self):
         early = Answer(Case.CERTIFICATE_FAULT, 31, 0)

@@ -25,6 +25,7 @@ mod foreign {
         pub fn fikzarn_plan(plan: *const u8, plan_len: usize, out: *mut u8, out_len: usize) -> u64;
         pub fn fikzarn_check(plan: *const u8, plan_len: usize, certificate: *const u8, certificate_len: usize) -> u64;
         pub fn fikzarn_certify(plan: *const u8, plan_len: usize, out: *mut u8, out_len: usize) -> u64;
+        pub fn fikzarn_certificate_length(plan: *const u8, plan_len: usize) -> u64;
         pub fn fikzarn_session(script: *const u8, script_len: usize, out: *mut u8, out_len: usize) -> u64;
         pub fn fikzarn_edition() -> u64;
         pub fn fikzarn_min_boxes() -> u64;
@@ -105,7 +106,7 @@ pub fn check(plan: &[u8], certificate: &[u8]) -> Answer {
     Answer::of(unsafe { foreign::fikzarn_check(plan.as_ptr(), plan.len(), certificate.as_ptr(), certificate.len()) })
 }
 
-/// A buffer of this many bytes has room for the certificate of any plan.
+/// No certificate that [`certify`] makes is longer: a buffer of this many bytes has room for that of any plan.
 pub const CERTIFICATE_ROOM: usize = 1536;
 
 /// What [`certify`] made.
@@ -118,20 +119,56 @@ pub struct Certified<'a> {
 }
 
 /// Makes a certificate at the start of `out`; the bytes behind it keep their values. Refused, with no byte changed, where the plan
-/// is, or else with 30 at 0 where `out` is below [`CERTIFICATE_ROOM`] bytes.
+/// is, or else with 30 at 0 where `out` is shorter than the certificate. The same plan gets the same certificate, however long `out`
+/// is.
 ///
 /// ```
 /// use fikzarn::{certify, Answer, CERTIFICATE_ROOM};
 ///
 /// let mut room = [0; CERTIFICATE_ROOM];
 /// assert_eq!(certify(&[4, 3, 0, 1, 1, 2, 2, 3], &mut room)?.grade, 1);
-/// assert_eq!(certify(&[4, 0], &mut [0; 64]), Err(Answer::PlanFault(30, 0)));
+/// // Four boxes and no cable: three bytes are enough.
+/// assert_eq!(certify(&[4, 0], &mut [0; 3])?.certificate, [0, 1, 0]);
+/// assert_eq!(certify(&[4, 0], &mut [0; 2]), Err(Answer::PlanFault(30, 0)));
 /// # Ok::<(), Answer>(())
 /// ```
 pub fn certify<'a>(plan: &[u8], out: &'a mut [u8]) -> Result<Certified<'a>, Answer> {
     let word = unsafe { foreign::fikzarn_certify(plan.as_ptr(), plan.len(), out.as_mut_ptr(), out.len()) };
     match Answer::of(word) {
         Answer::Grade(grade) => Ok(Certified { grade, certificate: &out[..(word >> 16) as usize] }),
+        refused => Err(refused),
+    }
+}
+
+/// What [`certificate_length`] answers.
+#[derive(Clone, Copy, Debug, PartialEq, Eq, Hash)]
+pub struct CertificateLength {
+    /// The plan's grade, 0 to 3.
+    pub grade: u8,
+    /// How many bytes the certificate that [`certify`] makes has; at most [`CERTIFICATE_ROOM`].
+    pub length: usize,
+}
+
+/// The grade of a plan, and the length of the certificate that [`certify`] makes of it; nothing is written. Refused where the plan is.
+///
+/// ```
+/// use fikzarn::{certificate_length, certify, Answer};
+///
+/// // Certificates side by side, each in just the bytes that it needs.
+/// let plans = [&[4, 3, 0, 1, 1, 2, 2, 3][..], &[4, 0]];
+/// let mut store = Vec::new();
+/// for plan in plans {
+///     let from = store.len();
+///     store.resize(from + certificate_length(plan)?.length, 0);
+///     certify(plan, &mut store[from..])?;
+/// }
+/// assert_eq!(store, [1, 1, 0, 1, 0, 2, 1, 3, 2, 1, 0, 0, 1, 0]);
+/// # Ok::<(), Answer>(())
+/// ```
+pub fn certificate_length(plan: &[u8]) -> Result<CertificateLength, Answer> {
+    let word = unsafe { foreign::fikzarn_certificate_length(plan.as_ptr(), plan.len()) };
+    match Answer::of(word) {
+        Answer::Grade(grade) => Ok(CertificateLength { grade, length: (word >> 16) as usize }),
         refused => Err(refused),
     }
 }

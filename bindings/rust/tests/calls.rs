@@ -27,7 +27,7 @@ fn script(plan: &[u8]) -> Vec<u8> {
 
 #[test]
 fn limits() {
-    assert_eq!((edition(), min_boxes(), max_boxes(), max_cables()), (1, 4, 128, 512));
+    assert_eq!((edition(), min_boxes(), max_boxes(), max_cables()), (2, 4, 128, 512));
     assert_eq!(certificate_room(), CERTIFICATE_ROOM as u64);
 }
 
@@ -60,19 +60,40 @@ fn plans() {
     }
 }
 
+/// The ring of 128 boxes: its certificate has one ear through all of them, whose length is a number of two bytes.
+fn ring() -> Vec<u8> {
+    let cables = (1..127).flat_map(|lower| [lower, lower + 1]);
+    [128, 1, 128, 1, 0, 1, 0, 127].into_iter().chain(cables).collect()
+}
+
 #[test]
 fn certificates() {
     let (square, chain) = ([4, 5, 0, 1, 0, 2, 0, 3, 1, 2, 1, 3], [4, 3, 0, 1, 1, 2, 2, 3]);
-    for (plan, grade) in [(&FIVE[..], 3), (&five_doubled(), 3), (&square, 2), (&chain, 1), (&[4, 0], 0), (&TWICE, 0)] {
+    let (doubled, ring) = (five_doubled(), ring());
+    let plans = [(&FIVE[..], 3), (&doubled, 3), (&square, 2), (&ring, 2), (&chain, 1), (&[4, 0], 0), (&TWICE, 0)];
+    for (plan, grade) in plans {
         let mut out = [170; CERTIFICATE_ROOM];
         let made = certify(plan, &mut out).expect("a plan");
-        let length = made.certificate.len();
-        assert_eq!((made.grade, check(plan, made.certificate)), (grade, Answer::Grade(grade)));
+        let certificate = made.certificate.to_vec();
+        let length = certificate.len();
+        assert_eq!((made.grade, check(plan, &certificate)), (grade, Answer::Grade(grade)));
         assert!(out[length..].iter().all(|&byte| byte == 170));
+        assert_eq!(certificate_length(plan), Ok(CertificateLength { grade, length }));
+        assert_eq!(certify(plan, &mut vec![0; length]), Ok(Certified { grade, certificate: &certificate }));
+        for shorter in [0, 1, length / 2, length - 1] {
+            let mut out = vec![170; shorter];
+            assert_eq!(certify(plan, &mut out), Err(Answer::PlanFault(30, 0)));
+            assert!(out.iter().all(|&byte| byte == 170));
+        }
     }
+}
+
+#[test]
+fn refused_plans() {
     let mut out = [170; CERTIFICATE_ROOM];
-    assert_eq!(certify(&FIVE, &mut out[1..]), Err(Answer::PlanFault(30, 0)));
-    assert_eq!(certify(&UNSORTED, &mut out[1..]), Err(Answer::PlanFault(6, 4)));
+    assert_eq!(certificate_length(&UNSORTED), Err(Answer::PlanFault(6, 4)));
+    assert_eq!(certificate_length(&[]), Err(Answer::PlanFault(1, 0)));
+    assert_eq!(certify(&UNSORTED, &mut []), Err(Answer::PlanFault(6, 4)));
     assert_eq!(certify(&UNSORTED, &mut out), Err(Answer::PlanFault(6, 4)));
     assert_eq!(out, [170; CERTIFICATE_ROOM]);
 }

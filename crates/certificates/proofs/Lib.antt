@@ -4,3 +4,4 @@ pub mod Paths
 pub mod Items
 pub mod Accepted
 pub mod BuildCalls
+pub mod Lengths

@@ -1,3 +1,4 @@
 pub mod Tests
 pub mod Records
 pub mod Encoding
+pub mod Lengths

@@ -13,7 +13,7 @@ use Rattle.record.specs.Number.{numberBytes, listBytes}
 use Rattle.record.specs.Write.{hasRoom, overwritten, canWrite, writtenNumber, withNumber}
 use Rattle.record.specs.declared.Written.{Written}
 use Rattle.record.specs.declared.Written.the-variants.{Next, Nothing}
-use Rattle.record.proofs.Write.{can-write, put-told, put-fails, overwritten-none, overwritten-length, overwritten-more}
+use Rattle.record.proofs.Write.{can-write, put-told, put-fails, few-bytes, overwritten-none, overwritten-length, overwritten-more}
 use Rattle.vertexset.specs.Set.{emptySet, has, next, capacity}
 use Rattle.vertexset.specs.declared.VertexSet.{VertexSet}
 use Rattle.connectivity.specs.Lists.{upFrom, select}
@@ -164,6 +164,30 @@ bytes-none : (list : List ℕ) (i : ℕ) → length list ≤ i → bytesOf (drop
 unfolding listBytes
 bytes-none list i h = rw (drop-of-length-le list h)
 
+-- what was counted, and the bytes of what is left, are the bytes of all; no number takes more than two
+pub record Counting (list : List ℕ) (bytes i : ℕ) : Type 0 where
+  pub sum : bytes + length (bytesOf (drop i list)) ≡ length (bytesOf list)
+  pub low : bytes ≤ 2 * i
+  pub within : i ≤ length list
+
+pub count-few : (v : ℕ) {n : ℕ} → n ≡ length (numberBytes v) → n ≤ 2
+count-few v e = omega (arith, few-bytes v)
+
+module _ (list : List ℕ) where
+  pub count-start : Counting list 0 0
+  count-start = record { sum = omega arith; low = omega arith; within = omega arith }
+
+  module _ {bytes i : ℕ} (f : Counting list bytes i) where
+    pub count-turn : i < length list → {n : ℕ} → n ≡ length (numberBytes (getD list i 0)) → Counting list (bytes + n) (i + 1)
+    count-turn h e = record {
+      sum = omega (arith, f .sum, ap length (bytes-next list i h), length-append (numberBytes (getD list i 0)) (bytesOf (drop (i + 1) list)));
+      low = omega (arith, f .low, count-few (getD list i 0) e);
+      within = omega arith;
+    }
+
+    pub count-end : length list ≤ i → bytes ≡ length (bytesOf list)
+    count-end h = omega (arith, f .sum, ap length (bytes-none list i h))
+
 -- with what is left written from the place on the buffer is what it is to be
 pub record Writing (buffer list out : List ℕ) (at i : ℕ) : Type 0 where
   pub long : length out ≡ length buffer
@@ -175,11 +199,8 @@ module _ (buffer list : List ℕ) where
   write-start = record { long = refl; place = omega arith; done = refl }
 
   module _ {out : List ℕ} {at i : ℕ} (f : Writing buffer list out at i) where
-    pub write-end : length list ≤ i → (out ≡ overwritten buffer 0 (bytesOf list)) × (at ≡ length (bytesOf list))
-    write-end h = (
-      sym (overwritten-none out at) ∙ ap (overwritten out at) (sym (bytes-none list i h)) ∙ f .done,
-      omega (arith, f .place, ap length (bytes-none list i h)),
-    )
+    pub write-end : length list ≤ i → out ≡ overwritten buffer 0 (bytesOf list)
+    write-end h = sym (overwritten-none out at) ∙ ap (overwritten out at) (sym (bytes-none list i h)) ∙ f .done
 
     module _ (room : length (bytesOf list) ≤ length buffer) (h : i < length list) where
       fits : at + length (numberBytes (getD list i 0)) ≤ length out

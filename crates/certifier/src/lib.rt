@@ -1,4 +1,4 @@
-// The certifier (document 01: the maker): from an accepted plan and a lent buffer, a certificate that the checker accepts.
+// The certifier (document 01: the maker): from an accepted plan and a lent buffer, a certificate that the checker accepts; and how long it is.
 ghost use mathlib.Core.Path.{_≡_};
 ghost use mathlib.Core.List.{[], _∷_, _++_};
 ghost use Prim.Native.Nat.{_+_, _*_, _≤_};
@@ -12,8 +12,8 @@ ghost use Rattle.construction.specs.Sets.{members};
 ghost use Rattle.construction.specs.Ears.{noCut, pathSpace, eared};
 ghost use Rattle.construction.specs.Certificate.{lengthened, certificateNumbers};
 ghost use Rattle.detours.specs.Code.{earsOf};
-ghost use Rattle.certifier.specs.Code.{numbersOf, treeIn, evidenceIn, cutNumbersIn, cutCertificateIn, startCertificateIn, Small};
-ghost use Rattle.certifier.specs.Made.{madeFrom, filledFrom, draftOf, draftFrom};
+ghost use Rattle.certifier.specs.Code.{numberRoom, numbersOf, treeIn, evidenceIn, cutNumbersIn, cutCertificateIn, startCertificateIn, Small};
+ghost use Rattle.certifier.specs.Made.{lengthFrom, madeFrom, filledFrom, draftOf, draftFrom};
 use detours::Cut;
 use detours::Ears;
 use graph::GraphTable;
@@ -30,14 +30,14 @@ struct Numbers {
     count: usize,
 }
 
-// What is decided before a byte is written: the answer, and the numbers of the certificate; none on refusal.
+// What is decided before a byte is written: the answer with room, and the numbers of the certificate; none on refusal.
 struct Draft {
     answer: Answer,
     items: [u16; Numbers::ROOM],
     count: usize,
 }
 
-// The answer, and the length of the certificate; 0 where none was written.
+// The answer, and the length of the certificate; 0 beside a refusal.
 pub struct Made {
     pub answer: Answer,
     pub length: usize,
@@ -51,7 +51,7 @@ impl Numbers {
 }
 
 impl Made {
-    // A buffer with fewer bytes is refused.
+    // No certificate is longer.
     pub const ROOM: usize = Numbers::VERTEX_BYTES * Ears::ROOM;
 }
 
@@ -246,24 +246,36 @@ fn certificate(rows: &[u64; GraphTable::ROW_WORDS], n: u16) -> Numbers
     build_certificate(rows, &mut space, n, full, s)
 }
 
+// How many bytes these numbers take. The sum has 16 bits as the numbers have, so that the compiler adds eight at once.
+fn bytes_of(list: &[u16]) -> usize
+    requires { ⌜ length (now list) ≤ numberRoom ⌝ }
+    ensures { λ r. ⌜ r ≡ length (listBytes numberBytes (now (list .entry))) ⌝ }
+{
+    let mut bytes: u16 = 0;
+    let mut i = 0;
+    while i < list.len() {
+        bytes += record::number_length(list[i]) as u16;
+        i += 1;
+    }
+    bytes as usize
+}
+
 // Numbers, one behind the other, as bytes.
-fn write_numbers<'a>(out: &'a mut [u8], list: &'a [u16]) -> usize
+fn write_numbers<'a>(out: &'a mut [u8], list: &'a [u16])
     requires { ⌜ length (listBytes numberBytes (now list)) ≤ length (now out) ⌝ }
     requires { ⌜ Small (now list) ⌝ }
     ensures { λ r. ⌜ now (out .exit) ≡ overwritten (now (out .entry)) 0 (listBytes numberBytes (now (list .entry))) ⌝ }
-    ensures { λ r. ⌜ r ≡ length (listBytes numberBytes (now (list .entry))) ⌝ }
 {
     let mut at = 0;
     let mut i = 0;
     while i < list.len() {
         let w = record::write_number(out, at, list[i]);
         let Written::Next(next) = w else {
-            return at;
+            return;
         };
         at = next;
         i += 1;
     }
-    at
 }
 
 fn no_draft(answer: Answer) -> Draft
@@ -278,9 +290,9 @@ fn no_draft(answer: Answer) -> Draft
     }
 }
 
-// A plan's fault comes before a buffer that is too short.
-fn decide(plan: &[u8], room: usize) -> Draft
-    ensures { λ r. ⌜ r ≡ draftFrom (now (plan .entry)) room ⌝ }
+// The answer where there is room, and the numbers to be written there.
+fn decide(plan: &[u8]) -> Draft
+    ensures { λ r. ⌜ r ≡ draftFrom (now (plan .entry)) ⌝ }
 {
     let mut rows = [0u64; GraphTable::ROW_WORDS];
     let p = reading::read_plan_rows(plan, &mut rows);
@@ -288,9 +300,6 @@ fn decide(plan: &[u8], room: usize) -> Draft
     let Answer::Accepted = answer else {
         return no_draft(answer);
     };
-    if room < Made::ROOM {
-        return no_draft(Answer::PlanFault(30, 0));
-    }
     let c = certificate(&rows, p.n);
     let items = c.items;
     let count = c.count;
@@ -301,15 +310,30 @@ fn decide(plan: &[u8], room: usize) -> Draft
     }
 }
 
-// THE MAKER.
+// THE MAKER. A refused plan has no numbers, so no buffer is too short for it: its fault comes before 30.
 pub fn certify<'a>(plan: &'a [u8], out: &'a mut [u8]) -> Made
     ensures { λ r. ⌜ r ≡ madeFrom (now (plan .entry)) (now (out .entry)) ⌝ }
     ensures { λ r. ⌜ now (out .exit) ≡ filledFrom (now (plan .entry)) (now (out .entry)) ⌝ }
 {
-    let d = decide(plan, out.len());
+    let d = decide(plan);
     let answer = d.answer;
     let items = d.items;
     let count = d.count;
-    let length = write_numbers(out, &items[0..count]);
+    let length = bytes_of(&items[0..count]);
+    if out.len() < length {
+        return Made {
+            answer: Answer::PlanFault(30, 0),
+            length: 0,
+        };
+    }
+    write_numbers(out, &items[0..count]);
     Made { answer, length }
+}
+
+// What certify answers where there is room: certify, lent a buffer that is always long enough.
+pub fn certificate_length(plan: &[u8]) -> Made
+    ensures { λ r. ⌜ r ≡ lengthFrom (now (plan .entry)) ⌝ }
+{
+    let mut room = [0u8; Made::ROOM];
+    certify(plan, &mut room)
 }

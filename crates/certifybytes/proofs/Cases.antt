@@ -1,19 +1,17 @@
 -- The bytes by the case; the certificate's length counts bytes of its buffer, and all has room. Assumes nothing.
 use Prim.Native.Nat.{ℕ, _-_, _<_, _≤_}
 use mathlib.Core.List.{List, _++_}
-use mathlib.Core.Path.{_≡_, refl, sym, ap, _∙_}
+use mathlib.Core.Path.{_≡_, sym, ap, _∙_}
 use native.Mathlib.Omega.{arith}
 use lib.ListN.{length, take, length-replicate}
 use lib.Seq.{length-take-le}
 use borrow.Author.Tests.{lt-ltb, le-ltb}
-use Rattle.record.specs.Number.{numberBytes, listBytes}
 use Rattle.record.specs.Read.{Bytes}
 use Rattle.record.specs.declared.Answer.{Answer}
 use Rattle.record.specs.declared.Answer.the-variants.{Grade}
-use Rattle.record.proofs.Write.{overwritten-length}
 use Rattle.certifier.specs.declared.Made.{Made}
-use Rattle.certifier.specs.Made.{roomAsked, made, madeFrom, filledFrom, draftFrom}
-use Rattle.certifier.proofs.Drafts.{made-room, made-done}
+use Rattle.certifier.specs.Made.{certificateRoom, made, madeFrom, filledFrom}
+use Rattle.certifier.proofs.Room.{made-within}
 use Rattle.lines.specs.Lines.{tooLong, refusalLine, inputLimit, placeAfter, written}
 use Rattle.lines.proofs.Put.{Put, put-as}
 use Rattle.certifybytes.specs.Bytes.{room, zeros, madeBytes, certifyBytes}
@@ -33,24 +31,19 @@ module _ (s : List ℕ) where
     pub refused-bytes : length s ≤ inputLimit → {a : Answer} → m .answer ≡ a → refusalLine a ≡ madeBytes s a (take (m .length) out) → refusalLine (m .answer) ≡ certifyBytes s
     refused-bytes h f r = ap refusalLine f ∙ r ∙ made-bytes h f
 
-    made-within : Bytes s → (m .length ≤ roomAsked) × (length out ≡ roomAsked)
-    made-within b =
-        let d = draftFrom s (length zeros) in
-        let r = made-room s zeros b {d = d} refl .0 in
-        let t = made-done s zeros b {d = d} refl refl refl in
-        let l : length zeros ≡ roomAsked = length-replicate {A = ℕ} roomAsked 0 in (
-          omega (arith, r, l, ap (λ (x : Made). x .length) (e .0 ∙ sym (t .0))),
-          ap length (e .1 ∙ sym (t .1)) ∙ overwritten-length zeros 0 (listBytes numberBytes (take (d .count - 0) (d .items))) (omega (arith, r)) ∙ l,
-        )
+    within : (m .length ≤ certificateRoom) × (length out ≡ certificateRoom)
+    within =
+        let l : length zeros ≡ certificateRoom = length-replicate {A = ℕ} certificateRoom 0 in
+        let w = made-within s zeros in
+        (omega (arith, w .0, l, ap (λ (x : Made). x .length) (e .0)), ap length (e .1) ∙ w .1 ∙ l)
 
-    pub made-counts : Bytes s → (m .length ≤ length out) × (m .length ≡ length (take (m .length) out))
-    made-counts b =
-        let w = made-within b in
-        let l : m .length ≤ length out = omega (arith, w) in
+    pub made-counts : (m .length ≤ length out) × (m .length ≡ length (take (m .length) out))
+    made-counts =
+        let l : m .length ≤ length out = omega (arith, within) in
         (l, sym (length-take-le (m .length) out l))
 
     pub made-fits : Bytes s → (k : ℕ) → m .answer ≡ Grade k → length (s ++ take (m .length) out) ≤ room
-    made-fits b k f = made-short s (take (m .length) out) k b (ap (λ (x : Made). x .answer) (sym (e .0)) ∙ f) (omega (arith, made-within b, made-counts b))
+    made-fits b k f = made-short s (take (m .length) out) k b (ap (λ (x : Made). x .answer) (sym (e .0)) ∙ f) (omega (arith, within, made-counts))
 
 -- what is put has room
 pub put-short : (buffer : List ℕ) {xs ys : List ℕ} → xs ≡ ys → {next : ℕ} {out : List ℕ} → Put buffer 0 xs next out → length xs ≤ room

@@ -14,7 +14,8 @@ use Rattle.record.proofs.Write.{one-byte, few-bytes}
 use Rattle.reading.specs.Plan.{Plan, plan, proper, edgeBytes, planBytes, EdgeAllowed, Allowed}
 use Rattle.reading.specs.Code.{planRead}
 use Rattle.reading.proofs.Plans.{accepted}
-use Rattle.certifier.specs.Made.{roomAsked, madeBy, madeFrom}
+use Rattle.certifier.specs.Made.{certificateRoom, lengthBy, madeFrom}
+use Rattle.certifier.proofs.Room.{made-graded}
 use Rattle.certifybytes.specs.Bytes.{room, zeros}
 
 both-below : (a b n : ℕ) → ltb a b && ltb b n ≡ true → (a < n) × (b < n)
@@ -45,12 +46,12 @@ plan-short p a =
     omega (arith, e, l, m, few-bytes (p .n), few-bytes (length (p .edges)), a .few)
 
 -- only an accepted plan gets a grade
-grade-accepted : (x : Read Plan) (k : ℕ) → madeBy zeros (planRead x .answer) (planRead x .plan .graph) .answer ≡ Grade k → planRead x .answer ≡ Accepted
-unfolding madeBy planRead
+grade-accepted : (x : Read Plan) (k : ℕ) → lengthBy (planRead x .answer) (planRead x .plan .graph) .answer ≡ Grade k → planRead x .answer ≡ Accepted
+unfolding lengthBy planRead
 grade-accepted (Got p next) k e = refl
 grade-accepted (Refused r q) k e = let z : _≡_ {A = ℕ} 0 1 = cc in absurd (omega arith)
 
-pub made-short : (s certificate : List ℕ) (k : ℕ) → Bytes s → madeFrom s zeros .answer ≡ Grade k → length certificate ≤ roomAsked → length (s ++ certificate) ≤ room
+pub made-short : (s certificate : List ℕ) (k : ℕ) → Bytes s → madeFrom s zeros .answer ≡ Grade k → length certificate ≤ certificateRoom → length (s ++ certificate) ≤ room
 made-short s certificate k b e h =
-    let a = accepted s b (grade-accepted (ended plan s 0) k e) in
+    let a = accepted s b (grade-accepted (ended plan s 0) k (made-graded s zeros e)) in
     omega (arith, h, plan-short (a .0) (a .1), ap length (a .2), length-append s certificate)

@@ -7,12 +7,12 @@ use lib.Dec.{ltb}
 use Rattle.record.specs.declared.Answer.{Answer}
 use Rattle.record.specs.declared.Answer.the-variants.{Accepted, Grade, PlanFault, CertificateFault}
 use Rattle.graph.specs.Limits.{maxEdges}
-use Rattle.certifier.specs.Made.{roomAsked, madeFrom, filledFrom}
+use Rattle.certifier.specs.Made.{certificateRoom, madeFrom, filledFrom}
 use Rattle.lines.specs.Lines.{tooLong, refusalLine, inputLimit}
 
 -- an accepted plan has two numbers of two bytes at most, and two vertices of a byte for each edge; its certificate stands behind it
 abbrev pub room : ℕ
-room = 4 + 2 * maxEdges + roomAsked
+room = 4 + 2 * maxEdges + certificateRoom
 
 -- the plan and behind it the certificate; else the line of the refusal
 abbrev pub madeBytes : List ℕ → Answer → List ℕ → List ℕ
@@ -23,7 +23,7 @@ madeBytes s (CertificateFault r p) certificate = refusalLine (CertificateFault r
 
 -- the certificate is made into a buffer of zeros
 abbrev pub zeros : List ℕ
-zeros = replicate roomAsked 0
+zeros = replicate certificateRoom 0
 
 unfoldable pub certifyBytes : List ℕ → List ℕ
 certifyBytes s = cond (ltb inputLimit (length s)) tooLong (madeBytes s (madeFrom s zeros .answer) (take (madeFrom s zeros .length) (filledFrom s zeros)))

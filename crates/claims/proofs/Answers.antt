@@ -1,9 +1,9 @@
--- THE ANSWERS of every call are those that document 01 lists for it. Assumes nothing.
+-- THE ANSWERS of every call are those that documents 01 and 02 list for it. Assumes nothing.
 use Prim.Native.Nat.{ℕ, zero, suc, _+_, _≤_}
 use mathlib.Core.List.{List, _∷_}
 use mathlib.Core.Bool.{Bool, true, false, cond, _&&_}
-use mathlib.Core.Path.{_≡_, refl, subst}
-use mathlib.Core.Logic.{inl, inr}
+use mathlib.Core.Path.{_≡_, refl, sym, subst}
+use mathlib.Core.Logic.{inl, inr, ⊎-map}
 use native.Mathlib.Omega.{arith}
 use lib.Dec.{ltb, leb, eqb}
 use lib.ListN.{length, drop, length-drop}
@@ -32,11 +32,14 @@ use Rattle.build.specs.State.{BuildStart, startOn, startIn, buildStart, buildPa
 use Rattle.sessions.specs.declared.Session.{Session}
 use Rattle.sessions.specs.declared.Opened.{Opened}
 use Rattle.sessions.specs.Session.{noSession, openedOn, onOpening, opening, refusedStep, onStart, startStep, pathCount, onPath, pathStep, closeStep}
-use Rattle.certifier.specs.Made.{made, madeBy, madeFrom, roomAsked, gradeMade, certificateOf}
+use Rattle.certifier.specs.declared.Made.{Made}
+use Rattle.certifier.specs.Made.{lengthBy, lengthFrom, madeFrom, gradeMade, certificateOf}
 use Rattle.claims.specs.Answers as listed
 use Rattle.claims.specs.Answers.{OneOf, answers, inPlan, inCertificate, allGrades}
 use Rattle.claims.specs.Demands.{Demand1Answers, RefusedElse}
-use Rattle.claims.proofs.Demands.{made-accepted, plan-faults-first}
+use Rattle.certifier.proofs.Room.{made-room, made-none, by-room}
+use Rattle.claims.proofs.Maker.{made-accepted}
+use Rattle.claims.proofs.Demands.{plan-faults-first}
 use Rattle.claims.proofs.Checking.{grade-certified}
 
 -- a reader whose numbers are in a list; as a test, so that a number's being there is computed
@@ -206,19 +209,26 @@ grade-made p a =
     let C = certificateOf (graphOf p) in
     subst (λ (x : Answer). OneOf listed.checkingAnswers (length P) (length C) x) (made-accepted p a) (checking P C)
 
-making : (P : List ℕ) → Bytes P → (buffer : List ℕ) → OneOf listed.makingAnswers (length P) 0 (madeFrom P buffer .answer)
-unfolding planRead madeBy tableOf
-making P bp buffer = go (ended plan P 0) refl (from-0 (whole-by (λ r h. inr (inr h)) (inl refl)) P)
+measuring : (P : List ℕ) → Bytes P → OneOf listed.measuringAnswers (length P) 0 (lengthFrom P .answer)
+unfolding planRead lengthBy tableOf
+measuring P bp = go (ended plan P 0) refl (from-0 (whole-by (λ r. inr) (inl refl)) P)
   where
-    go : (x : Read Plan) → ended plan P 0 ≡ x → Ends (λ r. In r (7 ∷ 30 ∷ inPlan)) P x
-        → OneOf listed.makingAnswers (length P) 0 (madeBy buffer (planRead x .answer) (planRead x .plan .graph) .answer)
+    go : (x : Read Plan) → ended plan P 0 ≡ x → Ends (λ r. In r (7 ∷ inPlan)) P x
+        → OneOf listed.measuringAnswers (length P) 0 (lengthBy (planRead x .answer) (planRead x .plan .graph) .answer)
     go (Refused r q) e h = h
-    go (Got p next) e h = test (ltb (length buffer) roomAsked)
-      where
-        test : (b : Bool) → OneOf listed.makingAnswers (length P) 0
-            (cond b (made (PlanFault 30 0) 0) (made (Grade (gradeMade (graphOf p))) (length (certificateOf (graphOf p)))) .answer)
-        test true = (inr (inl refl), omega arith)
-        test false = grade-made p (ended-there plan-law bp e .1)
+    go (Got p next) e h = grade-made p (ended-there plan-law bp e .1)
+
+-- 30, or what is answered with room
+making : (P : List ℕ) → Bytes P → (buffer : List ℕ) → OneOf listed.makingAnswers (length P) 0 (madeFrom P buffer .answer)
+making P bp buffer = by-room P buffer
+    (λ h. subst (λ (m : Made). OneOf listed.makingAnswers (length P) 0 (m .answer)) (sym (made-none P buffer h .0)) (inr (inl refl), omega arith))
+    (λ h. subst (λ (m : Made). OneOf listed.makingAnswers (length P) 0 (m .answer)) (sym (made-room P buffer h .0)) (more (lengthFrom P .answer) (measuring P bp)))
+  where
+    more : (a : Answer) → OneOf listed.measuringAnswers (length P) 0 a → OneOf listed.makingAnswers (length P) 0 a
+    more Accepted h = h
+    more (Grade k) h = h
+    more (PlanFault r q) h = (⊎-map (λ e. e) inr (h .0), h .1)
+    more (CertificateFault r q) h = h
 
 reading : (P : List ℕ) → OneOf listed.readingAnswers (length P) 0 (wholePlan P .answer)
 unfolding planRead
@@ -277,6 +287,7 @@ demand1-answers = record {
   checking = checking;
   checking-behind = behind;
   making = making;
+  measuring = measuring;
   opening = opens;
   starting = starting;
   pathing = pathing;

@@ -19,12 +19,12 @@ use Rattle.reading.proofs.Repeats.{rows-once}
 use Rattle.sessions.specs.declared.Opened.{Opened}
 use Rattle.sessions.specs.Session.{opening, noSession, openedOn}
 use Rattle.checker.specs.Check.{planGraph, certificateAnswer, checkOf}
-use Rattle.certifier.specs.Made.{madeBy, madeFrom, filledBy, filledFrom}
+use Rattle.certifier.specs.Made.{lengthBy, lengthFrom, recordBy, recordFrom, fitted, filledBy}
 use Rattle.claims.specs.Certified.{HasFigure}
 use Rattle.claims.specs.Doubles.{comesAfter, SameOnce, DoublesAside}
 use Rattle.claims.proofs.Checking.{record-read, checked}
 use Rattle.claims.proofs.Replay.{opening-read}
-use Rattle.claims.proofs.Demands.{made-on, filled-on}
+use Rattle.claims.proofs.Maker.{length-on, record-on}
 
 -- a figure is that of the one plan whose record it is
 figure-of : (q : Plan) → Allowed q → (k : ℕ) → HasFigure (planBytes q) k ↔ HasConnectivity (planGraph q) k
@@ -70,11 +70,11 @@ module _ (p : Plan) (a : Allowed p) where
   unfolding certificateAnswer
   answers C = checked p a C ∙ rw (← same-graph) (sym (checked (once p) allowed C))
 
-  makes : (buffer : List ℕ) → madeFrom (planBytes p) buffer ≡ madeFrom (planBytes (once p)) buffer
-  makes buffer = made-on (planBytes p) buffer (record-read p a) ∙ ap (λ (g : GraphTable). madeBy buffer Accepted g) (sym same-table) ∙ sym (made-on (planBytes (once p)) buffer (record-read (once p) allowed))
+  measures : lengthFrom (planBytes p) ≡ lengthFrom (planBytes (once p))
+  measures = length-on (planBytes p) (record-read p a) ∙ ap (lengthBy Accepted) (sym same-table) ∙ sym (length-on (planBytes (once p)) (record-read (once p) allowed))
 
-  fills : (buffer : List ℕ) → filledFrom (planBytes p) buffer ≡ filledFrom (planBytes (once p)) buffer
-  fills buffer = filled-on (planBytes p) buffer (record-read p a) ∙ ap (λ (g : GraphTable). filledBy buffer Accepted g) (sym same-table) ∙ sym (filled-on (planBytes (once p)) buffer (record-read (once p) allowed))
+  writes : recordFrom (planBytes p) ≡ recordFrom (planBytes (once p))
+  writes = record-on (planBytes p) (record-read p a) ∙ ap (recordBy Accepted) (sym same-table) ∙ sym (record-on (planBytes (once p)) (record-read (once p) allowed))
 
   opens : opening (planBytes p) ≡ opening (planBytes (once p))
   opens = opened-of p a ∙ ap onGraph (sym same-table) ∙ sym (opened-of (once p) allowed)
@@ -86,8 +86,9 @@ module _ (p : Plan) (a : Allowed p) where
     same-pairs = λ e. (once-has (p .n) (p .edges) (a .least) (a .each) e, once-in (0, 0) (p .edges) e);
     figures = figures;
     answers = answers;
-    makes = makes;
-    fills = fills;
+    measures = measures;
+    makes = λ buffer. ap (fitted buffer) measures;
+    fills = λ buffer. ap (filledBy buffer) writes;
     opens = opens;
   }
 

@@ -1,8 +1,8 @@
--- REQUEST 1 keeps what checker, checking program, opening and maker gave for a plan record in the base edition, but for refusals by 6. Assumes nothing.
+-- REQUEST 1 keeps what checker, checking program, opening and maker gave for a plan record in the base edition, but for refusals by 6 and the maker's by 30. Assumes nothing.
 use Prim.Native.Nat.{ℕ, zero, suc, _<_, _≤_}
 use mathlib.Core.List.{List, [], _∷_}
 use mathlib.Core.Bool.{Bool, true, false, cond, _&&_, _||_}
-use mathlib.Core.Path.{_≡_, refl, ap, _∙_}
+use mathlib.Core.Path.{_≡_, refl, ap, subst, _∙_}
 use mathlib.Core.Logic.{_⊎_, inl, inr, ⊎-elim}
 use native.Mathlib.Omega.{arith}
 use lib.Dec.{ltb, leb, eqb}
@@ -17,13 +17,18 @@ use Rattle.connectivity.specs.Build.{furtherCount}
 use Rattle.connectivity.proofs.Lists.{and-true}
 use Rattle.connectivity.proofs.Edges.{EdgeBefore, AscendingEdges, ascending-nodup, fromEdges-count}
 use Rattle.reading.specs.Plan.{Plan, EdgeAllowed, proper, follows, edge, plan}
-use Rattle.reading.specs.Code.{graphOf}
+use Rattle.reading.specs.Code.{graphOf, wholePlan}
+use Rattle.graph.specs.declared.GraphTable.{GraphTable}
+use Rattle.record.specs.declared.Answer.{Answer}
+use Rattle.record.specs.declared.Answer.the-variants.{Accepted}
 use Rattle.reading.proofs.EdgeTests.{each-proper}
 use Rattle.sessions.specs.Session.{opening, onOpening}
 use Rattle.checker.specs.Check.{onPlan, onLeading, checkOf, gradeOf}
 use Rattle.claims.specs.Session.{pairCount}
 use Rattle.claims.specs.Doubles.{comesAfter, baseEdge, basePlan, baseOpening, BaseKept}
-use Rattle.claims.proofs.Demands.{made-on, filled-on}
+use Rattle.claims.specs.Lengths.{EarlierKept}
+use Rattle.claims.proofs.Maker.{answer-on, graph-on}
+use Rattle.claims.proofs.Lengths.{bytes-stay}
 
 -- ---- two readings of a record
 
@@ -159,7 +164,7 @@ base-opens P n = ap (λ (x : Read Plan). onOpening x) (but-same (ended-but P) n)
     on (Got p next) h = rw (base-counts P (ended-got basePlan h .0))
     on (Refused r q) h = refl
 
--- WHAT CHECKER, CHECKING PROGRAM, OPENING AND MAKER GAVE IN THE BASE EDITION IS KEPT, BUT FOR REFUSALS BY 6.
+-- WHAT CHECKER, CHECKING PROGRAM, OPENING AND MAKER GAVE IN THE BASE EDITION IS KEPT, BUT FOR REFUSALS BY 6 AND THE MAKER'S BY 30.
 pub base-kept : BaseKept
 unfolding checkOf gradeOf
 base-kept = record {
@@ -169,6 +174,6 @@ base-kept = record {
   checks = λ P C n. ap (λ (x : Read Plan). onPlan x C) (but-same (ended-but P) n);
   grades = λ s n. ap (λ (x : Read Plan). onLeading x s) (but-same (plan-but s) n);
   opens = base-opens;
-  makes = λ P buffer p next h. made-on P buffer (but-got (ended-but P) h ∙ h);
-  fills = λ P buffer p next h. filled-on P buffer (but-got (ended-but P) h ∙ h);
+  makes = λ P bp buffer p next h. let e = but-got (ended-but P) h ∙ h in
+      subst (λ (g : GraphTable). EarlierKept P buffer Accepted g) (graph-on P e) (subst (λ (a : Answer). EarlierKept P buffer a (wholePlan P .plan .graph)) (answer-on P e) (bytes-stay P bp buffer));
 }

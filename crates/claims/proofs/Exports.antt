@@ -19,10 +19,10 @@ use Rattle.record.proofs.Laws.{ended-there}
 use Rattle.connectivity.specs.Lists.{In, all}
 use Rattle.connectivity.proofs.Lists.{all-true}
 use Rattle.reading.specs.Plan.{Plan, plan, planBytes}
-use Rattle.reading.specs.Code.{graphOf, tableOf, planRead, wholePlan}
+use Rattle.reading.specs.Code.{tableOf, planRead, wholePlan}
 use Rattle.reading.proofs.Plans.{plan-law}
 use Rattle.certifier.specs.declared.Made.{Made}
-use Rattle.certifier.specs.Made.{roomAsked, certificateOf, gradeMade, made, madeBy, madeFrom}
+use Rattle.certifier.specs.Made.{certificateRoom, lengthFrom, madeFrom}
 use Rattle.checker.specs.Check.{checkOf}
 use Rattle.graph.specs.Rows.{rowsGraph}
 use Rattle.paths.specs.Items.{limited}
@@ -44,9 +44,11 @@ use Rattle.claims.specs.Calls.{Call, Call.start, Call.path, Call.close, 
 use Rattle.claims.specs.Answers as listed
 use Rattle.claims.specs.Answers.{Answers, OneOf}
 use Rattle.claims.specs.Exports.{inWord, decoded, Fits, wordOf, wordAt, onPartCalls, callsFrom, answersOf, scriptAnswers}
-use Rattle.claims.specs.Demands.{PlansAgain, WordsDecode, WordsAreAnswers, GradesInWords, AcceptedGrade, AcceptedGrade.checked, AcceptedGrade.made-for, AcceptedGrade.closed-on}
+use Rattle.claims.specs.Demands.{PlansAgain, WordsDecode, WordsAreAnswers, GradesInWords, AcceptedGrade, AcceptedGrade.checked, AcceptedGrade.made-for, AcceptedGrade.measured, AcceptedGrade.closed-on}
 use Rattle.claims.proofs.Sessions.{Opens, Opens.refused, Opens.accepted, opens}
-use Rattle.claims.proofs.Demands.{made-short, grade-is-figure}
+use Rattle.certifier.proofs.Room.{made-room, made-none, by-room}
+use Rattle.certifier.proofs.Drafts.{length-most}
+use Rattle.claims.proofs.Demands.{grade-is-figure}
 use Rattle.claims.proofs.Answers.{demand1-answers}
 use Rattle.claims.proofs.Scripts.{scripts-replay, replay-bounded}
 
@@ -110,18 +112,11 @@ made-decoded m f = go (m .answer) f
     go (PlanFault r p) h = words-decode (PlanFault r p) h
     go (CertificateFault r p) h = words-decode (CertificateFault r p) h
 
--- where it is a grade: the length is at most the room that is asked for
-made-length : (P : List ℕ) → Bytes P → (buffer : List ℕ) → madeFrom P buffer .length ≤ roomAsked
-unfolding madeBy planRead tableOf
-made-length P bp buffer = go (ended plan P 0) refl
-  where
-    go : (x : Read Plan) → ended plan P 0 ≡ x → madeBy buffer (planRead x .answer) (planRead x .plan .graph) .length ≤ roomAsked
-    go (Refused r q) e = omega arith
-    go (Got p next) e = test (ltb (length buffer) roomAsked)
-      where
-        test : (b : Bool) → cond b (made (PlanFault 30 0) 0) (made (Grade (gradeMade (graphOf p))) (length (certificateOf (graphOf p)))) .length ≤ roomAsked
-        test true = omega arith
-        test false = made-short p (ended-there plan-law bp e .1)
+-- where it is a grade: no length is more than the room that is always enough
+made-length : (P : List ℕ) → Bytes P → (buffer : List ℕ) → madeFrom P buffer .length ≤ certificateRoom
+made-length P bp buffer = by-room P buffer
+    (λ h. omega (arith, ap (λ (m : Made). m .length) (made-none P buffer h .0)))
+    (λ h. omega (arith, ap (λ (m : Made). m .length) (made-room P buffer h .0), length-most P bp))
 
 made-placed : (m : Made) (k : ℕ) → k < 256 → m .length < 2 ^ 48 → m .answer ≡ Grade k → madeWord m / 65536 ≡ m .length
 made-placed m k f h e = ap (λ (a : Answer). gradeWord a (m .length) / 65536) e ∙ omega arith
@@ -333,6 +328,11 @@ words-are-answers = record {
   length-of = λ P buffer bp k e.
       let g : In k (listed.makingAnswers .grades) = subst (λ (a : Answer). OneOf listed.makingAnswers (length P) 0 a) e (demand1-answers .making P bp buffer) in
       made-placed (madeFrom P buffer) k (byte-number (listed.makingAnswers .grades) refl k g) (omega (arith, made-length P bp buffer)) e;
+  of-length = λ P bp p. let m = lengthFrom P in
+      made-decoded m (listed-fits listed.measuringAnswers (length P) 0 refl refl refl p (omega arith) (m .answer) (demand1-answers .measuring P bp));
+  length-asked = λ P bp k e.
+      let g : In k (listed.measuringAnswers .grades) = subst (λ (a : Answer). OneOf listed.measuringAnswers (length P) 0 a) e (demand1-answers .measuring P bp) in
+      made-placed (lengthFrom P) k (byte-number (listed.measuringAnswers .grades) refl k g) (omega (arith, length-most P bp)) e;
   of-session = λ s buffer a e w h i c. ap decoded (told-word s buffer a e w i c) ∙ told-decoded (getD (scriptAnswers s a e) i Accepted) (script-fits s h a e i);
   status-of = λ s buffer. let b = replay-bounded s buffer in omega (arith, b .status);
   count-of = λ s buffer h. let b = replay-bounded s buffer in omega (arith, b .status, b .count);
@@ -342,6 +342,7 @@ pub grades-in-words : GradesInWords
 grades-in-words = record {
   of-check = λ P C bp bc k e. word-figure P bp (answerWord (checkOf P C)) (checkOf P C) (record { kind = refl; number = refl }) (λ j f. checked C bc f) e;
   of-certify = λ P buffer bp k e. word-figure P bp (madeWord (madeFrom P buffer)) (madeFrom P buffer .answer) (made-lowest (madeFrom P buffer)) (λ j f. made-for buffer f) e;
+  of-length = λ P bp k e. word-figure P bp (madeWord (lengthFrom P)) (lengthFrom P .answer) (made-lowest (lengthFrom P)) (λ j f. measured f) e;
   of-session = λ s buffer bytes a e w i k h f. word-figure (partOf s a e) (part-bytes s bytes a e) _ _ (told-lowest (getD (scriptAnswers s a e) i Accepted))
       (λ j g. let c = script-closes s bytes a e i j g in closed-on (c .0) (c .1) (c .2)) (ap decoded (sym (told-word s buffer a e w i h)) ∙ f);
 }

@@ -1,7 +1,9 @@
 pub mod Starred
+pub mod Maker
 pub mod Demands
 pub mod Demand1
 pub mod Answers
+pub mod Lengths
 pub mod Checking
 pub mod Sessions
 pub mod Replay

@@ -18,7 +18,7 @@ use Rattle.reading.specs.Code.{wholePlan}
 use Rattle.reading.proofs.Plans.{plan-law, accepted}
 use Rattle.checker.specs.Check.{checkOf, onLeading, gradeOf}
 use Rattle.checker.specs.declared.Graded.{Graded}
-use Rattle.certifier.specs.Made.{roomAsked, madeFrom}
+use Rattle.certifier.specs.Made.{certificateRoom, madeFrom}
 use Rattle.lines.specs.Lines.{inputLimit, decimal, newline, boxesText, cablesText, gradeText, tooLong, faultLine}
 use Rattle.gradeline.specs.Line.{gradedLine, gradeLine}
 use Rattle.certifybytes.specs.Bytes.{zeros, certifyBytes}
@@ -27,7 +27,9 @@ use Rattle.claims.specs.Printed.{GradePrinted}
 use Rattle.claims.specs.Demands.{PrintsGrade, GradePrints, RefusalsPrinted, CertifyPrints}
 use Rattle.claims.proofs.Checking.{answer-there, certified-sound}
 use Rattle.claims.proofs.Decimal.{decimal-apart}
-use Rattle.claims.proofs.Demands.{maker-writes, refused-keeps}
+use Rattle.certifier.proofs.Drafts.{length-most}
+use Rattle.claims.proofs.Maker.{maker-writes}
+use Rattle.claims.proofs.Lengths.{refused-keeps}
 
 -- THE CHECKING PROGRAM answers what the checker answers to the two records apart, with the plan's counts
 program-checks : (p : Plan) → Allowed p → (C : List ℕ) → _≡_ {A = Graded} (gradeOf (planBytes p ++ C)) (record { answer = checkOf (planBytes p) C; n = p .n; m = length (p .edges) })
@@ -90,7 +92,7 @@ unfolding certifyBytes
 certify-prints P bp e =
     let a = accepted P bp e in
     let h : length P ≤ inputLimit = omega (arith, plan-short (a .0) (a .1), ap length (a .2)) in
-    let w = maker-writes P bp e zeros (omega (arith, length-replicate {A = ℕ} roomAsked 0)) in
+    let w = maker-writes P bp e zeros (omega (arith, length-most P bp, length-replicate {A = ℕ} certificateRoom 0)) in
     record {
       certificate = w .certificate;
       grade = w .grade;

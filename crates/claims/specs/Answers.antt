@@ -1,4 +1,4 @@
--- WHICH ANSWERS document 01 lists for each call: its cases, the numbers of its refusals, and that a place lies within the record.
+-- WHICH ANSWERS documents 01 and 02 list for each call: its cases, the numbers of its refusals, and that a place lies within the record.
 use Prim.Native.Nat.{ℕ, _≤_}
 use mathlib.Core.List.{List, [], _∷_}
 use mathlib.Core.Bool.{Bool, true, false}
@@ -34,7 +34,7 @@ inCertificate = 1 ∷ 2 ∷ 7 ∷ 8 ∷ 9 ∷ 20 ∷ 21 ∷ 22 ∷ 23 ∷ 24 ∷
 abbrev pub allGrades : List ℕ
 allGrades = 0 ∷ 1 ∷ 2 ∷ 3 ∷ []
 
--- reading a plan, checking, the checking program (7 is never a plan's there), making
+-- reading a plan, checking, the checking program (7 is never a plan's there), making, and asking how long a certificate is
 abbrev pub readingAnswers : Answers
 readingAnswers = answers true [] (7 ∷ inPlan) []
 
@@ -46,6 +46,9 @@ programAnswers = answers false allGrades inPlan inCertificate
 
 abbrev pub makingAnswers : Answers
 makingAnswers = answers false allGrades (7 ∷ 30 ∷ inPlan) []
+
+abbrev pub measuringAnswers : Answers
+measuringAnswers = answers false allGrades (7 ∷ inPlan) []
 
 -- the session's calls
 abbrev pub openingAnswers : Answers

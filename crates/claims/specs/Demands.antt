@@ -4,7 +4,7 @@ use Prim.Native.Nat.{ℕ, suc, _+_, _*_, _/_, _%_, _^_, _≤_, _<_}
 use mathlib.Core.List.{List, _∷_, _++_}
 use mathlib.Core.Path.{_≡_}
 use mathlib.Core.Logic.{_↔_}
-use lib.ListN.{length, drop, getD}
+use lib.ListN.{length, take, drop, getD}
 use Rattle.record.specs.Read.{Read.Refused, Bytes}
 use Rattle.record.specs.Number.{numberBytes, listBytes}
 use Rattle.record.specs.Write.{overwritten}
@@ -23,7 +23,7 @@ use Rattle.sessions.specs.Session.{opening, startStep, pathStep, closeStep}
 use Rattle.checker.specs.Check.{planGraph, checkOf, gradeOf}
 use Rattle.construction.specs.Ears.{pathSpace}
 use Rattle.construction.specs.Construction.{certificate}
-use Rattle.certifier.specs.Made.{roomAsked, made, madeFrom, filledFrom}
+use Rattle.certifier.specs.Made.{certificateRoom, made, lengthFrom, madeFrom, filledFrom}
 use Rattle.script.specs.declared.Part.the-variants.{Within, Cut}
 use Rattle.script.specs.Script.{partAt}
 use Rattle.script.specs.Replay.{answerWord, answerBytes, partOf, reply, replayOf}
@@ -53,13 +53,14 @@ pub record SessionIs (P : List ℕ) (calls : List Call) : Type 0 where
 abbrev pub Demand1Sessions : Type 0
 Demand1Sessions = (P : List ℕ) → Bytes P → (calls : List Call) → SessionIs P calls
 
--- Every answer is one that document 01 lists for that call: a refusal has one of its numbers and a place within the record, and where a
+-- Every answer is one that documents 01 and 02 list for that call: a refusal has one of its numbers and a place within the record, and where a
 -- grade is due no answer is `Accepted`. Start, path and closing, on every value of a session.
 pub record Demand1Answers : Type 0 where
   pub reading : (P : List ℕ) → OneOf listed.readingAnswers (length P) 0 (wholePlan P .answer)
   pub checking : (P C : List ℕ) → OneOf listed.checkingAnswers (length P) (length C) (checkOf P C)
   pub checking-behind : (s : List ℕ) → OneOf listed.programAnswers (length s) (length s) (gradeOf s .answer)
   pub making : (P : List ℕ) → Bytes P → (buffer : List ℕ) → OneOf listed.makingAnswers (length P) 0 (madeFrom P buffer .answer)
+  pub measuring : (P : List ℕ) → Bytes P → OneOf listed.measuringAnswers (length P) 0 (lengthFrom P .answer)
   pub opening : (P : List ℕ) → OneOf listed.openingAnswers (length P) 0 (opening P .answer)
   pub starting : (s : Session) (part : List ℕ) → OneOf listed.startAnswers 0 (length part) (startStep s part .answer)
   pub pathing : (s : Session) (part : List ℕ) → OneOf listed.pathAnswers 0 (length part) (pathStep s part .answer)
@@ -69,18 +70,21 @@ pub record Demand1Answers : Type 0 where
 abbrev pub PlanFaultsFirst : Type 0
 PlanFaultsFirst = (P C : List ℕ) (r q : ℕ) → (checkOf P C ≡ PlanFault r q) ↔ (wholePlan P .answer ≡ PlanFault r q)
 
--- "a refused maker writes no byte". A plan's fault comes first; below 1,536 bytes an accepted plan gets 30 at 0.
+-- "a refused maker writes no byte". A plan's fault comes first. "Number 30 now means that the buffer is shorter than that certificate, and is
+-- given for nothing else.": it is given, at 0, exactly where the plan is accepted and the buffer shorter than its certificate; and of all calls the
+-- maker alone gives it (`Demand1Answers`).
 pub record MakerRefuses (P buffer : List ℕ) : Type 0 where
   pub kept : (r q : ℕ) → madeFrom P buffer .answer ≡ PlanFault r q → (filledFrom P buffer ≡ buffer) × (madeFrom P buffer .length ≡ 0)
   pub fault : (r q : ℕ) → wholePlan P .answer ≡ PlanFault r q → madeFrom P buffer .answer ≡ PlanFault r q
-  pub too-short : wholePlan P .answer ≡ Accepted → length buffer < roomAsked → madeFrom P buffer .answer ≡ PlanFault 30 0
+  pub too-short : (q : ℕ) → (madeFrom P buffer .answer ≡ PlanFault 30 q) ↔ ((wholePlan P .answer ≡ Accepted) × (length buffer < lengthFrom P .length) × (q ≡ 0))
 
 abbrev pub RefusedKeeps : Type 0
 RefusedKeeps = (P buffer : List ℕ) → MakerRefuses P buffer
 
--- "Maker's buffer below 1,536 bytes."
-abbrev pub RoomNamed : Type 0
-RoomNamed = roomAsked ≡ 1536
+-- 1,536 bytes are always enough.
+pub record RoomNamed : Type 0 where
+  pub number : certificateRoom ≡ 1536
+  pub enough : (P : List ℕ) → Bytes P → lengthFrom P .length ≤ certificateRoom
 
 -- DEMAND 2. "Beside an accepted plan, a certificate is accepted, with its kind as the grade, if every rule for that kind holds, and refused
 -- if one is broken."
@@ -129,10 +133,11 @@ abbrev pub PlanAccepted : Type 0
 PlanAccepted = (P : List ℕ) → Bytes P → (wholePlan P .answer ≡ Accepted) ↔ ((p : Plan) × IsPlan P p)
 
 -- "A grade is accepted when the checker answers it for a plan and a certificate, the maker for a plan, or closing for the plan
--- its session was opened on.": the last after any list of session calls.
+-- its session was opened on.": the maker with a buffer or asked for the length alone, closing after any list of session calls.
 pub data AcceptedGrade (P : List ℕ) (k : ℕ) : Type 0 where
   checked : (C : List ℕ) → Bytes C → checkOf P C ≡ Grade k → AcceptedGrade P k
   made-for : (buffer : List ℕ) → madeFrom P buffer .answer ≡ Grade k → AcceptedGrade P k
+  measured : lengthFrom P .answer ≡ Grade k → AcceptedGrade P k
   closed-on : (calls : List Call) → CallBytes calls → closeStep (sessionAfter (opening P .session) calls) .answer ≡ Grade k → AcceptedGrade P k
 
 -- DEMAND 3. "Every accepted grade is its plan's loss figure, be it from the checker, from the maker or from closing a session, after any list of
@@ -151,23 +156,27 @@ abbrev pub FigureComputed : Type 0
 FigureComputed = (p : Plan) → Allowed p → (k : ℕ) → HasConnectivity (planGraph p) k ↔ (k ≡ connectivity (planGraph p))
 
 -- "Every accepted plan has an accepted certificate, and the maker, lent any buffer of at least the length that document 01 names, whatever is
--- in it, always writes one for that plan and answers its grade and its length.": the buffer begins with it and keeps every byte behind it.
+-- in it, always writes one for that plan and answers its grade and its length." Request 2 names the certificate's own length, which
+-- `certificate_length` answers with the grade. The buffer begins with the certificate and keeps every byte behind it.
 pub record Writes (P buffer : List ℕ) : Type 0 where
   pub certificate : List ℕ
   pub grade : ℕ
   pub answer : madeFrom P buffer ≡ made (Grade grade) (length certificate)
+  pub measured : lengthFrom P ≡ made (Grade grade) (length certificate)
   pub begins : filledFrom P buffer ≡ certificate ++ drop (length certificate) buffer
-  pub short : length certificate ≤ roomAsked
+  pub short : length certificate ≤ certificateRoom
   pub accepted : checkOf P certificate ≡ Grade grade
 
 abbrev pub MakerWrites : Type 0
-MakerWrites = (P : List ℕ) → Bytes P → wholePlan P .answer ≡ Accepted → (buffer : List ℕ) → roomAsked ≤ length buffer → Writes P buffer
+MakerWrites = (P : List ℕ) → Bytes P → wholePlan P .answer ≡ Accepted → (buffer : List ℕ) → lengthFrom P .length ≤ length buffer → Writes P buffer
 
--- and it is the same certificate, whatever buffer is lent
+-- "The same plan always gives the same certificate, however long the buffer.", and the same answer, where two buffers are long enough;
 abbrev pub SameCertificate : Type 0
-SameCertificate = (P a b : List ℕ) (x : Writes P a) (y : Writes P b) → x .certificate ≡ y .certificate
+SameCertificate =
+    (P a b : List ℕ) → lengthFrom P .length ≤ length a → lengthFrom P .length ≤ length b
+    → (madeFrom P a ≡ madeFrom P b) × (take (madeFrom P a .length) (filledFrom P a) ≡ take (madeFrom P b .length) (filledFrom P b))
 
--- and it is a function of the plan's boxes and cables: no row and no word is in it, and of the limits only the room for its paths
+-- it is a function of the plan's boxes and cables: no row and no word is in it, and of the limits only the room for its paths
 abbrev pub CertificateOfPlan : Type 0
 CertificateOfPlan =
     (P buffer : List ℕ) (p : Plan) → IsPlan P p → (x : Writes P buffer)
@@ -218,6 +227,8 @@ pub record WordsAreAnswers : Type 0 where
   pub of-check : (P C : List ℕ) → length P < 2 ^ 48 → length C < 2 ^ 48 → decoded (answerWord (checkOf P C)) ≡ checkOf P C
   pub of-certify : (P buffer : List ℕ) → Bytes P → length P < 2 ^ 48 → decoded (madeWord (madeFrom P buffer)) ≡ madeFrom P buffer .answer
   pub length-of : (P buffer : List ℕ) → Bytes P → (k : ℕ) → madeFrom P buffer .answer ≡ Grade k → madeWord (madeFrom P buffer) / 65536 ≡ madeFrom P buffer .length
+  pub of-length : (P : List ℕ) → Bytes P → length P < 2 ^ 48 → decoded (madeWord (lengthFrom P)) ≡ lengthFrom P .answer
+  pub length-asked : (P : List ℕ) → Bytes P → (k : ℕ) → lengthFrom P .answer ≡ Grade k → madeWord (lengthFrom P) / 65536 ≡ lengthFrom P .length
   pub of-session : (s buffer : List ℕ) (a e : ℕ) → partAt s 0 ≡ Within a e → length s < 2 ^ 48 → (i : ℕ) → i < replayOf s buffer .count
       → decoded (wordAt (replayOf s buffer .buffer) i) ≡ getD (scriptAnswers s a e) i Accepted
   pub status-of : (s buffer : List ℕ) → replayWord (replayOf s buffer) % 256 ≡ replayOf s buffer .status
@@ -227,6 +238,7 @@ pub record WordsAreAnswers : Type 0 where
 pub record GradesInWords : Type 0 where
   pub of-check : (P C : List ℕ) → Bytes P → Bytes C → (k : ℕ) → decoded (answerWord (checkOf P C)) ≡ Grade k → HasFigure P k
   pub of-certify : (P buffer : List ℕ) → Bytes P → (k : ℕ) → decoded (madeWord (madeFrom P buffer)) ≡ Grade k → HasFigure P k
+  pub of-length : (P : List ℕ) → Bytes P → (k : ℕ) → decoded (madeWord (lengthFrom P)) ≡ Grade k → HasFigure P k
   pub of-session : (s buffer : List ℕ) → Bytes s → (a e : ℕ) → partAt s 0 ≡ Within a e → (i k : ℕ) → i < replayOf s buffer .count
       → decoded (wordAt (replayOf s buffer .buffer) i) ≡ Grade k → HasFigure (partOf s a e) k
 

@@ -6,7 +6,7 @@ use mathlib.Core.Path.{_≡_}
 use mathlib.Core.Logic.{_↔_}
 use lib.Dec.{ltb, eqb}
 use lib.ListN.{length}
-use Rattle.record.specs.Read.{Read, Read.Got, Read.Refused, Reader, Each, _needs⟨_⟩_, _▸_, into, counted, within, ended}
+use Rattle.record.specs.Read.{Bytes, Read, Read.Got, Read.Refused, Reader, Each, _needs⟨_⟩_, _▸_, into, counted, within, ended}
 use Rattle.record.specs.Number.{number}
 use Rattle.record.specs.declared.Answer.the-variants.{Accepted, PlanFault}
 use Rattle.connectivity.specs.Lists.{In}
@@ -16,8 +16,9 @@ use Rattle.reading.specs.Code.{graphOf}
 use Rattle.sessions.specs.declared.Opened.{Opened}
 use Rattle.sessions.specs.Session.{opening, noSession, openedOn}
 use Rattle.checker.specs.Check.{onPlan, onLeading, checkOf, gradeOf}
-use Rattle.certifier.specs.Made.{madeBy, madeFrom, filledBy, filledFrom}
+use Rattle.certifier.specs.Made.{lengthFrom, madeFrom, filledFrom}
 use Rattle.claims.specs.Certified.{HasFigure}
+use Rattle.claims.specs.Lengths.{EarlierKept}
 use Rattle.claims.specs.Session.{pairCount, due}
 
 -- an edge comes after its predecessor: the base edition's test for 6
@@ -26,13 +27,14 @@ comesAfter before e = ltb (before .0) (e .0) || (eqb (before .0) (e .0) && ltb (
 
 -- "Losing boxes is no different for it." A plan and the plan with each double written once: the second is a plan, no cable of it is equal to its
 -- predecessor, and it has a cable between two boxes exactly where the first has one; the two have the same figure, every certificate gets the
--- same answer beside both, the maker answers and writes the same, and opening gives the same answer and the same session.
+-- same answer beside both, the maker answers and writes the same and tells the same length, and opening gives the same answer and the same session.
 pub record SameOnce (p : Plan) : Type 0 where
   pub allowed : Allowed (once p)
   pub ascending : Each (λ before e. comesAfter before e ≡ true) (λ before e. e) (0, 0) (once p .edges)
   pub same-pairs : (e : ℕ × ℕ) → In e (p .edges) ↔ In e (once p .edges)
   pub figures : (k : ℕ) → HasFigure (planBytes p) k ↔ HasFigure (planBytes (once p)) k
   pub answers : (C : List ℕ) → checkOf (planBytes p) C ≡ checkOf (planBytes (once p)) C
+  pub measures : lengthFrom (planBytes p) ≡ lengthFrom (planBytes (once p))
   pub makes : (buffer : List ℕ) → madeFrom (planBytes p) buffer ≡ madeFrom (planBytes (once p)) buffer
   pub fills : (buffer : List ℕ) → filledFrom (planBytes p) buffer ≡ filledFrom (planBytes (once p)) buffer
   pub opens : opening (planBytes p) ≡ opening (planBytes (once p))
@@ -57,7 +59,7 @@ baseOpening (Refused r q) = record { answer = PlanFault r q; session = noSession
 -- A record is read as the base edition read it, whole or with bytes behind it, unless that edition refused it by 6: so every record that
 -- it accepted is accepted, as the same plan, and every other refusal has its number and place. The plan of a record that it accepted has as many
 -- pairs as cables, so what counted cables counts the same. Unless that edition refused the plan by 6, the checker, the checking program and
--- opening answer what they answered there; and for a plan that it accepted the maker answers and writes what it did.
+-- opening answer what they answered there; and for a plan that it accepted the maker answers and writes what it did, unless that was 30.
 pub record BaseKept : Type 0 where
   pub whole : (P : List ℕ) → ((q : ℕ) → ¬ (ended basePlan P 0 ≡ Refused 6 q)) → ended plan P 0 ≡ ended basePlan P 0
   pub leading : (s : List ℕ) → ((q : ℕ) → ¬ (basePlan s 0 ≡ Refused 6 q)) → plan s 0 ≡ basePlan s 0
@@ -65,5 +67,4 @@ pub record BaseKept : Type 0 where
   pub checks : (P C : List ℕ) → ((q : ℕ) → ¬ (ended basePlan P 0 ≡ Refused 6 q)) → checkOf P C ≡ onPlan (ended basePlan P 0) C
   pub grades : (s : List ℕ) → ((q : ℕ) → ¬ (basePlan s 0 ≡ Refused 6 q)) → gradeOf s ≡ onLeading (basePlan s 0) s
   pub opens : (P : List ℕ) → ((q : ℕ) → ¬ (ended basePlan P 0 ≡ Refused 6 q)) → opening P ≡ baseOpening (ended basePlan P 0)
-  pub makes : (P buffer : List ℕ) (p : Plan) (next : ℕ) → ended basePlan P 0 ≡ Got p next → madeFrom P buffer ≡ madeBy buffer Accepted (graphOf p)
-  pub fills : (P buffer : List ℕ) (p : Plan) (next : ℕ) → ended basePlan P 0 ≡ Got p next → filledFrom P buffer ≡ filledBy buffer Accepted (graphOf p)
+  pub makes : (P : List ℕ) → Bytes P → (buffer : List ℕ) (p : Plan) (next : ℕ) → ended basePlan P 0 ≡ Got p next → EarlierKept P buffer Accepted (graphOf p)

@@ -6,4 +6,5 @@ pub mod Answers
 pub mod Exports
 pub mod Printed
 pub mod Demands
+pub mod Lengths
 pub mod Doubles

@@ -1,18 +1,18 @@
 -- CERTIFICATES OF KIND 3, as the numbers of their records: four vertices, and the paths of a finished build.
 use Prim.Native.Nat.{ℕ, zero, suc, _+_, _*_, _-_, _≤_, _<_}
 use mathlib.Core.Path.{_≡_, refl, sym, ap, subst, _∙_}
-use mathlib.Core.Logic.{_⊎_, inl, inr, ⊎-elim, ⊎-map}
-use mathlib.Core.List.{List, [], _∷_, _++_, append-assoc}
+use mathlib.Core.Logic.{inl, inr, ⊎-elim, ⊎-map}
+use mathlib.Core.List.{List, [], _∷_, _++_}
 use native.Mathlib.Omega.{arith}
-use lib.ListN.{length, getD, take, drop, length-append, length-drop, take-append-drop}
+use lib.ListN.{length, getD, take, drop, length-append, take-append-drop}
 use lib.Seq.{length-take-le}
-use Rattle.record.specs.Number.{numberBytes, listBytes}
 use Rattle.graph.specs.Limits.{maxEdges}
-use Rattle.certificates.specs.Encoding.{pathBytes, certificateBytes}
+use Rattle.certificates.specs.Lengths.{pathNumbers, recordNumbers}
+use Rattle.certificates.proofs.Lengths.{numbers-count}
 use Rattle.connectivity.specs.Lists.{In, select, below}
 use Rattle.connectivity.specs.Graph.{Graph, Simple, Adj, edgeCount, edgesBelow, withHigher}
-use Rattle.connectivity.specs.Path.{Path, vertices, IsPath, usedEdges}
-use Rattle.connectivity.specs.Build.{four, sixPairs, endPairs, furtherCount}
+use Rattle.connectivity.specs.Path.{Path, vertices, IsPath}
+use Rattle.connectivity.specs.Build.{four, sixPairs, endPairs}
 use Rattle.connectivity.specs.Certificate.{Certificate.build, BuildRules}
 use Rattle.connectivity.proofs.Lists.{fewer, beside, below?, nodup-below, length-below, select-in, select-nodup, at-most}
 use Rattle.connectivity.proofs.Paths.{branchVertices, branch-built, end-or-inner, length-ends}
@@ -21,11 +21,11 @@ use Rattle.connectivity.proofs.Start.{theFour, subdivision-differ, four-branch,
 use Rattle.connectivity.proofs.Recorded.{Recorded, recorded-path, branch-beside}
 use Rattle.connectivity.proofs.RecordedSteps.{recordOf, BuildOf, build-of}
 use Rattle.connectivity.proofs.Progress.{Finished, built-low}
-use Rattle.connectivity.proofs.Completeness.{recorded-most, finished-rules}
+use Rattle.connectivity.proofs.Completeness.{finished-rules}
 use Rattle.vertexset.specs.Set.{capacity}
 use Rattle.construction.specs.Ears.{pathSpace}
-use Rattle.construction.proofs.Flat.{newestFirst, in-newest, built-newest, used-newest, length-flat}
-use Rattle.construction.proofs.NumberLaws.{pathNumbers, path-number, length-numbers, bytes-append, bytes-first, path-bytes, bytes-vertices}
+use Rattle.construction.proofs.Flat.{newestFirst, in-newest, built-newest}
+use Rattle.construction.proofs.NumberLaws.{path-number, bytes-vertices}
 use Rattle.construction.proofs.CutRecords.{Written, low-small}
 
 -- a branch vertex that is not on the path: no path has all vertices
@@ -63,12 +63,12 @@ edges-most g (suc v) h =
     let ih = edges-most g v (omega arith) in
     omega (arith, length-below v, length-higher v l, length-append (withHigher v l) (edgesBelow g v))
 
-record-room : (m n u k : ℕ) → u ≤ m → n + 2 ≤ m → k ≡ furtherCount m n → m ≤ maxEdges → (n ≤ 6 → m ≤ 36) → 5 + (u + 2 * (6 + k)) ≤ pathSpace
-record-room m n u k hu hn hk hm small = go (below? n 7)
+record-room : (m n : ℕ) → m ≤ maxEdges → (n ≤ 6 → m ≤ 36) → 3 * m - 2 * n + 13 ≤ pathSpace
+record-room m n h small = go (below? n 7)
   where
-    go : Dec (n < 7) → 5 + (u + 2 * (6 + k)) ≤ pathSpace
-    go (yes h) = omega (arith, small (omega arith))
-    go (no h) = omega arith
+    go : Dec (n < 7) → 3 * m - 2 * n + 13 ≤ pathSpace
+    go (yes k) = omega (arith, small (omega arith))
+    go (no k) = omega arith
 
 -- the four vertices stand in the pairs
 module _ (a b c e p q r s : ℕ) (h : sixPairs a b c e ≡ sixPairs p q r s) where
@@ -117,27 +117,19 @@ module _ (g : Graph) (p : Simple g) (big : g .n ≤ capacity) (few : edgeCount g
     low w (inr (inr (inr (inr (inl h))))) = omega (arith, rules .first .low)
     low w (inr (inr (inr (inr (inr h))))) = omega (arith, number-low w h)
 
+    same : numbers ≡ recordNumbers (build a b c e (take 6 qs) (drop 6 qs))
+    same = ap (λ (l : List Path). 3 ∷ (four a b c e ++ pathNumbers l)) (sym (take-append-drop 6 qs))
+
     room : length numbers ≤ pathSpace
     room =
-        let u : length (usedEdges qs) ≤ edgeCount g = omega (arith, used-newest qs, recorded-most g p (newestFirst qs) val) in
-        let k = record-room (edgeCount g) (g .n) (length (usedEdges qs)) (length (drop 6 qs)) u (rules .enough) (rules .count) few (λ h. omega (arith, edges-most g (g .n) h)) in
-        omega (arith, length-numbers qs, length-flat qs, length-drop 6 qs)
-
-    same : listBytes numberBytes numbers ≡ certificateBytes (build a b c e (take 6 qs) (drop 6 qs))
-    same =
-        bytes-first numberBytes 3 (four a b c e ++ pathNumbers qs)
-        ∙ ap (λ (k : List ℕ). numberBytes 3 ++ k) (bytes-append numberBytes (four a b c e) (pathNumbers qs) ∙ ap (λ (k : List ℕ). listBytes numberBytes (four a b c e) ++ k) paths
-        ∙ sym (append-assoc (listBytes numberBytes (four a b c e)) (listBytes pathBytes (take 6 qs)) (listBytes pathBytes (drop 6 qs))))
-      where
-        paths : listBytes numberBytes (pathNumbers qs) ≡ listBytes pathBytes (take 6 qs) ++ listBytes pathBytes (drop 6 qs)
-        paths = path-bytes qs ∙ ap (λ (l : List Path). listBytes pathBytes l) (sym (take-append-drop 6 qs)) ∙ bytes-append pathBytes (take 6 qs) (drop 6 qs)
+        let count = numbers-count g p (build a b c e (take 6 qs) (drop 6 qs)) rules in
+        omega (arith, ap length same, record-room (edgeCount g) (g .n) few (λ h. omega (arith, edges-most g (g .n) h)))
 
     pub build-written : Written g numbers
     build-written = record {
       certificate = build a b c e (take 6 qs) (drop 6 qs);
       rules = rules;
-      grade = refl;
-      bytes = same;
+      numbers = same;
       few = room;
       short = omega (arith, room, bytes-vertices numbers low);
       small = low-small numbers (λ w h. let k = low w h in omega arith);

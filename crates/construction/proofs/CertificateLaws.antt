@@ -1,5 +1,5 @@
 -- THE CERTIFICATE OF A GRAPH KEEPS EVERY RULE: what the definition gives is the record of a certificate, and fits one.
-use Prim.Native.Nat.{ℕ, _+_, _-_, _≤_, _<_}
+use Prim.Native.Nat.{ℕ, _-_, _≤_, _<_}
 use mathlib.Core.Path.{_≡_, refl, sym, ap, subst, _∙_}
 use mathlib.Core.Bool.{Bool, true, false, cond}
 use mathlib.Core.Logic.{_⊎_, inl, inr, ⊎-elim}
@@ -10,6 +10,8 @@ use borrow.Author.Tests.{lt-ltb, le-ltb}
 use Rattle.vertexset.specs.Set.{has, emptySet, count}
 use Rattle.graph.specs.Limits.{maxEdges}
 use Rattle.certificates.specs.Encoding.{certificateBytes}
+use Rattle.certificates.specs.Lengths.{pathNumbers, pairNumbers, recordNumbers}
+use Rattle.certificates.proofs.Lengths.{numbers-bytes, kind-first}
 use Rattle.connectivity.specs.Lists.{In, Ascending, select, below}
 use Rattle.connectivity.specs.Graph.{Graph, edgeCount}
 use Rattle.connectivity.specs.Path.{Path}
@@ -27,17 +29,17 @@ use Rattle.construction.specs.Certificate.{certificateRoom, lengthened, 
 use Rattle.graph.specs.Rows.{rowsGraph}
 use Rattle.construction.proofs.Basics.{Drawn, IsCut}
 use Rattle.construction.proofs.SetLaws.{sized-empty, empty-on, members-in, members-nodup, members-ascending, members-count, members-same}
-use Rattle.construction.proofs.SpanningTree.{treeOf, pairsOf, pairNumbers, tree-numbers, tree-of, tree-count, tree-cut, tree-numbers-low}
+use Rattle.construction.proofs.SpanningTree.{treeOf, pairsOf, tree-numbers, tree-of, tree-count, tree-cut}
 use Rattle.construction.proofs.Detours.{OneCut, low-capacity}
 use Rattle.construction.proofs.EarLaws.{EarsFound, ears-law}
 use Rattle.construction.proofs.StartLaws.{Started, begin-law}
 use Rattle.construction.proofs.BuildLaws.{Built, build-law}
 use Rattle.construction.proofs.Flat.{newestFirst, built-newest}
 use Rattle.construction.proofs.FinishLaws.{FinishedWith, finish-law}
-use Rattle.construction.proofs.NumberLaws.{pathNumbers, lengthened-paths}
+use Rattle.construction.proofs.NumberLaws.{lengthened-paths}
 use Rattle.construction.proofs.CutRecords.{Written, none-written, one-written, two-written, ear-vertex}
 use Rattle.construction.proofs.BuildRecords.{build-written}
-use Rattle.record.specs.Number.{numberLimit}
+use Rattle.record.specs.Number.{numberBytes, listBytes, numberLimit}
 
 -- numbers alone: omega is slow beside sets
 none-of : (k c : ℕ) → k ≡ c → k ≤ 1 → c < 2
@@ -73,7 +75,7 @@ module _ (rows : List ℕ) (n : ℕ) (d : Drawn rows n) where
 
   -- NOTHING, ONE VERTEX OR TWO REMOVED
   cut-none : (t : Reach) (e : Eared) (c : Cut) → IsCut rows n c → members (c .removed) ≡ [] → Written g (cutNumbers t e c)
-  cut-none t e c i h = cut-as t e c [] h (none-written g (d .low) (members (c .side)) (side-as c i [] h) (members-nodup (c .side)))
+  cut-none t e c i h = cut-as t e c [] h (none-written g (d .simple) (d .low) (members (c .side)) (side-as c i [] h) (members-nodup (c .side)))
 
   abbrev Spans : Type 0
   Spans = empty (minus (fullSet n) (treeOf rows .shut)) ≡ true
@@ -84,9 +86,9 @@ module _ (rows : List ℕ) (n : ℕ) (d : Drawn rows n) where
   cut-one : Spans → (e : Eared) (c : Cut) → IsCut rows n c → (r : ℕ) → members (c .removed) ≡ r ∷ [] → Written g (cutNumbers (treeOf rows) e c)
   cut-one all e c i r h = cut-as (treeOf rows) e c (r ∷ []) h
       (subst (λ (l : List ℕ). Written g (1 ∷ (r ∷ ((0 ∷ l) ++ sideNumbers (c .side))))) (sym same)
-      (one-written g (d .low) r pairs (members (c .side))
+      (one-written g (d .simple) (d .low) r 0 pairs (members (c .side))
       (record { c-low = removed-low c i (r ∷ []) h r (inl refl); first-low = zero-low; count = tree-count rows n d all; tree = tree-of rows n d; separation = side-as c i (r ∷ []) h })
-      (λ w k. tree-numbers-low rows n d w (subst (λ (l : List ℕ). In w (0 ∷ l)) (sym same) k)) (members-nodup (c .side))))
+      (members-nodup (c .side))))
     where
       same : pairsFrom (treeOf rows .order) (treeOf rows .from) (length (treeOf rows .order) - 1) 1 ≡ pairNumbers pairs
       same = tree-numbers (treeOf rows .order) (treeOf rows .from) (length (treeOf rows .order) - 1) 1
@@ -97,7 +99,7 @@ module _ (rows : List ℕ) (n : ℕ) (d : Drawn rows n) where
   cut-two : (c : Cut) → IsCut rows n c → (r q : ℕ) → members (c .removed) ≡ r ∷ (q ∷ []) → EarsFound rows n d → Written g (cutNumbers (treeOf rows) (ears rows (fullSet n)) c)
   cut-two c i r q h k = cut-as (treeOf rows) (ears rows (fullSet n)) c (r ∷ (q ∷ [])) h
       (subst (λ (l : List ℕ). Written g (2 ∷ (r ∷ (q ∷ (l ++ sideNumbers (c .side)))))) (sym same)
-      (two-written g (d .simple) (d .low) (k .o) r q (members (c .side))
+      (two-written g (d .simple) (d .low) r q (k .o .first) (k .o .later) (members (c .side))
       (record { order = order; low = removed-low c i (r ∷ (q ∷ [])) h q (inr (inl refl)); count = k .o .count; first = k .o .cycle; ears = k .o .are-ears; all-in = k .o .all-in; separation = side-as c i (r ∷ (q ∷ [])) h })
       (members-nodup (c .side))))
     where
@@ -108,7 +110,7 @@ module _ (rows : List ℕ) (n : ℕ) (d : Drawn rows n) where
       order = subst (λ (l : List ℕ). Ascending l) h (members-ascending (c .removed)) .0
 
       same : ears rows (fullSet n) .count ∷ lengthened (ears rows (fullSet n) .flat) .0 ≡ length all ∷ pathNumbers all
-      same = (λ j. k .same-count j ∷ (ap (λ (l : List ℕ). lengthened l .0) (k .same-flat) ∙ lengthened-paths all (λ w m. low-capacity n w (d .low) (ear-vertex g (d .simple) (d .low) (k .o) w m))) j)
+      same = (λ j. k .same-count j ∷ (ap (λ (l : List ℕ). lengthened l .0) (k .same-flat) ∙ lengthened-paths all (λ w m. low-capacity n w (d .low) (ear-vertex g (d .simple) (d .low) (k .o .first) (k .o .later) (k .o .cycle) (k .o .are-ears) w m))) j)
 
   -- A CUT BY AT MOST ONE VERTEX
   cut-few : Spans → (e : Eared) (c : Cut) → IsCut rows n c → (R : List ℕ) → members (c .removed) ≡ R → length R ≤ 1 → Written g (cutNumbers (treeOf rows) e c)
@@ -190,6 +192,7 @@ module _ (rows : List ℕ) (n : ℕ) (d : Drawn rows n) where
 pub record Constructed (rows : List ℕ) (n : ℕ) : Type 0 where
   pub certificate : Certificate
   pub rules : Rules (rowsGraph n rows) certificate
+  pub numbers : certificateNumbers rows n ≡ recordNumbers certificate
   pub grade : getD (certificateNumbers rows n) 0 0 ≡ kind certificate
   pub bytes : certificateRecord rows n ≡ certificateBytes certificate
   pub few : length (certificateNumbers rows n) ≤ pathSpace
@@ -197,4 +200,15 @@ pub record Constructed (rows : List ℕ) (n : ℕ) : Type 0 where
   pub small : (i : ℕ) → getD (certificateNumbers rows n) i 0 < numberLimit
 
 pub certified : (rows : List ℕ) (n : ℕ) → Drawn rows n → edgeCount (rowsGraph n rows) ≤ maxEdges → Constructed rows n
-certified rows n d few = let w = all-written rows n d few in record { certificate = w .certificate; rules = w .rules; grade = w .grade; bytes = w .bytes; few = w .few; short = w .short; small = w .small }
+certified rows n d few =
+    let w = all-written rows n d few in
+    record {
+      certificate = w .certificate;
+      rules = w .rules;
+      numbers = w .numbers;
+      grade = ap (λ (l : List ℕ). getD l 0 0) (w .numbers) ∙ kind-first (w .certificate);
+      bytes = ap (listBytes numberBytes) (w .numbers) ∙ sym (numbers-bytes (w .certificate));
+      few = w .few;
+      short = w .short;
+      small = w .small;
+    }

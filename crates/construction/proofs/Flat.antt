@@ -63,11 +63,11 @@ used-record : (ls ps : List Path) → length (usedEdges (recordOf ls ps)) ≡ le
 used-record ls [] = omega arith
 used-record ls (P ∷ ps) = let ih = used-record (P ∷ ls) ps in omega (arith, length-append (pathEdges P) (usedEdges ls), length-append (pathEdges P) (usedEdges ps))
 
-pub used-newest : (ps : List Path) → length (usedEdges (newestFirst ps)) ≡ length (usedEdges ps)
+used-newest : (ps : List Path) → length (usedEdges (newestFirst ps)) ≡ length (usedEdges ps)
 used-newest ps = omega (arith, used-record (take 6 ps) (drop 6 ps), length-append (usedEdges (take 6 ps)) (usedEdges (drop 6 ps)), ap length (used-append (take 6 ps) (drop 6 ps)), ap (λ (k : List Path). length (usedEdges k)) (take-append-drop 6 ps))
 
 -- the length of the list
-pub length-flat : (ps : List Path) → length (flatten ps) ≡ length (usedEdges ps) + 2 * length ps
+length-flat : (ps : List Path) → length (flatten ps) ≡ length (usedEdges ps) + 2 * length ps
 length-flat [] = omega arith
 length-flat (P ∷ ps) = let ih = length-flat ps in omega (arith, length-append (vertices P) (flatten ps), length-append (P .inner) (P .t ∷ []), length-append (pathEdges P) (usedEdges ps), length-path P)
 

@@ -1,16 +1,16 @@
 -- THE NUMBERS OF PATHS: each path is its length and its vertices; and how many bytes numbers take.
 use Prim.Native.Nat.{ℕ, zero, suc, _+_, _*_, _≤_, _<_}
-use mathlib.Core.Path.{_≡_, refl, sym, ap, _∙_}
+use mathlib.Core.Path.{_≡_, refl, ap, _∙_}
 use mathlib.Core.Bool.{Bool, true, false, cond}
 use mathlib.Core.Logic.{_⊎_, inl, inr, ⊎-elim, ⊎-map}
-use mathlib.Core.List.{List, [], _∷_, _++_, append-assoc}
+use mathlib.Core.List.{List, [], _∷_, _++_}
 use native.Mathlib.Omega.{arith}
 use lib.ListN.{length, getD, length-append}
 use lib.Dec.{leb}
 use borrow.Author.Tests.{ne-eqb, leb-true}
 use Rattle.record.specs.Number.{numberBytes, listBytes}
 use Rattle.record.proofs.Write.{one-byte, few-bytes}
-use Rattle.certificates.specs.Encoding.{sideBytes, pathBytes}
+use Rattle.certificates.specs.Lengths.{pathNumbers}
 use Rattle.connectivity.specs.Lists.{In}
 use Rattle.connectivity.specs.Path.{Path, vertices}
 use Rattle.connectivity.proofs.Lists.{in-left, in-right, in-append}
@@ -19,10 +19,6 @@ use Rattle.construction.specs.Sets.{stop}
 use Rattle.construction.specs.Certificate.{lengthOn, lengthened, vertexBytes}
 use Rattle.construction.proofs.Basics.{flatten}
 use Rattle.vertexset.specs.Set.{capacity}
-
-abbrev pub pathNumbers : List Path → List ℕ
-pathNumbers [] = []
-pathNumbers (P ∷ ps) = length (vertices P) ∷ (vertices P ++ pathNumbers ps)
 
 -- vertices stay, and are counted
 on-vertex : (v : ℕ) (r : List ℕ × ℕ) → v < capacity → lengthOn v r ≡ (v ∷ r .0, r .1 + 1)
@@ -49,41 +45,13 @@ flat-numbers (P ∷ ps) low =
 pub lengthened-paths : (ps : List Path) → ((w : ℕ) → In w (builtVertices ps) → w < capacity) → lengthened (flatten ps) .0 ≡ pathNumbers ps
 lengthened-paths ps low = flat-numbers ps low .0
 
-pub length-numbers : (ps : List Path) → length (pathNumbers ps) ≡ length (flatten ps)
-length-numbers [] = refl
-length-numbers (P ∷ ps) = let ih = length-numbers ps in omega (arith, length-append (vertices P) (pathNumbers ps), length-append (vertices P) (flatten ps))
-
 -- a number of paths is a vertex or a length
 pub path-number : (ps : List Path) (w : ℕ) → In w (pathNumbers ps) → In w (builtVertices ps) ⊎ ((P : Path) × In P ps × (w ≡ length (vertices P)))
 path-number [] w h = absurd h
 path-number (P ∷ ps) w (inl e) = inr (P, inl refl, e)
 path-number (P ∷ ps) w (inr h) = ⊎-elim (λ k. inl (in-left w (vertices P) (builtVertices ps) k)) (λ k. ⊎-map (in-right w (vertices P) (builtVertices ps)) (λ r. (r .0, inr (r .1), r .2)) (path-number ps w k)) (in-append w (vertices P) (pathNumbers ps) h)
 
--- THE BYTES
-pub bytes-append : {A : Type 0} (f : A → List ℕ) (l m : List A) → listBytes f (l ++ m) ≡ listBytes f l ++ listBytes f m
-unfolding listBytes
-bytes-append f [] m = refl
-bytes-append f (a ∷ l) m = ap (λ (k : List ℕ). f a ++ k) (bytes-append f l m) ∙ sym (append-assoc (f a) (listBytes f l) (listBytes f m))
-
-pub bytes-first : {A : Type 0} (f : A → List ℕ) (a : A) (l : List A) → listBytes f (a ∷ l) ≡ f a ++ listBytes f l
-unfolding listBytes
-bytes-first f a l = refl
-
-pub bytes-none : {A : Type 0} (f : A → List ℕ) → listBytes f [] ≡ []
-unfolding listBytes
-bytes-none f = refl
-
-pub side-bytes : (l : List ℕ) → listBytes numberBytes (length l ∷ l) ≡ sideBytes l
-side-bytes l = bytes-first numberBytes (length l) l
-
-pub path-bytes : (ps : List Path) → listBytes numberBytes (pathNumbers ps) ≡ listBytes pathBytes ps
-unfolding listBytes
-path-bytes [] = refl
-path-bytes (P ∷ ps) =
-    ap (λ (k : List ℕ). numberBytes (length (vertices P)) ++ k) (bytes-append numberBytes (vertices P) (pathNumbers ps) ∙ ap (λ (k : List ℕ). listBytes numberBytes (vertices P) ++ k) (path-bytes ps))
-    ∙ sym (append-assoc (numberBytes (length (vertices P))) (listBytes numberBytes (vertices P)) (listBytes pathBytes ps))
-
--- at most two bytes a number; one where it is below 128
+-- THE BYTES: at most two a number; one where it is below 128
 pub bytes-twice : (l : List ℕ) → length (listBytes numberBytes l) ≤ 2 * length l
 unfolding listBytes
 bytes-twice [] = omega arith

@@ -2,16 +2,15 @@
 use Prim.Native.Nat.{ℕ, zero, suc, _+_, _-_, _≤_, _<_}
 use mathlib.Core.Path.{_≡_, refl, sym, ap, subst, _∙_}
 use mathlib.Core.Bool.{true, false, not}
-use mathlib.Core.Logic.{_⊎_, inl, inr, ⊎-elim}
-use mathlib.Core.List.{List, [], _∷_, _++_, append-assoc}
+use mathlib.Core.Logic.{inl, inr, ⊎-elim}
+use mathlib.Core.List.{List, [], _∷_}
 use native.Mathlib.Omega.{arith}
 use native.Mathlib.Decide.{ℕ-discrete}
 use lib.Count.{ones}
 use lib.ListN.{length, getD}
-use Rattle.record.specs.Number.{numberBytes, listBytes}
 use Rattle.vertexset.specs.Set.{has, emptySet, count}
 use Rattle.graph.specs.Rows.{adjacentIn, rowsGraph}
-use Rattle.certificates.specs.Encoding.{pairBytes}
+use Rattle.certificates.specs.Lengths.{pairNumbers}
 use Rattle.connectivity.specs.Lists.{In, NoDup, below}
 use Rattle.connectivity.specs.Graph.{Graph, Adj, Simple}
 use Rattle.connectivity.specs.Certificate.{Tree}
@@ -20,7 +19,7 @@ use Rattle.connectivity.proofs.Progress.{Separated}
 use Rattle.construction.specs.Sets.{single, members, minus, empty}
 use Rattle.construction.specs.Search.{Reach, explore}
 use Rattle.construction.specs.Ears.{cut}
-use Rattle.construction.specs.Certificate.{pairsFrom, treeNumbers, fullSet}
+use Rattle.construction.specs.Certificate.{pairsFrom, fullSet}
 use Rattle.construction.proofs.Basics.{Drawn, Sized, On, IsCut, Asked}
 use Rattle.construction.proofs.SetLaws.{sized-empty, sized-single, sized-minus, sized-all, empty-on, single-on, on-single, on-full, full-on, on-minus, minus-on, members-in, members-count, empty-none, empty-some, not-empty}
 use Rattle.construction.proofs.Places.{place-in, in-place, same-place}
@@ -29,14 +28,10 @@ use Rattle.construction.proofs.Visits.{Visited, Ended, visited, one-see
 abbrev pub treeOf : List ℕ → Reach
 treeOf rows = explore rows (single 0) emptySet emptySet
 
--- the pairs of a tree, as pairs; and their numbers
+-- the pairs of a tree, as pairs
 abbrev pub pairsOf : List ℕ → List ℕ → ℕ → ℕ → List (ℕ × ℕ)
 pairsOf order from zero i = []
 pairsOf order from (suc k) i = (getD order i 0, getD order (getD from i 0) 0) ∷ pairsOf order from k (i + 1)
-
-abbrev pub pairNumbers : List (ℕ × ℕ) → List ℕ
-pairNumbers [] = []
-pairNumbers (e ∷ ps) = e .0 ∷ (e .1 ∷ pairNumbers ps)
 
 pub tree-numbers : (order from : List ℕ) (k i : ℕ) → pairsFrom order from k i ≡ pairNumbers (pairsOf order from k i)
 unfolding pairsFrom
@@ -47,13 +42,6 @@ tree-numbers order from (suc k) i =
 pub length-pairs : (order from : List ℕ) (k i : ℕ) → length (pairsOf order from k i) ≡ k
 length-pairs order from zero i = refl
 length-pairs order from (suc k) i = ap suc (length-pairs order from k (i + 1))
-
--- the bytes of the pairs are those of their numbers
-pub pair-bytes : (ps : List (ℕ × ℕ)) → listBytes numberBytes (pairNumbers ps) ≡ listBytes pairBytes ps
-unfolding listBytes
-pair-bytes [] = refl
-pair-bytes (e ∷ ps) =
-    ap (λ (r : List ℕ). numberBytes (e .0) ++ (numberBytes (e .1) ++ r)) (pair-bytes ps) ∙ sym (append-assoc (numberBytes (e .0)) (numberBytes (e .1)) (listBytes pairBytes ps))
 
 no-count : count (emptySet .words) ≡ 0
 unfolding count ones
@@ -88,13 +76,6 @@ module _ (g : Graph) (p : Simple g) (order from : List ℕ) (nd : NoDup order)
           go (yes r) = inl (ap (λ (x : ℕ). getD order x 0) r)
           go (no r) = inr (h j (omega arith))
 
-  -- every number of the pairs stands in the order
-  numbers-in : (k i : ℕ) → i + k ≡ length order → 1 ≤ i → (w : ℕ) → In w (pairNumbers (pairsOf order from k i)) → In w order
-  numbers-in zero i e l w m = absurd m
-  numbers-in (suc k) i e l w (inl q) = rw q (place-in order i (omega arith))
-  numbers-in (suc k) i e l w (inr (inl q)) = rw q (place-in order (getD from i 0) (omega (arith, edge i l (omega arith) .0)))
-  numbers-in (suc k) i e l w (inr (inr m)) = numbers-in k (i + 1) (omega arith) (omega arith) w m
-
 module _ (rows : List ℕ) (n : ℕ) (d : Drawn rows n) where
   asked : Asked n (single 0) emptySet emptySet
   asked = record {
@@ -119,9 +100,6 @@ module _ (rows : List ℕ) (n : ℕ) (d : Drawn rows n) where
   first : getD (treeOf rows .order) 0 0 ≡ 0
   first = seed-first rows n (single 0) emptySet emptySet _ _ _ _ _ v 0 (on-single 0 (omega arith)) (single-on 0)
 
-  pub tree-low : (w : ℕ) → In w (treeOf rows .order) → w < n
-  tree-low = v .low
-
   edge : (i : ℕ) → 1 ≤ i → i < length (treeOf rows .order)
       → (getD (treeOf rows .from) i 0 < i) × Adj (rowsGraph n rows) (getD (treeOf rows .order) (getD (treeOf rows .from) i 0) 0) (getD (treeOf rows .order) i 0)
   edge i l m = let r = v .reached i (omega (arith, one)) m in (r .earlier, r .edge)
@@ -139,12 +117,6 @@ module _ (rows : List ℕ) (n : ℕ) (d : Drawn rows n) where
       named : (j : ℕ) → j < 1 → In (getD (treeOf rows .order) j 0) (0 ∷ [])
       named zero l = inl first
       named (suc j) l = absurd (omega arith)
-
-  -- every number of the tree in the record is below n
-  pub tree-numbers-low : (w : ℕ) → In w (treeNumbers (treeOf rows)) → w < n
-  tree-numbers-low w (inl e) = omega (arith, d .simple .big)
-  tree-numbers-low w (inr m) = v .low w (numbers-in (rowsGraph n rows) (d .simple) (treeOf rows .order) (treeOf rows .from) (v .nodup) edge (length (treeOf rows .order) - 1) 1 some (omega arith) w
-      (subst (λ (l : List ℕ). In w l) (tree-numbers (treeOf rows .order) (treeOf rows .from) (length (treeOf rows .order) - 1) 1) m))
 
   shut-order : (w : ℕ) → On (treeOf rows .shut) w → In w (treeOf rows .order)
   shut-order w o = ⊎-elim (λ m. m) (λ m. absurd (empty-on w m)) (v .shut-in w o)

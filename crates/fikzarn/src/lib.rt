@@ -3,7 +3,7 @@ ghost use mathlib.Core.Path.{_≡_};
 ghost use Rattle.graph.specs.Limits.{minVertices, maxVertices, maxEdges};
 ghost use Rattle.reading.specs.Code.{wholePlan};
 ghost use Rattle.checker.specs.Check.{checkOf};
-ghost use Rattle.certifier.specs.Made.{madeFrom, filledFrom, roomAsked};
+ghost use Rattle.certifier.specs.Made.{certificateRoom, lengthFrom, madeFrom, filledFrom};
 ghost use Rattle.script.specs.Replay.{answerWord, replayOf};
 ghost use Rattle.fikzarn.specs.Words.{planRewritten, madeWord, replayWord, edition};
 use certifier::Made;
@@ -38,13 +38,10 @@ pub extern "C" fn fikzarn_check(plan: &[u8], certificate: &[u8]) -> u64
     script::answer_word(answer)
 }
 
-// Makes a certificate: at the start of out, every other byte stays; the answer's word, with the certificate's length in the place.
-#[no_mangle]
-pub extern "C" fn fikzarn_certify(plan: &[u8], out: &mut [u8]) -> u64
-    ensures { λ r. ⌜ r ≡ madeWord (madeFrom (now (plan .entry)) (now (out .entry))) ⌝ }
-    ensures { λ r. ⌜ now (out .exit) ≡ filledFrom (now (plan .entry)) (now (out .entry)) ⌝ }
+// What the maker gave as one word: a grade has the certificate's length in the place.
+fn made_word(made: Made) -> u64
+    ensures { λ r. ⌜ r ≡ madeWord made ⌝ }
 {
-    let made = certifier::certify(plan, out);
     let answer = made.answer;
     let length = made.length;
     match answer {
@@ -53,6 +50,25 @@ pub extern "C" fn fikzarn_certify(plan: &[u8], out: &mut [u8]) -> u64
         Answer::PlanFault(_, _) => script::answer_word(answer),
         Answer::CertificateFault(_, _) => script::answer_word(answer),
     }
+}
+
+// Makes a certificate: at the start of out, every other byte stays; the answer's word, with the certificate's length in the place.
+#[no_mangle]
+pub extern "C" fn fikzarn_certify(plan: &[u8], out: &mut [u8]) -> u64
+    ensures { λ r. ⌜ r ≡ madeWord (madeFrom (now (plan .entry)) (now (out .entry))) ⌝ }
+    ensures { λ r. ⌜ now (out .exit) ≡ filledFrom (now (plan .entry)) (now (out .entry)) ⌝ }
+{
+    let made = certifier::certify(plan, out);
+    made_word(made)
+}
+
+// The word that fikzarn_certify answers where the certificate has room.
+#[no_mangle]
+pub extern "C" fn fikzarn_certificate_length(plan: &[u8]) -> u64
+    ensures { λ r. ⌜ r ≡ madeWord (lengthFrom (now (plan .entry))) ⌝ }
+{
+    let made = certifier::certificate_length(plan);
+    made_word(made)
 }
 
 // Replays a session script: the answers' words at the start of out, eight bytes each, the lowest first; every other byte stays.
@@ -71,7 +87,7 @@ pub extern "C" fn fikzarn_session(script: &[u8], out: &mut [u8]) -> u64
 pub extern "C" fn fikzarn_edition() -> u64
     ensures { λ r. ⌜ r ≡ edition ⌝ }
 {
-    1
+    2
 }
 
 #[no_mangle]
@@ -95,10 +111,10 @@ pub extern "C" fn fikzarn_max_cables() -> u64
     GraphTable::MAX_EDGES as u64
 }
 
-// The bytes that a buffer for a certificate must have.
+// The bytes that have room for every certificate.
 #[no_mangle]
 pub extern "C" fn fikzarn_certificate_room() -> u64
-    ensures { λ r. ⌜ r ≡ roomAsked ⌝ }
+    ensures { λ r. ⌜ r ≡ certificateRoom ⌝ }
 {
     Made::ROOM as u64
 }

@@ -1,6 +1,7 @@
 // Numbers of a record, read and written, and the answer that every reader and checker gives.
 ghost use mathlib.Core.Path.{_≡_};
-ghost use Rattle.record.specs.Number.{numberAt, faultNumber, faultPlace};
+ghost use lib.ListN.{length};
+ghost use Rattle.record.specs.Number.{numberAt, faultNumber, faultPlace, numberBytes};
 ghost use Rattle.record.specs.Write.{writtenNumber, withNumber};
 
 // What stands at a place: a number with the place after it, or what is wrong with it and where.
@@ -81,6 +82,16 @@ pub fn fault_place(x: Number) -> usize
         Number::Padded(p) => p,
         Number::Overlong(p) => p,
     }
+}
+
+// How many bytes the form of a number takes; 2 where it has none.
+pub fn number_length(v: u16) -> usize
+    ensures { λ r. ⌜ r ≡ length (numberBytes v) ⌝ }
+{
+    if Number::GROUP <= v {
+        return 2;
+    }
+    1
 }
 
 pub fn write_number(out: &mut [u8], at: usize, v: u16) -> Written

@@ -13,14 +13,12 @@ returns c = let a = c .before .before .before .before .before .before .before .b
 array-share-prefix-certificate : tie.Need-array-share-prefix-certificate
 array-share-prefix-certificate c =
     let s = c .before .before .before .before .before .before .before .before .before in
-    let b : Bytes (s .args .input .now) = λ i. omega (arith, c .before .before .before .before .before .before .before .before .shared-slice-known .given i) in
-    omega (arith, made-counts (s .args .input .now) (c .before .before .before .before .certify .ensures) b)
+    omega (arith, made-counts (s .args .input .now) (c .before .before .before .before .certify .ensures))
 
 slice-aggregate-put-both : tie.Need-slice-aggregate-put-both
 slice-aggregate-put-both c =
     let s = c .before .before .before .before .before .before .before .before .before .before in
-    let b : Bytes (s .args .input .now) = λ i. omega (arith, c .before .before .before .before .before .before .before .before .before .shared-slice-known .given i) in
-    omega (arith, made-counts (s .args .input .now) (c .before .before .before .before .before .certify .ensures) b)
+    omega (arith, made-counts (s .args .input .now) (c .before .before .before .before .before .certify .ensures))
 
 returns-2 : tie.Need-returns-2
 returns-2 c =
