@@ -9,6 +9,7 @@ mod hostile;
 #[path = "../second/reference.rs"]
 mod reference;
 mod table;
+mod timing;
 
 use cases::Case;
 use families::*;
@@ -25,7 +26,7 @@ fn main() {
         None => every_family(),
         Some("climb") => climb::climb(number(words.get(1), SEED), number(words.get(2), climb::STEPS)),
         Some("plan") if words.len() == 2 => one_plan(&words[1]),
-        _ => cases::demand(false, "the arguments are none, climb [SEED] [STEPS], or plan FILE"),
+        _ => timing::demand(false, "the arguments are none, climb [SEED] [STEPS], or plan FILE"),
     }
 }
 

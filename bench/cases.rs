@@ -1,6 +1,6 @@
-// What is timed on a graph: the libraries and the search, with every answer tested; and the clock.
+// What is timed on a graph: the libraries and the search, with every answer tested.
 use crate::reference::*;
-use std::process::exit;
+use crate::timing::*;
 
 type Check = unsafe extern "C" fn(*const u8, usize, *const u8, usize) -> u64;
 type Certify = unsafe extern "C" fn(*const u8, usize, *mut u8, usize) -> u64;
@@ -9,7 +9,6 @@ extern "C" {
     fn fikzarn_check(plan: *const u8, plan_len: usize, cert: *const u8, cert_len: usize) -> u64;
     fn fikzarn_certify(plan: *const u8, plan_len: usize, out: *mut u8, out_len: usize) -> u64;
     fn bench_search(first: *const u32, neighbours: *const u32, n: u32, root: u32, distance: *mut u32) -> u32;
-    fn bench_clock() -> u64;
 }
 
 #[cfg(lengths)]
@@ -137,19 +136,4 @@ impl Case {
             demand(word == due, "the length is the certificate's");
         })
     }
-}
-
-pub fn demand(right: bool, what: &str) {
-    if !right {
-        eprintln!("not so: {what}");
-        exit(1);
-    }
-}
-
-/// Microseconds of one call, over `times` calls.
-fn microseconds(times: u32, mut call: impl FnMut()) -> f64 {
-    let start = unsafe { bench_clock() };
-    (0..times).for_each(|_| call());
-    let end = unsafe { bench_clock() };
-    (end - start) as f64 / 1000.0 / times as f64
 }

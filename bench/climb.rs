@@ -4,6 +4,7 @@ use crate::families::*;
 use crate::generate;
 use crate::reference::*;
 use crate::table;
+use crate::timing::*;
 
 /// Changes that are tried where no number is given: about two minutes.
 pub const STEPS: u64 = 50_000;
@@ -70,7 +71,7 @@ fn starts(random: &mut Random) -> Vec<(String, Plan)> {
 fn rank(climbers: &mut [Climber]) {
     let cases: Vec<&Case> = climbers.iter().map(|climber| &climber.case).collect();
     let ratios = in_searches(&cases, STRETCH_ROUNDS);
-    climbers.iter_mut().zip(ratios).for_each(|(climber, ratios)| climber.searches = table::median(&ratios));
+    climbers.iter_mut().zip(ratios).for_each(|(climber, ratios)| climber.searches = median(&ratios));
     climbers.sort_by(|a, b| b.searches.total_cmp(&a.searches));
 }
 
@@ -113,7 +114,7 @@ impl Climber {
 /// timings, and their median is taken: on a shared machine the search slows down by more than the certifier, for a while and for both.
 fn rise(before: &Case, after: &Case, rounds: usize) -> f64 {
     let ratios = in_searches(&[before, after], rounds);
-    table::median(&table::over(&ratios[1], &ratios[0]))
+    median(&over(&ratios[1], &ratios[0]))
 }
 
 /// Certify's times in searches, those of each case in a list; round after round, all cases in turns.

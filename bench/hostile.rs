@@ -2,6 +2,7 @@
 use crate::cases::*;
 use crate::families::filled;
 use crate::reference::*;
+use crate::timing::demand;
 
 /// The edges that the long link, its openings and the other five links need.
 pub fn least_edges(n: usize) -> usize {

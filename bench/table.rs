@@ -1,6 +1,7 @@
 // The table: a row for the graphs of one family and size, and how a family's times grow.
 use crate::cases::*;
 use crate::reference::*;
+use crate::timing::*;
 
 /// Timings of each function in a row, over all its cases.
 const TIMINGS: usize = 800;
@@ -40,10 +41,6 @@ fn told(lengths: impl Iterator<Item = usize>, times: &[Times]) -> String {
     let new = &times[times.len() - 1].ratios;
     let half = format!("{:.0}-{:.0}", part(new, 1), part(new, 3));
     format!("| {bytes:>5.0}{us}{ratio} {:>9.1} {half:>7}", median(new))
-}
-
-pub fn over(above: &[f64], below: &[f64]) -> Vec<f64> {
-    above.iter().zip(below).map(|(a, b)| a / b).collect()
 }
 
 /// A row: its cases and all their timings, those of each library in a list.
@@ -139,15 +136,4 @@ fn growths(rows: &[Row]) -> String {
         format!("check {check:.2}, certify {certify:.2}{}", if TWO { format!(" ({})", library.name) } else { String::new() })
     });
     each.collect::<Vec<_>>().join("; ")
-}
-
-pub fn median(list: &[f64]) -> f64 {
-    part(list, 2)
-}
-
-/// The value that `quarters` quarters of the list stand below; 2 is the median.
-fn part(list: &[f64], quarters: usize) -> f64 {
-    let mut list = list.to_vec();
-    list.sort_by(f64::total_cmp);
-    list[(list.len() - 1) * quarters / 4]
 }

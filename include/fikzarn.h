@@ -86,8 +86,9 @@ static inline uint64_t fikzarn_answer(const uint8_t *out, size_t i) {
 }
 
 /* Which edition of the records this library reads, and its limits. Since edition 1 a cable of a plan may equal the one before it;
- * since edition 2 a buffer is refused, by 30, only where it is shorter than the certificate. */
-uint64_t fikzarn_edition(void);          /* 2 */
+ * since edition 2 a buffer is refused, by 30, only where it is shorter than the certificate. Edition 3 reads and answers as
+ * edition 2 does. */
+uint64_t fikzarn_edition(void);          /* 3 */
 uint64_t fikzarn_min_boxes(void);        /* 4 */
 uint64_t fikzarn_max_boxes(void);        /* 128 */
 uint64_t fikzarn_max_cables(void);       /* 512, each cable of a double counted */

@@ -49,7 +49,7 @@ static const uint8_t TWICE[] = {4, 2, 0, 1, 0, 1};
 static const uint8_t UNSORTED[] = {4, 2, 0, 2, 0, 1};
 
 static void limits(void) {
-    IS(fikzarn_edition(), 2);
+    IS(fikzarn_edition(), 3);
     IS(fikzarn_min_boxes(), 4);
     IS(fikzarn_max_boxes(), 128);
     IS(fikzarn_max_cables(), 512);

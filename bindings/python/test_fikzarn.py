@@ -33,7 +33,7 @@ def script(plan=FIVE):
 class Calls(unittest.TestCase):
     def test_limits(self):
         limits = [fikzarn.edition(), fikzarn.min_boxes(), fikzarn.max_boxes(), fikzarn.max_cables(), fikzarn.certificate_room()]
-        self.assertEqual(limits, [2, 4, 128, 512, 1536])
+        self.assertEqual(limits, [3, 4, 128, 512, 1536])
 
     def test_check(self):
         self.assertEqual(fikzarn.check(FIVE, FIVE_BUILD), Answer(Case.GRADE, 3, 0))

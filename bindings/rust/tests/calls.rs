@@ -27,7 +27,7 @@ fn script(plan: &[u8]) -> Vec<u8> {
 
 #[test]
 fn limits() {
-    assert_eq!((edition(), min_boxes(), max_boxes(), max_cables()), (2, 4, 128, 512));
+    assert_eq!((edition(), min_boxes(), max_boxes(), max_cables()), (3, 4, 128, 512));
     assert_eq!(certificate_room(), CERTIFICATE_ROOM as u64);
 }
 

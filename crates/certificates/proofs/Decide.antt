@@ -1,6 +1,6 @@
 -- A test decides a proposition: one law for each way of putting tests together.
 use Prim.Native.Nat.{ℕ, zero, suc, _<_, _≤_}
-use mathlib.Core.Path.{_≡_, refl}
+use mathlib.Core.Path.{_≡_, refl, sym}
 use mathlib.Core.Logic.{_⊎_, inl, inr, ⊎-elim, ⊎-map}
 use mathlib.Core.List.{List, [], _∷_}
 use mathlib.Core.Bool.{Bool, true, false, _&&_, _||_, not}
@@ -21,6 +21,12 @@ pub record Decides (b : Bool) (P : Type 0) : Type 0 where
 -- the same in other words
 pub decide-same : {b : Bool} {P Q : Type 0} → Decides b P → (P → Q) → (Q → P) → Decides b Q
 decide-same d f g = record { holds = λ e. f (d .holds e); passes = λ q. d .passes (g q) }
+
+-- two tests that decide the same
+pub same-test : {a b : Bool} {P : Type 0} → Decides a P → Decides b P → a ≡ b
+same-test {a = true} d e = sym (e .passes (d .holds refl))
+same-test {a = false} {b = true} d e = d .passes (e .holds refl)
+same-test {a = false} {b = false} d e = refl
 
 pub decide-test : (b : Bool) → Decides b (b ≡ true)
 decide-test b = record { holds = λ e. e; passes = λ e. e }

@@ -4,6 +4,7 @@ pub mod Demands
 pub mod Demand1
 pub mod Answers
 pub mod Lengths
+pub mod Walks
 pub mod Checking
 pub mod Sessions
 pub mod Replay

@@ -7,4 +7,5 @@ pub mod Exports
 pub mod Printed
 pub mod Demands
 pub mod Lengths
+pub mod Walks
 pub mod Doubles

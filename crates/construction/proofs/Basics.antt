@@ -5,9 +5,8 @@ use mathlib.Core.Logic.{_⊎_}
 use mathlib.Core.Bool.{true, false}
 use mathlib.Core.List.{List, [], _∷_, _++_}
 use lib.ListN.{length}
-use Rattle.vertexset.specs.Set.{has, wordCount, capacity}
+use Rattle.vertexset.specs.Set.{Words, has, wordCount, capacity}
 use Rattle.vertexset.specs.declared.VertexSet.{VertexSet}
-use Rattle.vertexset.proofs.Laws.{Words}
 use Rattle.graph.specs.Rows.{rowWords, rowsGraph}
 use Rattle.connectivity.specs.Graph.{Simple}
 use Rattle.connectivity.specs.Path.{Path, vertices}

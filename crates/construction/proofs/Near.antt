@@ -9,10 +9,10 @@ use lib.Dec.{ltb}
 use lib.ListN.{length, getD}
 use borrow.Author.Tests.{ltb-true}
 use Rattle.record.specs.Read.{folded}
-use Rattle.vertexset.specs.Set.{emptySet, wordCount, capacity}
+use Rattle.vertexset.specs.Set.{Words, emptySet, wordCount, capacity}
 use Rattle.vertexset.specs.declared.VertexSet.{VertexSet}
 use Rattle.vertexset.proofs.Bit.{on, on-zero}
-use Rattle.vertexset.proofs.Laws.{Words, on-union, same-words, wordwise-length}
+use Rattle.vertexset.proofs.Laws.{on-union, same-words, wordwise-length}
 use Rattle.graph.specs.Rows.{rowOf, wordsFrom, adjacentIn}
 use Rattle.graph.proofs.Rows.{length-words}
 use Rattle.connectivity.specs.Lists.{In}

@@ -6,8 +6,7 @@ use native.Mathlib.Omega.{arith}
 use lib.Dec.{lit<}
 use lib.ListN.{length, length-set, length-replicate}
 use Rattle.record.specs.Read.{folded}
-use Rattle.vertexset.specs.Set.{withBit, capacity}
-use Rattle.vertexset.proofs.Laws.{Words}
+use Rattle.vertexset.specs.Set.{Words, withBit, capacity}
 use Rattle.connectivity.specs.Graph.{edgeCount}
 use Rattle.reading.specs.Plan.{Plan, Allowed}
 use Rattle.graph.specs.Limits.{maxEdges}

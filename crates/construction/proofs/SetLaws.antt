@@ -14,10 +14,9 @@ use lib.ListN.{length, getD, set, replicate}
 use lib.Seq.{set-out}
 use borrow.Author.Tests.{eqb-true, eq-eqb, ltb-true, lt-ltb, le-leb}
 use Rattle.record.specs.Read.{folded}
-use Rattle.vertexset.specs.Set.{has, wordCount, emptySet, inserted, zip, less, next, count, capacity}
+use Rattle.vertexset.specs.Set.{Words, has, wordCount, emptySet, inserted, zip, less, next, count, capacity}
 use Rattle.vertexset.specs.declared.VertexSet.{VertexSet}
 use Rattle.vertexset.proofs.Laws as laws
-use Rattle.vertexset.proofs.Laws.{Words}
 use Rattle.graph.specs.Rows.{rowOf, wordsFrom, adjacentIn}
 use Rattle.graph.proofs.Rows.{row-adjacent, length-words}
 use Rattle.connectivity.specs.Lists.{In, NoDup, Ascending, select, upFrom, below}

@@ -10,9 +10,9 @@ use lib.ListN.{length, length-replicate}
 use lib.Seq.{set-out}
 use borrow.Author.Tests.{ltb-true, ltb-false, eqb-true}
 use Rattle.record.specs.Read.{folded}
-use Rattle.vertexset.specs.Set.{has, emptySet, inserted, firstFrom, next, count, capacity}
+use Rattle.vertexset.specs.Set.{Words, has, emptySet, inserted, firstFrom, next, count, capacity}
 use Rattle.vertexset.specs.declared.VertexSet.{VertexSet}
-use Rattle.vertexset.proofs.Laws.{Words, empty-has, inserted-has, has-empty}
+use Rattle.vertexset.proofs.Laws.{empty-has, inserted-has, has-empty}
 use Rattle.graph.specs.Limits.{maxEdges}
 use Rattle.graph.specs.Rows.{adjacentIn, rowOf, rowWords, bareRows, joined, joinedRows}
 use Rattle.graph.proofs.Rows.{row-adjacent}

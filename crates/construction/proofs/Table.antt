@@ -11,8 +11,8 @@ use lib.Pow.{pow-lt}
 use lib.Bits.{or-lt}
 use lib.ListN.{length, length-set, length-replicate}
 use borrow.Author.Tests.{eqb-true, eq-eqb, ltb-true, ltb-false, lt-ltb}
-use Rattle.vertexset.specs.Set.{has, withBit, capacity}
-use Rattle.vertexset.proofs.Laws.{Words, has-empty}
+use Rattle.vertexset.specs.Set.{Words, has, withBit, capacity}
+use Rattle.vertexset.proofs.Laws.{has-empty}
 use Rattle.graph.specs.Rows.{adjacentIn, rowWords, bareRows, joined, joinedRows}
 use Rattle.reading.proofs.Adjacency.{has-both, same-bit}
 use Rattle.connectivity.specs.Lists.{In}

@@ -6,7 +6,7 @@ use mathlib.Core.List.{List, [], _∷_, _++_}
 use lib.Dec.{ltb, eqb}
 use lib.ListN.{length, getD, drop}
 use Rattle.vertexset.specs.declared.VertexSet.{VertexSet}
-use Rattle.vertexset.proofs.Laws.{Words}
+use Rattle.vertexset.specs.Set.{Words}
 use Rattle.reading.specs.Plan.{Plan, Allowed}
 use Rattle.graph.specs.Limits.{maxEdges}
 use Rattle.graph.specs.Rows.{adjacentIn}

@@ -1,5 +1,4 @@
 pub mod Lists
-pub mod NextMember
 pub mod Routes
 pub mod Kept
 pub mod Marks

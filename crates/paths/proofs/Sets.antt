@@ -1,32 +1,31 @@
 -- The vertices of a path as a set, and a test of all vertices. Assumes nothing.
-use Prim.Native.Nat.{ℕ, zero, suc, _*_, _-_, _/_, _%_, _^_, _<_, _≤_}
+use Prim.Native.Nat.{ℕ, _*_, _-_, _/_, _%_, _^_, _<_, _≤_}
 use mathlib.Core.List.{List, [], _∷_}
-use mathlib.Core.Bool.{Bool, true, _&&_, _||_, not, or-false, or-assoc}
+use mathlib.Core.Bool.{Bool, true, false, _||_, not, or-false, or-assoc}
 use mathlib.Core.Path.{_≡_, refl, sym, ap, _∙_}
-use native.Mathlib.Nat.{one-mul}
 use native.Mathlib.Omega.{arith}
 use native.Mathlib.Decide.{ℕ-discrete}
 use lib.ListN.{length, getD}
-use lib.Dec.{eqb, lit<}
+use lib.Dec.{eqb}
 use lib.Bits.{bitOr}
-use lib.Pow.{shl-exact}
+use borrow.Author.Tests.{lt-ltb, ltb-true}
 use lib.Seq.{set-out}
 use Rattle.record.specs.Read.{folded}
 use Rattle.record.proofs.Loops.{All}
-use Rattle.vertexset.specs.Set.{has, emptySet, inserted, wordCount}
+use Rattle.vertexset.specs.Set.{Words, has, emptySet, inserted, belowSet, subsetOf, wordCount, capacity}
 use Rattle.vertexset.specs.declared.VertexSet.{VertexSet}
-use Rattle.vertexset.proofs.Laws.{empty-has, inserted-has, inserted-length}
+use Rattle.vertexset.proofs.Laws.{empty-has, inserted-has, inserted-length, has-past, subset-has, has-subset}
+use Rattle.vertexset.proofs.Below.{below-length, below-small, below-has}
 use Rattle.connectivity.specs.Lists.{member}
+use Rattle.connectivity.proofs.Lists.{clash}
 use Rattle.certificates.specs.Tests.{allBelow}
+use Rattle.certificates.proofs.Decide.{Decides, same-test, decide-same, decide-test, decide-false, decide-all}
 
 -- a set by its words, which the code changes in place
 abbrev pub ofWords : List ℕ → VertexSet
 ofWords ws = record { words = ws }
 
--- the code's bit of a vertex; a vertex past the words changes nothing
-pub bit-of : (v : ℕ) → 1 * 2 ^ (v % 64) % 2 ^ 64 ≡ 2 ^ (v % 64)
-bit-of v = rw (shl-exact {a = 1} 1 (v % 64) 64 (lit< tt) (omega arith), one-mul)
-
+-- a vertex past the words changes nothing
 pub past-same : (ws : List ℕ) (v : ℕ) → length ws ≤ v / 64 → inserted (ofWords ws) v ≡ ofWords ws
 past-same ws v h = ap ofWords (set-out ws (v / 64) (bitOr (getD ws (v / 64) 0) (2 ^ (v % 64))) h)
 
@@ -54,13 +53,19 @@ taken-has B (v ∷ l) x h q =
 pub listed-has : (l : List ℕ) (x : ℕ) → All (λ v. v < 64 * wordCount) l → has (folded inserted emptySet l .words) x ≡ member x l
 listed-has l x q = taken-has emptySet l x refl q ∙ ap (λ (f : ℕ → Bool). f x || member x l) empty-has
 
--- one vertex less to test, and none
-pub all-none : (t : ℕ → Bool) (v : ℕ) → v ≤ 0 → true ≡ allBelow v t
-unfolding allBelow
-all-none t zero h = refl
-all-none t (suc v) h = absurd (omega arith)
+-- ---- every vertex below n is in a set
 
-pub all-step : (t : ℕ → Bool) (v : ℕ) → 0 < v → allBelow v t ≡ (t (v - 1) && allBelow (v - 1) t)
-unfolding allBelow
-all-step t zero h = absurd (omega arith)
-all-step t (suc v) h = let z : suc v - 1 ≡ v = omega arith in rw z
+pub decide-subset : (xs ys : List ℕ) → length xs ≡ length ys → Words xs → Decides (subsetOf xs ys) ((x : ℕ) → x < 64 * length xs → has xs x ≡ true → has ys x ≡ true)
+decide-subset xs ys l w = record { holds = λ e x i m. subset-has xs ys l e x m; passes = has-subset xs ys l w }
+
+pub all-within : (n : ℕ) → n ≤ capacity → (ws : List ℕ) → length ws ≡ wordCount → subsetOf (belowSet n .words) ws ≡ allBelow n (has ws)
+all-within n small ws l = same-test
+    (decide-same (decide-subset (belowSet n .words) ws (below-length n ∙ sym l) (below-small n))
+    (λ f v h. f v (omega (arith, below-length n)) (below-has n small v ∙ lt-ltb v n h))
+    (λ f v i m. f v (ltb-true v n (sym (below-has n small v) ∙ m))))
+    (decide-all (λ v. decide-test (has ws v)) n)
+
+-- no set holds a vertex past its words
+pub all-past : (n : ℕ) → capacity < n → (ws : List ℕ) → length ws ≡ wordCount → false ≡ allBelow n (has ws)
+all-past n h ws l = same-test decide-false
+    (decide-same (decide-all (λ v. decide-test (has ws v)) n) (λ f. clash (f capacity h) (has-past ws capacity (omega arith))) (λ p. absurd p))

@@ -180,14 +180,10 @@ fn read_path(
 pub fn all_below(set: VertexSet, n: u16) -> bool
     ensures { λ r. ⌜ r ≡ allBelow n (has (set .words)) ⌝ }
 {
-    let mut v = n;
-    while 0 < v {
-        v -= 1;
-        if !set.contains(v) {
-            return false;
-        }
+    if VertexSet::CAPACITY < n {
+        return false;
     }
-    true
+    VertexSet::below(n).subset(set)
 }
 
 // A path that may be a link: two vertices or more.

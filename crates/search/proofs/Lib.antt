@@ -7,4 +7,3 @@ pub mod Puts
 pub mod Sizes
 pub mod Spaces
 pub mod Visits
-pub mod Walking

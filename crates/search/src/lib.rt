@@ -58,7 +58,7 @@ pub fn put_all<'a>(items: &'a mut [u16], at: usize, list: &'a [u16]) -> usize
     at + i
 }
 
-// The members of a set, ascending: a step for each of them, and one for each word.
+// The members of a set, ascending.
 pub fn put_members(items: &mut [u16], at: usize, set: VertexSet) -> usize
     ensures { λ r. ⌜ now (items .exit) ≡ placed (now (items .entry)) at (members set) ⌝ }
     ensures { λ r. ⌜ r ≡ placedEnd (now (items .entry)) at (members set) ⌝ }
@@ -70,26 +70,16 @@ pub fn put_members(items: &mut [u16], at: usize, set: VertexSet) -> usize
         return at;
     }
     let mut i = at;
-    // the vertex that the lowest bit of `rest` stands for
-    let mut v: u16 = 0;
-    let mut rest = set.words[0];
-    let mut word = 1;
-    loop {
-        if rest != 0 {
-            let t = u64::trailing_zeros(rest) as u16;
-            items[i] = v + t;
+    let mut walk = set.walk_from(0);
+    while walk.going() {
+        let here = walk;
+        walk = here.step(set);
+        if here.meets() {
+            items[i] = here.member();
             i += 1;
-            v += t + 1;
-            rest = (rest >> t) >> 1;
-            continue;
         }
-        if word == VertexSet::WORDS {
-            return i;
-        }
-        v = 64 * word as u16;
-        rest = set.words[word];
-        word += 1;
     }
+    i
 }
 
 // One number, some times.

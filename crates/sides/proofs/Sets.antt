@@ -2,30 +2,24 @@
 use Prim.Native.Nat.{ℕ, zero, suc, _+_, _*_, _<_, _≤_}
 use mathlib.Core.List.{List, [], _∷_}
 use mathlib.Core.Bool.{Bool, true, false, cond, _&&_, _||_, not, false≢true, and-assoc}
-use mathlib.Core.Logic.{_⊎_, inl, inr, ⊎-elim}
-use mathlib.Core.Path.{_≡_, refl, sym, ap, fun-ext, _∙_}
+use mathlib.Core.Path.{_≡_, refl, sym, ap, _∙_}
 use native.Mathlib.Nat.{add-zero}
 use native.Mathlib.Omega.{arith}
 use native.Mathlib.Decide.{ℕ-discrete}
-use lib.Dec.{ltb, eqb}
+use lib.Dec.{ltb}
 use lib.ListN.{length}
-use borrow.Author.Tests.{lt-ltb, le-ltb, ltb-true, ne-eqb}
+use borrow.Author.Tests.{lt-ltb, ltb-true, ne-eqb}
 use Rattle.record.proofs.Loops.{All}
-use Rattle.vertexset.specs.Set.{has, emptySet, inserted, belowSet, wordCount, wordwise, less, count, capacity}
+use Rattle.vertexset.specs.Set.{Words, has, emptySet, inserted, belowSet, wordCount, wordwise, less, count, capacity}
 use Rattle.vertexset.specs.declared.VertexSet.{VertexSet}
-use Rattle.vertexset.proofs.Laws.{Words, has-minus, empty-has, inserted-has, inserted-length, wordwise-length, count-tally}
+use Rattle.vertexset.proofs.Laws.{has-minus, empty-has, inserted-has, inserted-length, wordwise-length, count-tally}
+use Rattle.vertexset.proofs.Below.{below-length, below-has}
 use Rattle.connectivity.specs.Lists.{member}
 use Rattle.connectivity.proofs.Lists.{and-true}
 use Rattle.certificates.specs.Tests.{nobody, with, someBelow, rest}
-use Rattle.certificates.proofs.Decide.{Decides, decide-same, decide-test, decide-or, decide-equal, decide-less, decide-some}
+use Rattle.certificates.proofs.Decide.{Decides, same-test, decide-same, decide-test, decide-some}
 use Rattle.sides.specs.Code.{RestOf, Low}
 use Rattle.vertexset.proofs.Bit.{tally}
-
--- two tests that decide the same
-pub same-test : {a b : Bool} {P : Type 0} → Decides a P → Decides b P → a ≡ b
-same-test {a = true} d e = sym (e .passes (d .holds refl))
-same-test {a = false} {b = true} d e = d .passes (e .holds refl)
-same-test {a = false} {b = false} d e = refl
 
 pub member-all : (Q : ℕ → Type 0) (l : List ℕ) → All Q l → (x : ℕ) → member x l ≡ true → Q x
 unfolding All
@@ -46,27 +40,6 @@ module _ (set : VertexSet) {after : VertexSet} (l : length (set .words) ≡ word
 
 pub one-has : {set after : VertexSet} {v : ℕ} → set ≡ emptySet → after ≡ inserted set v → v < 64 * wordCount → has (after .words) ≡ with nobody v
 one-has {v = v} e f h = more-has emptySet refl (f ∙ ap (λ (s : VertexSet). inserted s v) e) h ∙ ap (λ (p : ℕ → Bool). with p v) empty-has
-
--- ---- the vertices below n
-
-all-length : (n : ℕ) → length (belowSet n .words) ≡ wordCount
-unfolding belowSet
-all-length zero = refl
-all-length (suc n) = inserted-length (belowSet n) n (all-length n)
-
-below-more : (x n : ℕ) → ltb x n || eqb x n ≡ ltb x (suc n)
-below-more x n = same-test (decide-same (decide-or (decide-less x n) (decide-equal x n)) (⊎-elim (λ h. omega arith) (λ e. omega arith)) last) (decide-less x (suc n))
-  where
-    last : x < suc n → (x < n) ⊎ (x ≡ n)
-    last h = elim (ℕ-discrete x n) [ yes e ↦ inr e | no k ↦ inl (omega arith) ]
-
-all-has : (n : ℕ) → n ≤ capacity → has (belowSet n .words) ≡ (λ x. ltb x n)
-unfolding belowSet
-all-has zero h = empty-has ∙ fun-ext (λ x. sym (le-ltb x 0 (omega arith)))
-all-has (suc n) h =
-    let small : n < 64 * wordCount = omega arith in
-    inserted-has (belowSet n) n (all-length n) small
-    ∙ fun-ext (λ x. ap (λ (p : ℕ → Bool). p x || eqb x n) (all-has n (omega arith)) ∙ below-more x n)
 
 -- ---- a set holds a vertex where its size is not 0
 
@@ -91,9 +64,9 @@ size-some ws w n small low = rw (count-tally ws w) (tally-some (has ws) (64 * le
 pub rest-made : (n : ℕ) → n ≤ capacity → (removed side : VertexSet) → length (removed .words) ≡ wordCount → length (side .words) ≡ wordCount
     → RestOf n (removed .words) (side .words) (wordwise less (wordwise less (belowSet n) removed) side .words)
 rest-made n small removed side l m x =
-    let k = wordwise-length less (belowSet n) removed (all-length n) l in
+    let k = wordwise-length less (belowSet n) removed (below-length n) l in
     has-minus _ _ (k ∙ sym m) x
-    ∙ ap (λ b. b && not (has (side .words) x)) (has-minus _ _ (all-length n ∙ sym l) x ∙ ap (λ (p : ℕ → Bool). p x && not (has (removed .words) x)) (all-has n small))
+    ∙ ap (λ b. b && not (has (side .words) x)) (has-minus _ _ (below-length n ∙ sym l) x ∙ ap (λ b. b && not (has (removed .words) x)) (below-has n small x))
     ∙ and-assoc (ltb x n) (not (has (removed .words) x)) (not (has (side .words) x))
 
 module _ (n : ℕ) (removed side left : List ℕ) (r : RestOf n removed side left) where

@@ -76,18 +76,17 @@ fn misses(rows: &[u64; GraphTable::ROW_WORDS], u: u16, rest: VertexSet) -> bool
 fn none_between(rows: &[u64; GraphTable::ROW_WORDS], side: VertexSet, rest: VertexSet) -> bool
     ensures { λ r. ⌜ r ≡ noneBetween (now (rows .entry)) (has (side .words)) (has (rest .words)) ⌝ }
 {
-    let mut from: u16 = 0;
-    loop {
-        let u = side.next_from(from);
-        if VertexSet::CAPACITY <= u {
-            return true;
-        }
-        if misses(rows, u, rest) {
-            from = u + 1;
-        } else {
-            return false;
+    let mut walk = side.walk_from(0);
+    while walk.going() {
+        let here = walk;
+        walk = here.step(side);
+        if here.meets() {
+            if !misses(rows, here.member(), rest) {
+                return false;
+            }
         }
     }
+    true
 }
 
 // The vertices below n that are neither removed nor in the side.

@@ -1,15 +1,16 @@
 -- The edges that no path has, put behind the paths one by one. Assumes nothing.
 use Prim.Native.Nat.{ℕ, suc, _+_, _-_, _≤_, _<_}
-use mathlib.Core.Path.{_≡_, refl, sym, ap, subst, _∙_}
-use mathlib.Core.Bool.{Bool, true, false}
+use mathlib.Core.Path.{_≡_, sym, ap, subst, _∙_}
+use mathlib.Core.Bool.{true, false}
 use mathlib.Core.List.{List, [], _∷_}
 use native.Mathlib.Numerals.{add-one}
 use native.Mathlib.Omega.{arith}
-use lib.Dec.{leb}
 use lib.ListN.{length, take}
-use borrow.Author.Tests.{lt-ltb, le-ltb, leb-true, leb-false}
-use Rattle.vertexset.specs.Set.{wordCount, next, capacity}
+use Rattle.vertexset.specs.Set.{wordCount}
+use Rattle.vertexset.specs.Walk.{walkFrom, going, meets, met, stepped}
 use Rattle.vertexset.specs.declared.VertexSet.{VertexSet}
+use Rattle.vertexset.specs.declared.Cursor.{Cursor}
+use Rattle.vertexset.proofs.Walks.{Walks, ahead, walks-meets, walks-passes, walks-over}
 use Rattle.graph.specs.Rows.{rowOf, bareRows}
 use Rattle.connectivity.specs.Lists.{upFrom}
 use Rattle.construction.specs.Sets.{stop, minus, membersFrom}
@@ -17,31 +18,11 @@ use Rattle.construction.specs.Ears.{addPath}
 use Rattle.construction.specs.Start.{marked}
 use Rattle.construction.specs.Steps.{addEdges, addRows, finish}
 use Rattle.search.specs.Arrays.{placed, placedEnd}
-use Rattle.search.proofs.Members.{after}
+use Rattle.search.proofs.Members.{ahead-members}
 use Rattle.detours.specs.Code.{Kept, FlatShows}
-use Rattle.detours.proofs.NextMember.{after-next, next-past}
 use Rattle.detours.proofs.Filled.{Flat, filled-take, filled-added, flat-shows, shows-flat, kept-flat}
 
 -- ---- the edges from u to the members of a set above it
-
-after-none : (s : VertexSet) (v : ℕ) → capacity ≤ v → after s v ≡ []
-unfolding after
-after-none s v h = rw (le-ltb v capacity h)
-
--- past the capacity there are none to go on with
-onward : (v : ℕ) (s : VertexSet) → length (s .words) ≡ wordCount → membersFrom v s ≡ after s (next (s .words) v)
-onward v s l = go (leb v capacity) refl
-  where
-    go : (b : Bool) → leb v capacity ≡ b → membersFrom v s ≡ after s (next (s .words) v)
-    go true e = after-next v s l (leb-true v capacity e)
-    go false e =
-        let h : capacity < v = leb-false v capacity e in
-        let z : capacity - v ≡ 0 = omega arith in
-        rw z (sym (after-none s (next (s .words) v) (omega (arith, next-past s v l (omega arith)))))
-
-after-here : (s : VertexSet) (v : ℕ) → length (s .words) ≡ wordCount → v < capacity → after s v ≡ v ∷ after s (next (s .words) (v + 1))
-unfolding after
-after-here s v l h = rw (lt-ltb v capacity h) (ap (λ (m : List ℕ). v ∷ m) (onward (v + 1) s l))
 
 -- the paths so far, with the edges that are left, are the whole
 pub record Adding (whole : List ℕ) (u : ℕ) (left items : List ℕ) (len : ℕ) : Type 0 where
@@ -49,33 +30,37 @@ pub record Adding (whole : List ℕ) (u : ℕ) (left items : List ℕ) (len : �
   pub front : Flat items len flat
   pub same : addEdges u left flat ≡ whole
 
-module _ (u : ℕ) (s : VertexSet) (long : length (s .words) ≡ wordCount) where
-  pub edges-start : (items : List ℕ) (from : ℕ) {v : ℕ} → Kept items from → v ≡ next (s .words) (u + 1)
-      → Adding (addEdges u (membersFrom (u + 1) s) (take from items)) u (after s v) items from
-  edges-start items from {v} k e = record {
+module _ (u : ℕ) (s : VertexSet) where
+  pub edges-start : length (s .words) ≡ wordCount → (items : List ℕ) (from : ℕ) {w : Cursor} → Kept items from → w ≡ walkFrom (s .words) (u + 1)
+      → Adding (addEdges u (membersFrom (u + 1) s) (take from items)) u (ahead (s .words) w) items from
+  edges-start long items from k e = record {
     flat = take from items;
     front = kept-flat items from k;
-    same = ap (λ (l : List ℕ). addEdges u l (take from items)) (ap (after s) e ∙ sym (onward (u + 1) s long));
+    same = ap (λ (l : List ℕ). addEdges u l (take from items)) (ahead-members s long (u + 1) e);
   }
 
-  pub edges-fewer : (v : ℕ) {w : ℕ} → v < capacity → w ≡ next (s .words) (v + 1) → length (after s w) < length (after s v)
-  edges-fewer v h e = omega (arith, ap length (after-here s v long h), ap (λ (n : ℕ). length (after s n)) e)
-
-  module _ {whole items : List ℕ} {len : ℕ} (v : ℕ) (a : Adding whole u (after s v) items len) where
-    pub edges-turn : {out : List ℕ} {end w : ℕ} → v < capacity → {edge : List ℕ} → edge ≡ u ∷ (v ∷ []) → out ≡ placed items len (stop ∷ edge)
-        → end ≡ placedEnd items len (stop ∷ edge) → w ≡ next (s .words) (v + 1) → Adding whole u (after s w) out end
+  module _ {whole items : List ℕ} {len : ℕ} {w : Cursor} (o : Walks (s .words) w) (a : Adding whole u (ahead (s .words) w) items len) where
+    pub edges-end : going wordCount w ≡ false → FlatShows items len whole
     unfolding addEdges
-    edges-turn {out} {end} {w} h {edge} q b c e = record {
-      flat = addPath (a .flat) (u ∷ (v ∷ []));
-      front = filled-added (a .front) (stop ∷ (u ∷ (v ∷ []))) (b ∙ ap (λ (l : List ℕ). placed items len (stop ∷ l)) q) (c ∙ ap (λ (l : List ℕ). placedEnd items len (stop ∷ l)) q);
-      same = ap (λ (n : ℕ). addEdges u (after s n) (addPath (a .flat) (u ∷ (v ∷ [])))) e ∙ ap (λ (l : List ℕ). addEdges u l (a .flat)) (sym (after-here s v long h)) ∙ a .same;
-    }
-
-    pub edges-end : capacity ≤ v → FlatShows items len whole
-    unfolding addEdges
-    edges-end h =
-        let e : a .flat ≡ whole = ap (λ (l : List ℕ). addEdges u l (a .flat)) (sym (after-none s v h)) ∙ a .same in
+    edges-end g =
+        let e : a .flat ≡ whole = ap (λ (l : List ℕ). addEdges u l (a .flat)) (sym (walks-over o g)) ∙ a .same in
         subst (λ (l : List ℕ). FlatShows items len l) e (flat-shows (a .front))
+
+    module _ (g : going wordCount w ≡ true) {r : Cursor} (e : r ≡ stepped (s .words) w) where
+      pub edges-passes : meets w ≡ false → Adding whole u (ahead (s .words) r) items len
+      edges-passes m = subst (λ (left : List ℕ). Adding whole u left items len) (walks-passes o g e m) a
+
+      pub edges-turn : meets w ≡ true → {v : ℕ} → v ≡ met w → {edge : List ℕ} → edge ≡ u ∷ (v ∷ []) → {out : List ℕ} → out ≡ placed items len (stop ∷ edge)
+          → {end : ℕ} → end ≡ placedEnd items len (stop ∷ edge) → Adding whole u (ahead (s .words) r) out end
+      unfolding addEdges
+      edges-turn m {v} k {edge} q b c =
+          let f : edge ≡ u ∷ (met w ∷ []) = q ∙ ap (λ (x : ℕ). u ∷ (x ∷ [])) k in
+          record {
+            flat = addPath (a .flat) (u ∷ (met w ∷ []));
+            front =
+                filled-added (a .front) (stop ∷ (u ∷ (met w ∷ []))) (b ∙ ap (λ (l : List ℕ). placed items len (stop ∷ l)) f) (c ∙ ap (λ (l : List ℕ). placedEnd items len (stop ∷ l)) f);
+            same = ap (λ (l : List ℕ). addEdges u l (a .flat)) (sym (walks-meets o g e m)) ∙ a .same;
+          }
 
 -- ---- the edges that no path has, vertex by vertex
 

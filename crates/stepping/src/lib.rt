@@ -516,11 +516,14 @@ fn add_edges(flat: &mut [u16], from: usize, u: u16, set: VertexSet) -> usize
 {
     let mut len = from;
     let mut edge = [u, 0];
-    let mut v = set.next_from(u + 1);
-    while v < VertexSet::CAPACITY {
-        edge[1] = v;
-        len = detours::add_path(flat, len, &edge);
-        v = set.next_from(v + 1);
+    let mut walk = set.walk_from(u + 1);
+    while walk.going() {
+        let here = walk;
+        walk = here.step(set);
+        if here.meets() {
+            edge[1] = here.member();
+            len = detours::add_path(flat, len, &edge);
+        }
     }
     len
 }

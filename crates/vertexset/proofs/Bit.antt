@@ -2,13 +2,13 @@
 use mathlib.Core.Path.{_≡_, refl, sym, _∙_}
 use mathlib.Core.Bool.{Bool, true, false, cond, not, _&&_, _||_, true≢false, false≢true}
 use mathlib.Core.Logic.{_⊎_, inl, inr, ⊎-elim}
-use Prim.Native.Nat.{ℕ, zero, suc, _+_, _/_, _%_, _^_, _<_, _≤_}
-use native.Mathlib.Nat.{mod-lt, zero-div, div-one, add-comm, add-assoc, pow-suc, mul-mod-left}
+use Prim.Native.Nat.{ℕ, zero, suc, _+_, _-_, _*_, _/_, _%_, _^_, _<_, _≤_}
+use native.Mathlib.Nat.{two-pow-succ, mod-lt, one-mul, zero-div, div-one, add-comm, add-assoc, pow-suc, mul-mod-left}
 use native.Mathlib.Numerals.{add-one}
 use native.Mathlib.Omega.{arith}
 use lib.Dec.{eqb, lit<, eqb·zero-suc, eqb·suc-zero, eqb·suc-suc}
-use lib.Pow.{shr-shr, shr-lt, shl-shr}
-use lib.Bits.{bitOr, bitAnd, or-shr, and-shr, xor-shr, or-mod, and-mod, xor-mod}
+use lib.Pow.{shr-shr, shr-lt, shl-shr, shl-exact}
+use lib.Bits.{bitOr, bitAnd, bitXor, or-shr, and-shr, xor-shr, or-mod, and-mod, xor-mod, and-step, xor-step, and-self, xor-zero-r}
 use lib.Count.{ones, ones-step, trailingZeros, under}
 use Rattle.vertexset.specs.Set.{less}
 
@@ -42,6 +42,11 @@ on-less a b k =
     rw (xor-shr, and-shr, xor-mod (a / 2 ^ k) (bitAnd (a / 2 ^ k) (b / 2 ^ k)) 1, and-mod (a / 2 ^ k) (b / 2 ^ k) 1)
     (by-bits (λ p q. eqb (less p q) 1 ≡ (eqb p 1 && not (eqb q 1))) refl refl refl refl (a / 2 ^ k) (b / 2 ^ k))
 
+pub on-xor : (a b k : ℕ) → on (bitXor a b) k ≡ cond (on b k) (not (on a k)) (on a k)
+on-xor a b k =
+    rw (xor-shr, xor-mod (a / 2 ^ k) (b / 2 ^ k) 1)
+    (by-bits (λ p q. eqb (bitXor p q) 1 ≡ cond (eqb q 1) (not (eqb p 1)) (eqb p 1)) refl refl refl refl (a / 2 ^ k) (b / 2 ^ k))
+
 -- bit k + 1 of a number is bit k of its half
 on-half : (w k : ℕ) → on w (suc k) ≡ on (w / 2) k
 on-half w k = rw (← add-one k, add-comm k 1, ← shr-shr w 1 k)
@@ -57,6 +62,10 @@ on-pow zero zero = refl
 on-pow zero (suc k) = rw (on-half 1 k, on-zero k) (sym (eqb·zero-suc k))
 on-pow (suc j) zero = rw (div-one, pow-suc, mul-mod-left (2 ^ j) 2) (sym (eqb·suc-zero j))
 on-pow (suc j) (suc k) = rw (on-half (2 ^ suc j) k, pow-suc, shl-shr (2 ^ j) 1, eqb·suc-suc j k) (on-pow j k)
+
+-- the code's bit of a vertex
+pub bit-of : (v : ℕ) → 1 * 2 ^ (v % 64) % 2 ^ 64 ≡ 2 ^ (v % 64)
+bit-of v = rw (shl-exact {a = 1} 1 (v % 64) 64 (lit< tt) (omega arith), one-mul)
 
 -- numbers below 2 ^ n with the same n bits are equal
 pub same-bits : (n a b : ℕ) → a < 2 ^ n → b < 2 ^ n → ((k : ℕ) → k < n → on a k ≡ on b k) → a ≡ b
@@ -122,3 +131,24 @@ trailing-low zero n w l h z = absurd (z (omega arith))
 trailing-low (suc m) zero w l h z = absurd (omega arith)
 trailing-low (suc m) (suc n) w l h z =
     ⊎-elim (λ e. omega (arith, trailing-low m n (w / 2) (omega arith) (half-lt m w h) (λ y. z (omega arith)))) (λ o. omega arith) (trailing-step n w)
+
+-- without its lowest bit a number shares with the one below it all its bits but that
+pub out-lowest : (n w : ℕ) → ¬ (w ≡ 0) → trailingZeros n w < n → bitAnd w (w - 1) ≡ bitXor w (2 ^ trailingZeros n w)
+out-lowest zero w z h = absurd (omega arith)
+out-lowest (suc n) w z h = ⊎-elim (λ e. even e (out-lowest n (w / 2) (λ y. z (omega (arith, e .0))) (omega (arith, e .1)))) odd (trailing-step n w)
+  where
+    odd : (w % 2 ≡ 1) × (trailingZeros (suc n) w ≡ 0) → bitAnd w (w - 1) ≡ bitXor w (2 ^ trailingZeros (suc n) w)
+    odd o =
+        let half : (w - 1) / 2 ≡ w / 2 = omega arith in
+        let low : (w - 1) % 2 ≡ 0 = omega arith in
+        rw (o .1, and-step w (w - 1), xor-step w 1, half, low, o .0, and-self, xor-zero-r)
+
+    even : (w % 2 ≡ 0) × (trailingZeros (suc n) w ≡ suc (trailingZeros n (w / 2))) → bitAnd (w / 2) (w / 2 - 1) ≡ bitXor (w / 2) (2 ^ trailingZeros n (w / 2))
+        → bitAnd w (w - 1) ≡ bitXor w (2 ^ trailingZeros (suc n) w)
+    even e later =
+        let t = trailingZeros n (w / 2) in
+        let half : (w - 1) / 2 ≡ w / 2 - 1 = omega arith in
+        let low : (w - 1) % 2 ≡ 1 = omega (arith, z) in
+        let half-pow : 2 ^ suc t / 2 ≡ 2 ^ t = omega (arith, two-pow-succ t) in
+        let low-pow : 2 ^ suc t % 2 ≡ 0 = omega (arith, two-pow-succ t) in
+        rw (e .1, and-step w (w - 1), xor-step w (2 ^ suc t), half, low, e .0, half-pow, low-pow, later)

@@ -7,19 +7,15 @@ use Prim.Native.Nat.{ℕ, zero, suc, _+_, _*_, _-_, _/_, _%_, _^_, _<_, _≤_}
 use native.Mathlib.Nat.{two-pow-succ, add-zero, add-suc, add-assoc, zero-div, div-eq-of-lt, mod-eq-of-lt}
 use native.Mathlib.Decide.{ℕ-discrete}
 use native.Mathlib.Omega.{arith}
-use lib.Dec.{eqb, lit<}
+use lib.Dec.{eqb, ltb, lit<}
 use lib.Arith.{digits-div, digits-mod}
 use lib.ListN.{length, getD, set, replicate, length-set, length-replicate, List·getD-eq-default}
 use lib.Seq.{getD-set-same, getD-set-other, ext-getD}
 use lib.Bits.{bitOr, and-le-l, xor-lt}
-use borrow.Author.Tests.{eq-eqb, ne-eqb, eqb-true, not-false}
+use borrow.Author.Tests.{eq-eqb, ne-eqb, eqb-true, ltb-true, ltb-false, not-false}
 use Rattle.vertexset.specs.declared.VertexSet.{VertexSet}
-use Rattle.vertexset.specs.Set.{wordCount, has, emptySet, withBit, inserted, zip, wordwise, less, count, none, subsetOf, firstFrom, next}
+use Rattle.vertexset.specs.Set.{Words, wordCount, has, emptySet, withBit, inserted, zip, wordwise, less, count, none, subsetOf, firstFrom, next}
 use Rattle.vertexset.proofs.Bit.{on, on-or, on-less, on-zero, on-pow, same-bits, tally-same, ones-tally, tally}
-
--- every word has 64 bits
-abbrev pub Words : List ℕ → Type 0
-Words ws = (i : ℕ) → getD ws i 0 < 2 ^ 64
 
 -- ---- members after each operation
 
@@ -217,6 +213,15 @@ first-is p z past (suc n) v h = in-front p z v (firstFrom p z n (suc v)) (p v) r
 
 pub next-is : (ws : List ℕ) (v : ℕ) → Found (has ws) v (next ws v) ⊎ Missing (has ws) (64 * length ws) v (next ws v)
 next-is ws v = first-is (has ws) (64 * length ws) (has-past ws) (64 * length ws - v) v (omega arith)
+
+pub member-low : (ws : List ℕ) (x : ℕ) → has ws x ≡ true → x < 64 * length ws
+member-low ws x m = go (ltb x (64 * length ws)) refl where
+  go : (b : Bool) → ltb x (64 * length ws) ≡ b → x < 64 * length ws
+  go true e = ltb-true x (64 * length ws) e
+  go false e = absurd (false≢true (sym (has-past ws x (ltb-false x (64 * length ws) e)) ∙ m))
+
+pub next-low : (ws : List ℕ) (v : ℕ) → next ws v ≤ 64 * length ws
+next-low ws v = ⊎-elim (λ f. omega (arith, member-low ws (next ws v) (f .member))) (λ m. omega (arith, m .limit)) (next-is ws v)
 
 -- ---- sets, as loops carry them
 

@@ -1,3 +1,5 @@
+pub mod Below
 pub mod Bit
 pub mod Laws
 pub mod Steps
+pub mod Walks

@@ -1,7 +1,7 @@
 -- Vertex sets (sets of boxes) as lists of words, 64 vertices to a word, at any number of words.
 use mathlib.Core.Bool.{Bool, true, cond, _&&_}
 use mathlib.Core.List.{List, [], _∷_}
-use Prim.Native.Nat.{ℕ, zero, suc, _+_, _*_, _-_, _/_, _%_, _^_}
+use Prim.Native.Nat.{ℕ, zero, suc, _+_, _*_, _-_, _/_, _%_, _^_, _<_}
 use lib.ListN.{length, getD, set, replicate}
 use lib.Dec.{eqb}
 use lib.Bits.{bitOr, bitAnd, bitXor}
@@ -15,6 +15,10 @@ wordCount = 2
 -- the vertices below it can be members of a set
 abbrev pub capacity : ℕ
 capacity = 64 * wordCount
+
+-- every word has 64 bits
+abbrev pub Words : List ℕ → Type 0
+Words ws = (i : ℕ) → getD ws i 0 < 2 ^ 64
 
 -- vertex v is a member: bit v % 64 of word v / 64 is 1; no vertex past the words is one
 abbrev pub has : List ℕ → ℕ → Bool
@@ -70,6 +74,10 @@ unfoldable pub firstFrom : (ℕ → Bool) → ℕ → ℕ → ℕ → ℕ
 firstFrom p z zero v = z
 firstFrom p z (suc n) v = cond (p v) v (firstFrom p z n (suc v))
 
--- the least member that is not below v, or 64 times the number of words where there is none
+-- the first number past the words: never a member, it is the answer where there is none (in code `VertexSet::CAPACITY`)
+abbrev pub past : List ℕ → ℕ
+past ws = 64 * length ws
+
+-- the least member that is not below v, or `past` where there is none
 abbrev pub next : List ℕ → ℕ → ℕ
-next ws v = firstFrom (has ws) (64 * length ws) (64 * length ws - v) v
+next ws v = firstFrom (has ws) (past ws) (past ws - v) v

@@ -7,7 +7,8 @@ use lib.ListN.{length, length-set}
 use Rattle.record.specs.Read.{folded}
 use Rattle.vertexset.specs.Set.{wordCount, inserted, capacity}
 use Rattle.paths.specs.Paths.{verticesAt}
-use Rattle.paths.proofs.Sets.{ofWords, bit-of}
+use Rattle.vertexset.proofs.Bit.{bit-of}
+use Rattle.paths.proofs.Sets.{ofWords}
 use Rattle.links.specs.Tables.{pointAlong, lastFrom, matedEnds}
 use Rattle.build.specs.Code.{innerAt}
 use Rattle.build.proofs.Inner.{value-low, innerFrom, inner-vertices, inner-begun, pointed-on, inner-on, pointed-done, inner-done, last-on, last-done, mated-done}

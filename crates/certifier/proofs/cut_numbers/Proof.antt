@@ -4,8 +4,7 @@ use lib.ListN.{length, getD}
 use mir.Val.{Fits}
 use mir.Syntax.{w64}
 use borrow.Author.Needs.{needs}
-use Rattle.vertexset.specs.Set.{wordCount}
-use Rattle.vertexset.proofs.Laws.{Words}
+use Rattle.vertexset.specs.Set.{Words, wordCount}
 use Rattle.construction.specs.Sets.{members}
 use Rattle.search.proofs.Members.{members-size}
 use Rattle.certifier.proofs.Written.{members-short, numbers-room, cut-are}

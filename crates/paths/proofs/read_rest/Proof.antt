@@ -9,11 +9,12 @@ use lib.ListN.{length, length-set}
 use Rattle.record.specs.Loop.{runs}
 use Rattle.record.proofs.Loops.{turn-start, turn-go, turn-stop, turn-done}
 use Rattle.vertexset.specs.Set.{has, wordCount}
+use Rattle.vertexset.proofs.Bit.{bit-of}
 use Rattle.graph.specs.Rows.{adjacentIn}
 use Rattle.paths.specs.Code.{Walked, pathLoop, pathBegun}
 use Rattle.paths.proofs.Told.{value-told, fault-told}
 use Rattle.paths.proofs.Reading.{vertex-low}
-use Rattle.paths.proofs.Sets.{ofWords, bit-of, bit-clear}
+use Rattle.paths.proofs.Sets.{ofWords, bit-clear}
 use Rattle.paths.proofs.read_rest.Statement.{statement}
 use Rattle.paths.proofs.read_rest.Tie as tie
 

@@ -7,10 +7,11 @@ use Rattle.record.specs.Read.{folded}
 use Rattle.record.specs.Loop.{runs}
 use Rattle.record.proofs.Loops.{turn-go, turn-stop, turn-done}
 use Rattle.vertexset.specs.Set.{wordCount, inserted}
+use Rattle.vertexset.proofs.Bit.{bit-of}
 use Rattle.paths.specs.Paths.{verticesAt}
 use Rattle.paths.proofs.Told.{value-told, fault-told}
 use Rattle.paths.proofs.Reading.{setLoop, set-none, set-rest}
-use Rattle.paths.proofs.Sets.{ofWords, bit-of, past-same}
+use Rattle.paths.proofs.Sets.{ofWords, past-same}
 use Rattle.paths.proofs.with_path.Statement.{statement}
 use Rattle.paths.proofs.with_path.Tie as tie
 

@@ -7,8 +7,7 @@ use lib.ListN.{length, getD}
 use mir.Val.{Fits}
 use mir.Syntax.{w64}
 use borrow.Author.Needs.{needs}
-use Rattle.vertexset.specs.Set.{wordCount}
-use Rattle.vertexset.proofs.Laws.{Words}
+use Rattle.vertexset.specs.Set.{Words, wordCount}
 use Rattle.sides.proofs.Sets.{size-some}
 use Rattle.sides.proofs.holds_one.Statement.{statement}
 use Rattle.sides.proofs.holds_one.Tie as tie

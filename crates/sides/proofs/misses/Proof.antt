@@ -4,9 +4,8 @@ use lib.ListN.{length, getD}
 use mir.Val.{Fits}
 use mir.Syntax.{w64}
 use borrow.Author.Needs.{needs}
-use Rattle.vertexset.specs.Set.{wordCount, subsetOf}
+use Rattle.vertexset.specs.Set.{Words, wordCount, subsetOf}
 use Rattle.vertexset.specs.declared.VertexSet.{VertexSet}
-use Rattle.vertexset.proofs.Laws.{Words}
 use Rattle.sides.proofs.Between.{misses-same}
 use Rattle.sides.proofs.misses.Statement.{statement}
 use Rattle.sides.proofs.misses.Tie as tie

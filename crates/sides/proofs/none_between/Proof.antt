@@ -1,51 +1,80 @@
--- `sides::none_between` meets its contract: the vertices of the side before `from` miss the rest. Assumes nothing.
-use mathlib.Core.Path.{_≡_, _∙_, sym}
-use Prim.Native.Nat.{_-_, _*_, _<_, _≤_}
-use native.Mathlib.Omega.{arith}
-use lib.ListN.{length}
+-- `sides::none_between` meets its contract: what the walk has ahead of it misses the rest exactly where all of the side does. Assumes nothing.
+use mathlib.Core.Path.{_≡_, sym, ap, _∙_}
+use lib.ListN.{length, getD}
+use mir.Val.{Fits}
+use mir.Syntax.{w64}
 use borrow.Author.Needs.{needs}
-use Rattle.vertexset.specs.Set.{has, wordCount}
-use Rattle.sides.proofs.Between.{Cleared, walk-on, walk-stop, walk-end}
+use borrow.Author.Tests.{not-true, not-false}
+use Rattle.vertexset.specs.Set.{Words, has, wordCount}
+use Rattle.vertexset.proofs.Walks.{Walks, ahead, left, walks-begin, walks-on, walks-less}
+use Rattle.connectivity.specs.Lists.{all}
+use Rattle.sides.specs.Code.{missesRow, noneBetween}
+use Rattle.sides.proofs.Between.{clear-begin, clear-over, clear-passes, met-all}
 use Rattle.sides.proofs.none_between.Statement.{statement}
 use Rattle.sides.proofs.none_between.Tie as tie
 
 abbrev Inv-loop : tie.InvT-loop
-Inv-loop rows side rest from₀ from = (from ≤ 64 * wordCount) × (Cleared rows (side .words) (has (rest .words)) from)
+Inv-loop rows side rest walk₀ walk =
+    Walks (side .words) walk × (all (missesRow rows (has (rest .words))) (ahead (side .words) walk) ≡ noneBetween rows (has (side .words)) (has (rest .words)))
 
 abbrev μ-loop : tie.MeasureT-loop
-μ-loop rows side rest from₀ from = 64 * wordCount - from
+μ-loop rows side rest walk₀ walk = left (side .words) walk
+
+loop-holds : tie.Need-loop-holds Inv-loop μ-loop
+loop-holds c =
+    let a = c .before .args in
+    let ws = a .side .words in
+    let l : length ws ≡ wordCount = search needs in
+    let f : Words ws = λ i. let f : Fits w64 (getD ws i 0) = search needs in f .fits in
+    (walks-begin ws l f 0 (c .walk-from .ensures), clear-begin (a .rows .now) ws (has (a .rest .words)) l (c .walk-from .ensures))
 
 returns : tie.Need-returns Inv-loop μ-loop
 returns c =
-    let h = c .before .before in
-    let a = h .before .args in
-    let l : length (a .side .words) ≡ wordCount = search needs in
-    walk-end (a .rows .now) (a .side .words) (has (a .rest .words)) l (h .loop .from) (c .before .next-from .ensures) (c .if1 .taken) (h .loop .inv .1)
+    let m = c .before .before .before .before in
+    let s = m .before in
+    let h = s .before .before .before in
+    let a = h .before .before .args in
+    met-all (a .rows .now) (a .side .words) (has (a .rest .words)) (h .loop .inv .0) (h .loop .inv .1) (sym (s .before .before .going .ensures) ∙ s .before .if1 .taken) (s .step .ensures)
+    (sym (m .meets .ensures) ∙ c .before .before .before .if2 .taken)
+    (ap (missesRow (a .rows .now) (has (a .rest .words))) (sym (c .before .before .member .ensures)) ∙ sym (c .before .misses .ensures) ∙ not-true (c .before .misses .result) (c .if3 .taken))
 
 loop-less : tie.Need-loop-less Inv-loop μ-loop
 loop-less c =
-    let h = c .before .before .before .before in
-    let a = h .before .args in
-    let l : length (a .side .words) ≡ wordCount = search needs in
-    let i : c .before .before .before .next-from .result < 64 * wordCount = c .before .before .if1 .left in
-    let w = walk-on (a .rows .now) (a .side .words) (has (a .rest .words)) l (h .loop .from) (c .before .before .before .next-from .ensures) i (sym (c .before .misses .ensures) ∙ c .if2 .taken) (h .loop .inv .1) in
-    omega (arith, w .0)
+    let s = c .before .before .before .before .before in
+    walks-less (s .before .before .before .loop .inv .0) (sym (s .before .before .going .ensures) ∙ s .before .if1 .taken) (s .step .ensures)
 
 loop-again : tie.Need-loop-again Inv-loop μ-loop
 loop-again c =
-    let h = c .before .before .before .before in
-    let a = h .before .args in
-    let l : length (a .side .words) ≡ wordCount = search needs in
-    let i : c .before .before .before .next-from .result < 64 * wordCount = c .before .before .if1 .left in
-    (omega arith, walk-on (a .rows .now) (a .side .words) (has (a .rest .words)) l (h .loop .from) (c .before .before .before .next-from .ensures) i (sym (c .before .misses .ensures) ∙ c .if2 .taken) (h .loop .inv .1) .1)
+    let m = c .before .before .before .before in
+    let s = m .before in
+    let h = s .before .before .before in
+    let a = h .before .before .args in
+    let t = met-all (a .rows .now) (a .side .words) (has (a .rest .words)) (h .loop .inv .0) (h .loop .inv .1) (sym (s .before .before .going .ensures) ∙ s .before .if1 .taken) (s .step .ensures)
+    (sym (m .meets .ensures) ∙ c .before .before .before .if2 .taken)
+    (ap (missesRow (a .rows .now) (has (a .rest .words))) (sym (c .before .before .member .ensures)) ∙ sym (c .before .misses .ensures) ∙ not-false (c .before .misses .result) (c .if3 .left)) in
+    (walks-on (h .loop .inv .0) (s .step .ensures), t)
+
+loop-less-2 : tie.Need-loop-less-2 Inv-loop μ-loop
+loop-less-2 c =
+    let s = c .before .before in
+    walks-less (s .before .before .before .loop .inv .0) (sym (s .before .before .going .ensures) ∙ s .before .if1 .taken) (s .step .ensures)
+
+loop-again-2 : tie.Need-loop-again-2 Inv-loop μ-loop
+loop-again-2 c =
+    let m = c .before in
+    let s = m .before in
+    let h = s .before .before .before in
+    let a = h .before .before .args in
+    let t = clear-passes (a .rows .now) (a .side .words) (has (a .rest .words)) (h .loop .inv .0) (h .loop .inv .1) (sym (s .before .before .going .ensures) ∙ s .before .if1 .taken) (s .step .ensures)
+    (sym (m .meets .ensures) ∙ c .if2 .left) in
+    (walks-on (h .loop .inv .0) (s .step .ensures), t)
 
 returns-2 : tie.Need-returns-2 Inv-loop μ-loop
 returns-2 c =
-    let h = c .before .before .before .before in
-    let a = h .before .args in
-    let l : length (a .side .words) ≡ wordCount = search needs in
-    walk-stop (a .rows .now) (a .side .words) (has (a .rest .words)) l (h .loop .from) (c .before .before .before .next-from .ensures) (c .before .before .if1 .left) (sym (c .before .misses .ensures) ∙ c .if2 .left)
+    let h = c .before .before in
+    let a = h .before .before .args in
+    clear-over (a .rows .now) (a .side .words) (has (a .rest .words)) (h .loop .inv .0) (h .loop .inv .1) (sym (c .before .going .ensures) ∙ c .if1 .left)
 
 pub none-between-spec : {M : Type 1} → statement M
-none-between-spec = tie.close (tie.spec Inv-loop μ-loop
-    (λ c. (omega arith, λ u h. absurd (omega arith))) (λ c κs. search needs) returns (λ c κs. search needs) (λ c. search needs) loop-less loop-again returns-2)
+none-between-spec = tie.close (tie.spec Inv-loop μ-loop (λ c κs. search needs) loop-holds (λ c κs. search needs) (λ c κs. search needs) (λ c κs. search needs)
+    (λ c κs. search needs) (λ c κs. search needs) returns loop-less loop-again loop-less-2 loop-again-2 returns-2)

@@ -6,7 +6,7 @@ use borrow.Author.Needs.{needs}
 use lib.ListN.{length}
 use Rattle.vertexset.specs.Set.{wordCount}
 use Rattle.construction.specs.Ears.{pathSpace}
-use Rattle.detours.proofs.NextMember.{next-low}
+use Rattle.vertexset.proofs.Laws.{next-low}
 use Rattle.detours.proofs.Filled.{filled-none}
 use Rattle.starting.proofs.Links.{link-added, six-sorted, six-start}
 use Rattle.starting.proofs.six_links.Statement.{statement}
@@ -16,19 +16,19 @@ add-next-from : tie.Need-add-next-from
 add-next-from c =
     let a = c .before .before .args in
     let l : length (a .four .words) ≡ wordCount = search needs in
-    omega (arith, next-low (a .four) 0 l, c .next-from .ensures)
+    omega (arith, next-low (a .four .words) 0, c .next-from .ensures)
 
 add-next-from-2 : tie.Need-add-next-from-2
 add-next-from-2 c =
     let a = c .before .before .before .args in
     let l : length (a .four .words) ≡ wordCount = search needs in
-    omega (arith, next-low (a .four) (c .before .next-from .result + 1) l, c .next-from2 .ensures)
+    omega (arith, next-low (a .four .words) (c .before .next-from .result + 1), c .next-from2 .ensures)
 
 add-next-from-3 : tie.Need-add-next-from-3
 add-next-from-3 c =
     let a = c .before .before .before .before .args in
     let l : length (a .four .words) ≡ wordCount = search needs in
-    omega (arith, next-low (a .four) (c .before .next-from2 .result + 1) l, c .next-from3 .ensures)
+    omega (arith, next-low (a .four .words) (c .before .next-from2 .result + 1), c .next-from3 .ensures)
 
 add-link-requires-5 : tie.Need-add-link-requires-5
 add-link-requires-5 c κs = omega (arith, c .before .before .before .before .before .before .before .before .before .before .before .before .before .before .before .before .before .before .before .before .before .before .before .before .before .before .before .before .before .before .before .pre)

@@ -1,36 +1,40 @@
--- `vertexset::VertexSet::below` meets its contract. Assumes nothing.
-use mathlib.Core.Path.{_≡_, _∙_, ap}
-use Prim.Native.Nat.{_-_, _≤_}
+-- `VertexSet::below` meets its contract: the words in front of i are those of the set. Assumes nothing.
+use mathlib.Core.Path.{_≡_, refl, sym, ap, _∙_}
+use Prim.Native.Nat.{_-_, _<_, _≤_}
 use native.Mathlib.Omega.{arith}
 use native.Mathlib.Numerals.{add-one}
+use lib.ListN.{length, take, length-set}
+use lib.Seq.{take-suc, take-suc-set, take-all}
 use borrow.Author.Needs.{needs}
-use Rattle.vertexset.specs.Set.{inserted, belowSet}
-use Rattle.vertexset.specs.declared.VertexSet.{VertexSet}
+use Rattle.vertexset.specs.Set.{wordCount, belowSet}
+use Rattle.vertexset.proofs.Below.{below-length}
 use Rattle.vertexset.proofs.VertexSet.below.Statement.{statement}
 use Rattle.vertexset.proofs.VertexSet.below.Tie as tie
 
 abbrev Inv-loop : tie.InvT-loop
-Inv-loop n set₀ v₀ set v = (v ≤ n) × (set ≡ belowSet v)
+Inv-loop n words₀ i₀ words i = (length words ≡ wordCount) × (take i words ≡ take i (belowSet n .words))
 
 abbrev μ-loop : tie.MeasureT-loop
-μ-loop n set₀ v₀ set v = n - v
-
-loop-holds : tie.Need-loop-holds Inv-loop μ-loop
-unfolding belowSet
-loop-holds c = (omega arith, c .empty .ensures)
+μ-loop n words₀ i₀ words i = wordCount - i
 
 loop-again : tie.Need-loop-again Inv-loop μ-loop
-unfolding belowSet
 loop-again c =
-    let h = c .before .before in
-    (omega arith, c .insert .ensures ∙ rw (add-one (h .loop .v)) (ap (λ (s : VertexSet). inserted s (h .loop .v)) (h .loop .inv .1)))
+    let l = c .before .before .loop in
+    let n = c .before .before .before .args .n in
+    let long = below-length n in
+    let h : l .i < length (l .words) = omega arith in
+    let k : l .i < length (belowSet n .words) = omega arith in
+    (simp length-set (l .inv .0), rw (add-one, take-suc-set, take-suc (belowSet n .words) (l .i) 0, l .inv .1, c .word-below .ensures))
 
 returns : tie.Need-returns Inv-loop μ-loop
 returns c =
-    let h = c .before in
-    let e : h .loop .v ≡ h .before .before .args .n = omega arith in
-    h .loop .inv .1 ∙ rw e
+    let l = c .before .loop in
+    let n = c .before .before .args .n in
+    let long = below-length n in
+    let h : length (l .words) ≤ l .i = omega arith in
+    let k : length (belowSet n .words) ≤ l .i = omega arith in
+    ap (λ ws. record { words = ws }) (sym (take-all (l .i) (l .words) h) ∙ l .inv .1 ∙ take-all (l .i) (belowSet n .words) k)
 
 pub below-spec : {M : Type 1} → statement M
 below-spec = tie.close (tie.spec Inv-loop μ-loop
-    (λ c κs. search needs) loop-holds (λ c κs. search needs) (λ c. search needs) (λ c. search needs) loop-again returns)
+    (λ c. (refl, refl)) (λ c κs. search needs) (λ c. search needs) (λ c. search needs) (λ c. search needs) (λ c. search needs) loop-again returns)

@@ -2,17 +2,16 @@
 use mathlib.Core.Path.{_≡_, refl, _∙_}
 use mathlib.Core.Bool.{Bool, true, false, cond}
 use mathlib.Core.Logic.{_≢_}
-use Prim.Native.Nat.{ℕ, _≤_, _+_, _-_, _/_, _%_}
-use native.Mathlib.Nat.{one-mul}
+use Prim.Native.Nat.{ℕ, _≤_, _+_, _-_, _/_}
 use native.Mathlib.Omega.{arith}
-use lib.Dec.{lit<, ltb}
+use lib.Dec.{ltb}
 use lib.ListN.{length}
-use lib.Pow.{shl-exact}
 use lib.Seq.{set-out}
 use borrow.Author.Needs.{needs}
 use borrow.Author.Tests.{lt-ltb, le-ltb, ltb-true, ltb-false}
 use Rattle.vertexset.specs.Set.{wordCount, inserted}
 use Rattle.vertexset.specs.declared.VertexSet.{VertexSet}
+use Rattle.vertexset.proofs.Bit.{bit-of}
 use Rattle.vertexset.proofs.VertexSet.insert.Statement.{statement}
 use Rattle.vertexset.proofs.VertexSet.insert.Tie as tie
 
@@ -35,7 +34,7 @@ loop-again c =
     let a = c .before .before .before .before .args in
     let e : l .i ≡ a .v / 64 = c .before .if1 .taken in
     let z : l .self ≡ a .t1 = l .inv ∙ rw (le-ltb (a .v / 64) (l .i) (omega arith)) in
-    rw (lt-ltb (a .v / 64) (l .i + 1) (omega arith), z, e, shl-exact {a = 1} 1 (a .v % 64) 64 (lit< tt) (omega arith), one-mul)
+    rw (lt-ltb (a .v / 64) (l .i + 1) (omega arith), z, e, bit-of (a .v))
 
 -- another word does not matter
 other : (k i : ℕ) → i ≢ k → ltb k (i + 1) ≡ ltb k i
