@@ -11,17 +11,19 @@ pub fn first_byte(call: usize, room: usize) -> u8 {
     (call + 4 * room) as u8
 }
 
-/// Which call it was, whether its plan is accepted and has doubles, and the answers that both gave.
+/// Which call it was, whether its plan is accepted and has doubles, the answers that both gave, and those of them to taking back.
 pub struct Compared {
     pub call: usize,
     pub doubles: bool,
     pub answers: Vec<Answer>,
+    pub backs: Vec<Answer>,
 }
 
 /// One call, or how the two differ.
 pub fn compare(input: &[u8]) -> Result<Compared, String> {
     let (&first, bytes) = input.split_first().unwrap_or((&0, &[]));
     let (call, room) = (first as usize % 4, first as usize / 4);
+    let mut backs = Vec::new();
     let (answers, doubles) = match call {
         0 => (vec![plan(bytes, room, first)?], has_doubles(bytes)),
         1 => {
@@ -29,9 +31,9 @@ pub fn compare(input: &[u8]) -> Result<Compared, String> {
             (vec![check(plan, certificate)?], has_doubles(plan))
         }
         2 => (certify(bytes, room, first)?, has_doubles(bytes)),
-        _ => (session(bytes, room, first)?, reference::next_part(&mut &*bytes).is_some_and(has_doubles)),
+        _ => (session(bytes, room, first, &mut backs)?, reference::next_part(&mut &*bytes).is_some_and(has_doubles)),
     };
-    Ok(Compared { call, doubles, answers })
+    Ok(Compared { call, doubles, answers, backs })
 }
 
 /// An accepted plan with each double written once, where it has doubles.
@@ -152,9 +154,9 @@ fn certified(bytes: &[u8], size: usize, fill: u8) -> (Made, Vec<u8>) {
     (made, out)
 }
 
-fn session(bytes: &[u8], room: usize, fill: u8) -> Result<Vec<Answer>, String> {
+fn session(bytes: &[u8], room: usize, fill: u8, backs: &mut Vec<Answer>) -> Result<Vec<Answer>, String> {
     let length = if room < 16 { 8 * room + room % 8 } else { 8 * bytes.len() };
-    let (mut out, (end, expected)) = (vec![fill; length], replay(bytes, length / 8));
+    let (mut out, (end, expected)) = (vec![fill; length], replay(bytes, length / 8, backs));
     let replay = fikzarn::session(bytes, &mut out);
     same("session", (replay.end, replay.answers().map(plain).collect()), (end, expected.clone()))?;
     let behind = 8 * expected.len();
@@ -162,9 +164,13 @@ fn session(bytes: &[u8], room: usize, fill: u8) -> Result<Vec<Answer>, String> {
     Ok(expected)
 }
 
-/// How a script ends where there is room for `room` answers, and the answers.
-fn replay(script: &[u8], room: usize) -> (End, Vec<Answer>) {
-    let (answers, end) = reference::replay(script);
+/// How a script ends where there is room for `room` answers, and the answers; those to taking back once more in `backs`.
+fn replay(script: &[u8], room: usize, backs: &mut Vec<Answer>) -> (End, Vec<Answer>) {
+    let mut made = 1;
+    let (answers, end) = reference::replay_seen(script, |seen| {
+        made += 1;
+        backs.extend((seen.call == b'b' && made <= room).then_some(seen.answer));
+    });
     let end = match end {
         _ if answers.len() > room => End::NoRoom,
         reference::End::Replayed => End::Replayed,

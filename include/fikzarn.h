@@ -26,7 +26,7 @@ enum {
     FIKZARN_ACCEPTED = 0,          /* accepted, without a grade; number and place are 0 */
     FIKZARN_GRADE = 1,             /* accepted; the number is the grade, 0 to 3, and the place 0 unless said below */
     FIKZARN_PLAN_FAULT = 2,        /* the plan is refused: which refusal, and the offset in its bytes */
-    FIKZARN_CERTIFICATE_FAULT = 3  /* the same of the certificate, start or path */
+    FIKZARN_CERTIFICATE_FAULT = 3  /* the same of the certificate, start or path; of the session's other calls, at 0 */
 };
 
 static inline unsigned fikzarn_case(uint64_t word) {
@@ -66,12 +66,14 @@ uint64_t fikzarn_certificate_length(const uint8_t *plan, size_t plan_len);
 enum {
     FIKZARN_REPLAYED = 0,      /* every call was made */
     FIKZARN_CUT = 1,           /* the script ends inside the next call */
-    FIKZARN_UNKNOWN_CALL = 2,  /* the next call is none of 's', 'p', 'c' */
+    FIKZARN_UNKNOWN_CALL = 2,  /* the next call is none of 's', 'p', 'b', 'c' */
     FIKZARN_NO_ROOM = 3        /* the next call is whole, but `out` has no room for its answer */
 };
 
 /* Replays a session script. A script is a plan record, on which the session is opened, and then calls: 's' (start) or 'p' (path) with
- * a part, or 'c' (close). The record and each part have their length before them, two bytes, the lower first.
+ * a part, 'b' (back) or 'c' (close). The record and each part have their length before them, two bytes, the lower first.
+ * 'b' takes the last path back: the session is then as it was before that path, so that others may follow, after a closing too. Its
+ * answer is that of an accepted path, or 31 at 0 where no path is in; the start can't be taken back.
  * `out` begins with one answer for each call that was made, the opening first, eight bytes each, lowest byte first; every byte
  * behind them keeps its value. 8 * script_len bytes always have room.
  * Returns how it ended + 65536 * the number of answers, so that fikzarn_case and fikzarn_place read it. */
@@ -87,8 +89,8 @@ static inline uint64_t fikzarn_answer(const uint8_t *out, size_t i) {
 
 /* Which edition of the records this library reads, and its limits. Since edition 1 a cable of a plan may equal the one before it;
  * since edition 2 a buffer is refused, by 30, only where it is shorter than the certificate. Edition 3 reads and answers as
- * edition 2 does. */
-uint64_t fikzarn_edition(void);          /* 3 */
+ * edition 2 does. Since edition 4 a script may have the call 'b', which was an unknown call before. */
+uint64_t fikzarn_edition(void);          /* 4 */
 uint64_t fikzarn_min_boxes(void);        /* 4 */
 uint64_t fikzarn_max_boxes(void);        /* 128 */
 uint64_t fikzarn_max_cables(void);       /* 512, each cable of a double counted */

@@ -31,12 +31,12 @@ REFUSALS = {
     28: "a box is not in after the last ear, or is no branch box after the last path",
     29: "grade 3 needs at least two cabled pairs more than boxes",
     30: "the buffer is shorter than this plan's certificate",
-    31: "the session does not take this call now",
+    31: "the session does not take this call now, or no path is there to take back",
 }
 
 OTHERS = {
     "script cut short": "the script ends inside a call",
-    "unknown call": "the script has a call that is none of s, p and c",
+    "unknown call": "the script has a call that is none of s, p, b and c",
 }
 
 
@@ -198,7 +198,8 @@ class Replay:
     """A session as its answers tell it."""
 
     def __init__(self):
-        self.plan, self.branch, self.taken = None, None, 0
+        # The paths that are in, by their ends: a branch box is one of the four or one of these.
+        self.plan, self.four, self.ends = None, None, []
 
     def accept(self, call, part):
         """What was accepted, in words."""
@@ -206,11 +207,13 @@ class Replay:
             self.plan = Plan(part)
             return "the session is opened"
         if call == "s":
-            self.branch = set(numbers(part, 0, 4)[0])
+            self.four = numbers(part, 0, 4)[0]
             return "the start is taken in"
+        if call == "b":
+            self.ends.pop()
+            return "the last path is taken back"
         path, _ = counted(part, 0)
-        self.branch.update((path[0], path[-1]))
-        self.taken += 1
+        self.ends.append((path[0], path[-1]))
         return "the path is taken in"
 
     def out_of_turn(self, call):
@@ -219,9 +222,9 @@ class Replay:
             return "it was never opened"
         if call == "s":
             return "it has its start"
-        if self.branch is None:
+        if self.four is None:
             return "it has no start yet"
-        return f"{self.taken} of {self.plan.further_paths} paths are in"
+        return f"{len(self.ends)} of {self.plan.further_paths} paths are in"
 
     def refuse(self, call, part, code, place):
         if call == "open":
@@ -229,7 +232,7 @@ class Replay:
         if code == 31:
             return self.out_of_turn(call)
         if code == 28:
-            return f"no branch box: {self.plan.absent(self.branch)}"
+            return f"no branch box: {self.plan.absent({*self.four, *sum(self.ends, ())})}"
         if 24 <= code <= 27:
             return at_path(code, place, part, self.plan, "path")
         return at_number(code, place, part)
@@ -251,7 +254,7 @@ def calls(script):
     at, call = 0, "open"
     while True:
         part = b""
-        if call != "c":
+        if call not in ("b", "c"):
             end = at + 2 + int.from_bytes(script[at : at + 2], "little")
             part, at = script[at + 2 : end], end
         yield call, part

@@ -1,18 +1,21 @@
 // Compares the library, linked as a C static library, with the second implementation over generated cases.
 //   compare plans COUNT SEED              plan records: the answer, and the record written again
 //   compare certificates COUNT SEED       plans with certificates: the answer, and the length of those that are accepted
-//   compare sessions COUNT SEED PROGRAM   scripts of session calls: the answers, and the lines that the session program prints
+//   compare sessions COUNT SEED PROGRAM   scripts of session calls: the answers, and the lines that the session program prints; half of
+//                                         the scripts are made to take back
 //   compare certify COUNT SEED            certificates that the library makes, for every small plan, COUNT larger ones and COUNT plan
 //                                         records of any kind, in buffers that are shorter, as long and longer
 //   compare doubles COUNT SEED            plans with doubles beside the same plans with each double written once
 //   compare known FILE PROGRAM            known answers, by the library and by the checking program
-// Exit status 1 on any difference, or where a refusal or a grade never occurred, with doubles in the plan or at all.
+// Exit status 1 on any difference, or where a refusal or a grade never occurred, with doubles in the plan or at all, or a kind of
+// taking back.
 #![allow(dead_code)]
 mod certify;
 mod doubles;
 mod generate;
 mod known;
 mod library;
+mod met;
 mod reference;
 
 use generate::{shapes, Generator, Script};
@@ -216,13 +219,14 @@ fn sessions(count: u64, seed: u64, program: &str) -> bool {
     let mut tally = Tally::new(seed);
     let mut generator = Generator::new(seed);
     let mut random = Random::new(!seed);
-    for _ in 0..count {
-        let script = generator.script();
+    let mut met = met::Met::default();
+    for turn in 0..count {
+        let script = if turn % 2 == 0 { generator.script() } else { generator.entered() };
         let bytes = encode_script(&script, &mut random);
         if let Ok(plan) = reference::read_plan(&script.plan) {
             tally.see_shapes(&plan);
         }
-        let (answers, end) = reference::replay(&bytes);
+        let (answers, end) = met.replay(&bytes);
         let expected = lines(&bytes, &answers, end, &script.plan, &mut tally);
         let printed = output(program, &bytes);
         if printed != expected {
@@ -239,7 +243,8 @@ fn sessions(count: u64, seed: u64, program: &str) -> bool {
     let mut due = vec![("accepted", 0), ("grade", 3), (CUT, 0), (UNKNOWN, 0), (TOO_LONG, 0)];
     due.extend((1..8).chain([29]).map(|number| ("plan refused", number)));
     due.extend([1, 2, 9, 20].into_iter().chain(24..29).chain([31]).map(|number| ("certificate refused", number)));
-    tally.close(count, due)
+    let met = met.told();
+    tally.close(count, due) && met
 }
 
 /// Some scripts are cut, some have a call that there is not. Of those that would be too long, most end with the last call that fits.
@@ -248,7 +253,7 @@ fn encode_script(script: &Script, random: &mut Random) -> Vec<u8> {
     let mut bytes = script.encode(most);
     match random.below(40) {
         0 => bytes.truncate(random.below(bytes.len())),
-        1 if bytes.len() + 3 <= MOST_SCRIPT => bytes.extend([*random.pick(b"bxSPC\0"), b'c', b'c']),
+        1 if bytes.len() + 3 <= MOST_SCRIPT => bytes.extend([*random.pick(b"BxSPC\0"), b'c', b'c']),
         _ => {}
     }
     bytes

@@ -7,6 +7,7 @@ use crate::reference::*;
 pub enum Call {
     Start(Vec<u8>),
     Path(Vec<u8>),
+    Back,
     Close,
 }
 
@@ -27,6 +28,7 @@ impl Script {
             let call = match call {
                 Call::Start(part) => [vec![b's'], counted(part)].concat(),
                 Call::Path(part) => [vec![b'p'], counted(part)].concat(),
+                Call::Back => vec![b'b'],
                 Call::Close => vec![b'c'],
             };
             if call.len() > most.saturating_sub(bytes.len()) {
@@ -109,7 +111,7 @@ impl Generator {
         }
     }
 
-    /// An opening and a list of calls: good and damaged parts, wrong order, repeats.
+    /// An opening and a list of calls: good and damaged parts, wrong order, repeats, some paths taken back.
     pub fn script(&mut self) -> Script {
         self.turn();
         let random = &mut self.random;
@@ -122,6 +124,32 @@ impl Generator {
         let record = if random.chance(8) { damaged_plan(&plan, random) } else { encode_plan(&plan) };
         Script { plan: record, calls: calls(&plan, &items, random) }
     }
+
+    /// An opening, and calls among which many paths are taken, taken back, and taken again or others in their stead. One plan in three
+    /// has long links, one in eight may have up to 128 vertices; where there is no certificate of kind 3, it is tried for one.
+    pub fn entered(&mut self) -> Script {
+        self.turn();
+        let random = &mut self.random;
+        let (plan, certificate) = match random.below(24) {
+            0..=7 => long_links(random),
+            8..=10 => {
+                let plan = larger_plan(random.below(20), random);
+                let certificate = certify_with(&plan, random);
+                (plan, certificate)
+            }
+            11 => (self.plan.clone(), build_attempt(&self.plan, random)),
+            _ => (self.plan.clone(), self.certificate.clone()),
+        };
+        let (plan, items) = match certificate {
+            Certificate::Build { .. } if random.chance(10) => altered(&plan, &certificate, random),
+            Certificate::Build { .. } => (plan, certificate.items()),
+            _ => {
+                let items = build_attempt(&plan, random).items();
+                (plan, items)
+            }
+        };
+        Script { plan: encode_plan(&plan), calls: Entry::calls(&plan, &items, random) }
+    }
 }
 
 fn calls(plan: &Plan, items: &[Vec<usize>], random: &mut Random) -> Vec<Call> {
@@ -131,9 +159,10 @@ fn calls(plan: &Plan, items: &[Vec<usize>], random: &mut Random) -> Vec<Call> {
     let part = |from: usize, to: usize| encode_items(&items[from..if trailing { items.len() } else { to.min(items.len()) }]);
     let first = items.len().min(8);
     for _ in 0..random.below(3) {
-        calls.push(match random.below(4) {
+        calls.push(match random.below(5) {
             0 => Call::Path(part(first, first + 1)),
             1 => Call::Close,
+            4 => Call::Back,
             2 => Call::Start(encode_items(&damaged_items(items[1..first].to_vec(), plan, random))),
             _ => Call::Start(damaged_numbers(&items[1..first].concat(), plan.n, random)),
         });
@@ -150,18 +179,278 @@ fn calls(plan: &Plan, items: &[Vec<usize>], random: &mut Random) -> Vec<Call> {
             6 => calls.push(Call::Path(damaged_bytes(part(index, index + 1), random))),
             7 if random.chance(20) => continue,
             8 => calls.push(Call::Path(encode_items(&[random.pick(&items[2..]).clone()]))),
+            9..=11 => {
+                // Some are taken back, and mostly taken again.
+                let from = index.saturating_sub(random.within(1, 4)).max(first);
+                calls.extend((from..index).map(|_| Call::Back));
+                calls.extend((from..index).filter(|_| !random.chance(5)).map(|i| Call::Path(part(i, i + 1))));
+            }
             _ => {}
         }
         calls.push(Call::Path(part(index, index + 1)));
     }
     for _ in 0..random.within(1, 4) {
-        calls.push(match random.below(4) {
+        calls.push(match random.below(6) {
             0 => Call::Path(encode_items(&[random_walk(plan, random)])),
             1 => Call::Start(part(1, first)),
+            2 => Call::Back,
+            3 => Call::Path(part(items.len() - 1, items.len())),
             _ => Call::Close,
         });
     }
     calls
+}
+
+// ---------------------------------------------------------------- scripts that take back
+
+/// Someone who enters paths and takes some of them back. It keeps the build before each path that is in, so it knows what there is to
+/// take back, and which paths would be taken.
+struct Entry<'a> {
+    plan: &'a Plan,
+    neighbours: Vec<Vec<usize>>,
+    start: Vec<u8>,
+    due: usize,
+    build: Build,
+    /// For each path that is in: the build before it, and the path.
+    before: Vec<(Build, Vec<usize>)>,
+    calls: Vec<Call>,
+}
+
+/// A path as a part.
+fn part_of(path: &[usize]) -> Vec<u8> {
+    encode_numbers(&[&[path.len()], path].concat())
+}
+
+impl<'a> Entry<'a> {
+    /// The paths of a certificate in their order, with others and refused calls among them, each now and then taken back. Where it has
+    /// no start that is accepted, there is nothing to take back.
+    fn calls(plan: &'a Plan, items: &[Vec<usize>], random: &mut Random) -> Vec<Call> {
+        let start = encode_items(&items[1..items.len().min(8)]);
+        let begun = plan.further_paths().zip(read_start(plan, &mut Reader::new(&start)).ok());
+        let Some((due, build)) = begun else { return calls(plan, items, random) };
+        let (neighbours, before) = (plan.neighbours(), Vec::new());
+        let mut entry = Entry { plan, neighbours, start, due, build, before, calls: Vec::new() };
+        (0..random.below(3)).for_each(|_| entry.calls.push(random.pick(&[Call::Back, Call::Close]).clone()));
+        entry.calls.push(Call::Start(entry.start.clone()));
+        // On large plans fewer of them, and not always as far as the start, for time.
+        let (often, far) = ((400 / (due + 1)).clamp(3, 40), due < 60 || random.chance(70));
+        for item in &items[8.min(items.len())..] {
+            entry.offer(encode_numbers(item));
+            if random.chance(often) {
+                entry.detour(far, random);
+            }
+        }
+        entry.close(far, random);
+        entry.calls
+    }
+
+    /// One path call; keeps what it does, if it is accepted.
+    fn offer(&mut self, part: Vec<u8>) {
+        let read = read_bg_path(self.plan, &self.build, &mut Reader::new(&part));
+        self.calls.push(Call::Path(part));
+        if let Some(path) = read.ok().filter(|_| self.before.len() < self.due) {
+            self.before.push((self.build.clone(), path.clone()));
+            self.build.take(path);
+        }
+    }
+
+    /// One taking back; the path, where there was one.
+    fn back(&mut self) -> Option<Vec<usize>> {
+        self.calls.push(Call::Back);
+        let (build, path) = self.before.pop()?;
+        self.build = build;
+        Some(path)
+    }
+
+    /// Some paths are taken back, perhaps all and once more; others are tried in their stead; then all is as it was.
+    fn detour(&mut self, far: bool, random: &mut Random) {
+        let deep = match random.below(12) {
+            0 if far => self.before.len() + random.within(1, 2),
+            1..=3 => random.within(3, 12.max(self.before.len() / 3)),
+            4..=6 => 2,
+            _ => 1,
+        };
+        let mut again = Vec::new();
+        for _ in 0..deep {
+            again.extend(self.back());
+            if !again.is_empty() && random.chance(8) {
+                self.refused(&again, random);
+            }
+        }
+        if !again.is_empty() {
+            self.others(&again, random);
+        }
+        for path in again.iter().rev() {
+            self.offer(part_of(path));
+        }
+    }
+
+    /// Paths that are not those of the certificate, and refused ones; then those that were taken are taken back.
+    fn others(&mut self, again: &[Vec<usize>], random: &mut Random) {
+        let kept = self.before.len();
+        if again.len() > 1 && random.chance(40) {
+            self.sooner(&again[0], random);
+        }
+        let mut left = random.below(9);
+        while left > 0 || self.before.len() > kept {
+            match random.below(8) {
+                0..=3 if left > 0 || random.chance(30) => {
+                    let other = self.other(again, random);
+                    self.offer(part_of(&other));
+                }
+                4 if left > 0 => self.offer(part_of(&random.pick(again).clone())),
+                5 if left > 0 => self.refused(again, random),
+                _ if self.before.len() > kept => drop(self.back()),
+                _ => {}
+            }
+            left = left.saturating_sub(1);
+        }
+    }
+
+    /// The last of several paths that were taken back comes first, and then edges at its ends, which are branch vertices by now; the first
+    /// of these has the number in the build that the path had, and is taken back.
+    fn sooner(&mut self, path: &[usize], random: &mut Random) {
+        self.offer(part_of(path));
+        for turn in 0..random.within(2, 4) {
+            let (first, last) = (path[0], path[path.len() - 1]);
+            let edge = match random.chance(50) {
+                true => [first, *random.pick(&self.neighbours[first])],
+                false => [*random.pick(&self.neighbours[last]), last],
+            };
+            let count = self.before.len();
+            self.offer(part_of(&edge));
+            if turn == 0 && self.before.len() > count {
+                self.back();
+            }
+        }
+    }
+
+    /// A path that may be taken: along an edge at a path that was taken back, or at the last one that is in; from inside a long link,
+    /// mostly from next to its end; from anywhere.
+    fn other(&self, again: &[Vec<usize>], random: &mut Random) -> Vec<usize> {
+        let last = self.before.last().map(|(_, path)| path).filter(|_| random.chance(40));
+        let near = last.unwrap_or(random.pick(again));
+        let at = *random.pick(near);
+        let mut edge = vec![at, *random.pick(&self.neighbours[at])];
+        if random.chance(50) {
+            edge.reverse();
+        }
+        let path = match random.below(8) {
+            0..=3 => None,
+            4..=6 => self.from_a_link(random),
+            _ => any_bg_path(&self.neighbours, &self.build, random),
+        };
+        path.unwrap_or(edge)
+    }
+
+    /// A path from inside a long link to a vertex of the build that is not on it, or seldom to one that is; half of the times to one
+    /// inside another link.
+    fn from_a_link(&self, random: &mut Random) -> Option<Vec<usize>> {
+        let long: Vec<&Vec<usize>> = self.build.links.iter().filter(|link| link.len() > 2).collect();
+        if long.is_empty() {
+            return None;
+        }
+        let link = *random.pick(&long);
+        let (inner_ends, same_link) = (random.chance(50), random.chance(15));
+        let from = match random.below(3) {
+            0 => link[1],
+            1 => link[link.len() - 2],
+            _ => *random.pick(inner(link)),
+        };
+        let goes = |v: usize| self.build.inside[v] && v != from && same_link == link.contains(&v);
+        let goal: Vec<bool> = (0..self.plan.n).map(|v| goes(v) && !(inner_ends && self.build.branch[v])).collect();
+        let removed: Vec<bool> = (0..self.plan.n).map(|v| self.build.inside[v] && !goal[v]).collect();
+        search(&self.neighbours, &[from], &goal, &removed, random).ok()
+    }
+
+    /// A call that is refused, or nearly always.
+    fn refused(&mut self, again: &[Vec<usize>], random: &mut Random) {
+        let link = random.pick(&self.build.links).clone();
+        let path = random.pick(again).clone();
+        match random.below(9) {
+            0 => self.calls.push(Call::Start(self.start.clone())),
+            1 => self.calls.push(Call::Close),
+            2 => self.offer(damaged_bytes(part_of(&path), random)),
+            3 => self.offer(damaged_numbers(&[&[path.len()], &path[..]].concat(), self.plan.n, random)),
+            // A link once more, whole or in part.
+            4 => self.offer(part_of(&link)),
+            5 => self.offer(part_of(&link[..random.within(2, link.len())])),
+            6 => self.offer(part_of(&[path, vec![link[0]]].concat())),
+            7 => self.offer(part_of(&path[..path.len() - 1])),
+            _ => self.offer(encode_numbers(&random_walk(self.plan, random))),
+        }
+    }
+
+    /// Closing, and what may follow it: one or all paths taken back, calls out of turn, the same paths again or others.
+    fn close(&mut self, far: bool, random: &mut Random) {
+        for _ in 0..random.within(1, 3) {
+            self.calls.push(Call::Close);
+            let deep = if far && random.chance(35) { self.before.len() + 2 } else { random.within(1, 3) };
+            let again: Vec<Vec<usize>> = (0..deep).filter_map(|_| self.back()).collect();
+            if again.is_empty() {
+                continue;
+            }
+            (0..random.below(3)).for_each(|_| self.refused(&again, random));
+            let other = random.chance(30);
+            for path in again.iter().rev().take(60) {
+                let path = if other { self.other(&again, random) } else { path.clone() };
+                self.offer(part_of(&path));
+            }
+        }
+        self.calls.push(Call::Close);
+    }
+}
+
+/// A plan made around its build: one or two long links in the start, each opened by paths from inside it, some of these long and opened
+/// in their turn; the other edges join any vertices.
+fn long_links(random: &mut Random) -> (Plan, Certificate) {
+    let n = match random.below(8) {
+        0 => random.within(20, 60),
+        1 if random.chance(30) => random.within(61, MOST_VERTICES),
+        2..=4 => random.within(8, 20),
+        _ => random.within(5, 8),
+    };
+    let mut vertices: Vec<usize> = (0..n).collect();
+    random.shuffle(&mut vertices);
+    vertices[..4].sort();
+    let (four, others) = vertices.split_at(4);
+    let (inside, outside) = others.split_at(if random.chance(60) { random.within(1, n - 4) } else { n - 4 });
+    let mut links: Vec<Vec<usize>> = [(0, 1), (0, 2), (0, 3), (1, 2), (1, 3), (2, 3)].map(|(i, j)| vec![four[i], four[j]]).to_vec();
+    let at = random.within(0, inside.len());
+    let (first, second) = (random.below(6), random.below(6));
+    links[first].splice(1..1, inside[at..].iter().copied());
+    links[second].splice(1..1, inside[..at].iter().copied());
+    let paths = openings(four, &links, inside, outside, random);
+    let steps = links.iter().chain(&paths).flat_map(|path| path.windows(2)).map(|pair| (pair[0], pair[1]));
+    let needed = Plan::new(n, steps);
+    let more = random.below((MOST_EDGES - needed.edges.len()).min(n) + 1);
+    let plan = Plan::new(n, needed.edges.iter().copied().chain(random_edges(n, more, random)));
+    let left = plan.edges.iter().filter(|edge| !needed.adjacent(edge.0, edge.1)).map(|&(a, b)| vec![a, b]);
+    let paths = links.into_iter().chain(paths).chain(left).collect();
+    let certificate = Certificate::Build { four: [four[0], four[1], four[2], four[3]], paths };
+    (if random.chance(30) { doubled(&plan, random) } else { plan }, certificate)
+}
+
+/// From each vertex inside a link to one of the four that is not on it, the vertices outside on the way; and from each of these to
+/// another of the four, some time after it has come in.
+fn openings(four: &[usize], links: &[Vec<usize>], inside: &[usize], mut outside: &[usize], random: &mut Random) -> Vec<Vec<usize>> {
+    let mut paths: Vec<(usize, Vec<usize>)> = Vec::new();
+    for (index, &v) in inside.iter().enumerate() {
+        let link = links.iter().find(|link| link.contains(&v)).expect("its link");
+        let apart: Vec<usize> = four.iter().copied().filter(|v| !link.contains(v)).collect();
+        let (turn, to) = (random.below(1000), *random.pick(&apart));
+        // The last takes all that are left.
+        let count = if index + 1 == inside.len() { outside.len() } else { random.below(outside.len() + 1) };
+        let (way, rest) = outside.split_at(count);
+        paths.push((turn, [&[v], way, &[to]].concat()));
+        for &w in way {
+            let others: Vec<usize> = four.iter().copied().filter(|&v| v != to).collect();
+            paths.push((random.within(turn, 1000), vec![w, *random.pick(&others)]));
+        }
+        outside = rest;
+    }
+    paths.sort_by_key(|(turn, _)| *turn);
+    paths.into_iter().map(|(_, path)| path).collect()
 }
 
 // ---------------------------------------------------------------- plans

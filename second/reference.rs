@@ -1,10 +1,10 @@
-// The second implementation: plans, certificates, building sessions and a certifier, written from document 01 and requests 1 and 2
-// of document 02 alone.
+// The second implementation: plans, certificates, building sessions and a certifier, written from document 01 and requests 1, 2 and 4
+// of document 02 alone (request 3 changes no answer).
 // A box is a vertex here, a cable an edge, a lost box a removed vertex, a further path a BG-path.
 // Nothing is tuned: sets are vectors, and each test stands beside the sentence that asks for it.
 
 /// "An answer is a grade, or the record at fault with a number and a place. An accepted opening, start or path has a case of its own,
-/// without a grade."
+/// without a grade." Request 4: accepted, taking back "has the case of an accepted path, and its record at fault is the certificate".
 #[derive(Debug, PartialEq, Eq, Clone, Copy)]
 pub enum Answer {
     Accepted,
@@ -77,13 +77,13 @@ impl Plan {
 // ---------------------------------------------------------------- reading numbers
 
 /// A record and the place of its next byte.
-struct Reader<'a> {
+pub struct Reader<'a> {
     bytes: &'a [u8],
     place: usize,
 }
 
 impl<'a> Reader<'a> {
-    fn new(bytes: &'a [u8]) -> Self {
+    pub fn new(bytes: &'a [u8]) -> Self {
         Reader { bytes, place: 0 }
     }
 
@@ -455,7 +455,7 @@ impl Build {
 
 /// "four ascending branch boxes p, q, r, s; six paths for pq, pr, ps, qr, qs, rs in that order, written from the first to the second,
 /// with L of 2 or more".
-fn read_start(plan: &Plan, reader: &mut Reader) -> Result<Build, Fault> {
+pub fn read_start(plan: &Plan, reader: &mut Reader) -> Result<Build, Fault> {
     let n = plan.n;
     let mut four: Vec<usize> = Vec::new();
     for _ in 0..4 {
@@ -486,7 +486,7 @@ fn start_path_fault(plan: &Plan, build: &Build, path: &[usize], first: usize, se
 }
 
 /// A further path, "read whole, then tested for 24, 25, 26, 27"; the place is "for a path its length's".
-fn read_bg_path(plan: &Plan, build: &Build, reader: &mut Reader) -> Result<Vec<usize>, Fault> {
+pub fn read_bg_path(plan: &Plan, build: &Build, reader: &mut Reader) -> Result<Vec<usize>, Fault> {
     let place = reader.place;
     let path = reader.path(plan.n, 2)?;
     match bg_path_fault(plan, build, &path) {
@@ -513,17 +513,18 @@ fn bg_path_fault(plan: &Plan, build: &Build, path: &[usize]) -> Option<u8> {
 
 // ---------------------------------------------------------------- sessions
 
-/// "A building session carries its plan." Without a plan it was never opened, without a build it was not yet given its start.
+/// "A building session carries its plan." Without a plan it was never opened, without a build it was not yet given its start. The
+/// accepted parts, as far as they were read, are the start and then the paths.
 #[derive(Debug, PartialEq, Eq, Clone)]
 pub struct Session {
-    plan: Option<Plan>,
-    build: Option<Build>,
-    taken: usize,
+    pub plan: Option<Plan>,
+    pub build: Option<Build>,
+    pub parts: Vec<Vec<u8>>,
 }
 
 /// "A refused opening gives a session never opened". 29 is the plan's here, and comes "after all plan faults".
 pub fn open(bytes: &[u8]) -> (Answer, Session) {
-    let never = Session { plan: None, build: None, taken: 0 };
+    let never = Session { plan: None, build: None, parts: Vec::new() };
     match read_plan(bytes) {
         Err((number, place)) => (Answer::PlanFault(number, place), never),
         Ok(plan) if plan.further_paths().is_none() => (Answer::PlanFault(29, 0), never),
@@ -533,41 +534,55 @@ pub fn open(bytes: &[u8]) -> (Answer, Session) {
 
 impl Session {
     /// The number is the count of unread bytes. "On refusal a session, its unread record and a buffer are as before."
-    pub fn start(self, part: &[u8]) -> (Answer, Session, usize) {
+    pub fn start(mut self, part: &[u8]) -> (Answer, Session, usize) {
         // 31: "a second start", or a session never opened. "A session call gives 31 before reading."
         let (Some(plan), None) = (&self.plan, &self.build) else { return self.refuse((31, 0), part) };
         let mut reader = Reader::new(part);
         match read_start(plan, &mut reader) {
             Err(fault) => self.refuse(fault, part),
             Ok(build) => {
-                let unread = part.len() - reader.place;
-                (Answer::Accepted, Session { build: Some(build), ..self }, unread)
+                self.build = Some(build);
+                self.accept(part, reader.place)
             }
         }
     }
 
     pub fn path(mut self, part: &[u8]) -> (Answer, Session, usize) {
         // 31: "a path before the start or after m−n−2 paths".
-        let (Some(plan), Some(build)) = (&self.plan, &mut self.build) else { return self.refuse((31, 0), part) };
-        if plan.further_paths() == Some(self.taken) {
-            return self.refuse((31, 0), part);
-        }
+        let all_in = self.all_in();
+        let (Some(plan), Some(build), false) = (&self.plan, &mut self.build, all_in) else { return self.refuse((31, 0), part) };
         let mut reader = Reader::new(part);
         match read_bg_path(plan, build, &mut reader) {
             Err(fault) => self.refuse(fault, part),
             Ok(path) => {
                 build.take(path);
-                self.taken += 1;
-                (Answer::Accepted, self, part.len() - reader.place)
+                self.accept(part, reader.place)
             }
         }
     }
 
+    /// Request 4: "After taking back, the session equals the one before that path". So it is built once more from the opening, without
+    /// the last part.
+    pub fn back(mut self) -> (Answer, Session) {
+        // 31: "at place 0 when no path is there to take back". "The start itself can't be taken back."
+        if self.parts.len() < 2 {
+            return (Answer::CertificateFault(31, 0), self);
+        }
+        self.parts.pop();
+        let mut before = Session { plan: self.plan, build: None, parts: Vec::new() };
+        for (index, part) in self.parts.iter().enumerate() {
+            let answer;
+            (answer, before, _) = if index == 0 { before.start(part) } else { before.path(part) };
+            assert_eq!(answer, Answer::Accepted);
+        }
+        (Answer::Accepted, before)
+    }
+
     /// "Closing hands back grade 3 and the session unaltered."
     pub fn close(self) -> (Answer, Session) {
-        let answer = match (&self.plan, &self.build) {
+        let answer = match &self.build {
             // 31: "closing before the start and all m−n−2 paths are in".
-            (Some(plan), Some(build)) if plan.further_paths() == Some(self.taken) => {
+            Some(build) if self.all_in() => {
                 // 28: a box that is no branch box; "0 at closing".
                 if build.complete() {
                     Answer::Grade(3)
@@ -580,6 +595,17 @@ impl Session {
         (answer, self)
     }
 
+    /// Whether the start and m−n−2 paths are in.
+    fn all_in(&self) -> bool {
+        let due = self.plan.as_ref().and_then(Plan::further_paths);
+        due.is_some_and(|due| self.parts.len() == 1 + due)
+    }
+
+    fn accept(mut self, part: &[u8], read: usize) -> (Answer, Session, usize) {
+        self.parts.push(part[..read].to_vec());
+        (Answer::Accepted, self, part.len() - read)
+    }
+
     fn refuse(self, (number, place): Fault, part: &[u8]) -> (Answer, Session, usize) {
         (Answer::CertificateFault(number, place), self, part.len())
     }
@@ -587,7 +613,7 @@ impl Session {
 
 // ---------------------------------------------------------------- scripts of session calls
 
-/// How the replay of a script ended: every call was made; it ends inside the next one; the next one is none of s, p, c.
+/// How the replay of a script ended: every call was made; it ends inside the next one; the next one is none of s, p, b, c.
 #[derive(Debug, PartialEq, Eq, Clone, Copy)]
 pub enum End {
     Replayed,
@@ -598,6 +624,19 @@ pub enum End {
 /// Replays a script as include/fikzarn.h lays it out: a plan record, then calls. The answer to each call, the opening first, a
 /// start's or path's with the number of unread bytes; and how it ended.
 pub fn replay(script: &[u8]) -> (Vec<(Answer, Option<usize>)>, End) {
+    replay_seen(script, |_| {})
+}
+
+/// One call of a replay: its letter, its part, the answer, and the session after it.
+pub struct Seen<'a> {
+    pub call: u8,
+    pub part: &'a [u8],
+    pub answer: Answer,
+    pub session: &'a Session,
+}
+
+/// The same, and each call behind the opening is shown.
+pub fn replay_seen(script: &[u8], mut see: impl FnMut(Seen)) -> (Vec<(Answer, Option<usize>)>, End) {
     let mut rest = script;
     let Some(plan) = next_part(&mut rest) else { return (Vec::new(), End::Cut) };
     let (opened, mut session) = open(plan);
@@ -605,16 +644,20 @@ pub fn replay(script: &[u8]) -> (Vec<(Answer, Option<usize>)>, End) {
     while let Some((&call, after)) = rest.split_first() {
         rest = after;
         let (answer, unread);
+        let mut part: &[u8] = &[];
         match call {
             b'c' => ((answer, session), unread) = (session.close(), None),
+            b'b' => ((answer, session), unread) = (session.back(), None),
             b's' | b'p' => {
-                let Some(part) = next_part(&mut rest) else { return (answers, End::Cut) };
+                let Some(next) = next_part(&mut rest) else { return (answers, End::Cut) };
                 let left;
+                part = next;
                 (answer, session, left) = if call == b's' { session.start(part) } else { session.path(part) };
                 unread = Some(left);
             }
             _ => return (answers, End::UnknownCall),
         }
+        see(Seen { call, part, answer, session: &session });
         answers.push((answer, unread));
     }
     (answers, End::Replayed)

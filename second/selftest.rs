@@ -4,10 +4,11 @@
 //   selftest barns                      the cases that document 01 names, as request 1 leaves them, and some with doubles
 //   selftest figures [7]                every plan on 4, 5 and 6 vertices (or 7): certify, check and connectivity agree
 //   selftest certify COUNT SEED         the same for plans of every family, certificates chosen at random
-//   selftest outcomes COUNT SEED        generated cases; every refusal and every grade must occur
+//   selftest outcomes COUNT SEED        generated cases; every refusal, every grade and every kind of taking back must occur
 #![allow(dead_code)]
 mod generate;
 mod known;
+mod met;
 mod reference;
 
 use generate::{any_plan, every_plan, Call, Generator, Script, FIGURES};
@@ -68,6 +69,7 @@ fn session_vectors(file: &str) -> bool {
         match words[0] {
             "open" => ((answer, session), unread) = (open(&part), None),
             "close" => ((answer, session), unread) = (session.close(), None),
+            "back" => ((answer, session), unread) = (session.back(), None),
             "start" => {
                 let left;
                 (answer, session, left) = session.start(&part);
@@ -295,16 +297,20 @@ fn name(answer: Answer) -> (&'static str, u8) {
     }
 }
 
-/// One case in eight is a script of session calls, the others are a plan and a certificate.
+/// One case in eight is a script of session calls, every second of these one that takes back much; the others are a plan and a
+/// certificate.
 fn outcomes(count: u64, seed: u64) -> bool {
     println!("seed {seed}");
     let mut generator = Generator::new(seed);
     let mut checked: BTreeMap<(&str, u8), u64> = BTreeMap::new();
     let mut called: BTreeMap<(&str, u8), u64> = BTreeMap::new();
+    let mut met = met::Met::default();
     let mut right = true;
     for index in 0..count {
         if index % 8 == 7 {
-            right &= run_script(&generator.script(), &mut called);
+            let script = if index % 16 == 7 { generator.script() } else { generator.entered() };
+            right &= run_script(&script, &mut called);
+            met.replay(&script.encode(usize::MAX));
             continue;
         }
         let (plan, certificate) = generator.case();
@@ -319,6 +325,7 @@ fn outcomes(count: u64, seed: u64) -> bool {
         println!("{title}:");
         counts.iter().for_each(|((name, number), count)| println!("  {name} {number}: {count}"));
     }
+    right &= met.told();
     let seen = |key| checked.contains_key(&key) || called.contains_key(&key);
     let mut due: Vec<(&str, u8)> = (0..4).map(|grade| ("grade", grade)).collect();
     due.extend((1..8).chain([29]).map(|number| ("plan refused", number)));
@@ -357,26 +364,30 @@ fn calls_accept(plan: &[u8], parts: &[u8], graph: &Plan) -> bool {
     answer == Answer::Accepted && unread == 0 && session.close().0 == Answer::Grade(3)
 }
 
-/// Runs a script; a refused call leaves the session and the part as they were, and a closing that is accepted tells the connectivity.
+/// Runs a script; a refused call leaves the session and the part as they were, taking back gives the session before the last path, and a
+/// closing that is accepted tells the connectivity.
 fn run_script(script: &Script, counts: &mut BTreeMap<(&'static str, u8), u64>) -> bool {
     let (answer, mut session) = open(&script.plan);
     *counts.entry(name(answer)).or_default() += 1;
     let mut right = true;
     let small = script.plan.len() < 100;
+    // The sessions before each path that is in.
+    let mut earlier: Vec<Session> = Vec::new();
     for call in &script.calls {
         let before = small.then(|| session.clone());
         let (answer, part, unread);
         match call {
             Call::Start(bytes) => (part, (answer, session, unread)) = (bytes.len(), session.start(bytes)),
             Call::Path(bytes) => (part, (answer, session, unread)) = (bytes.len(), session.path(bytes)),
-            Call::Close => {
-                (answer, session) = session.close();
-                (part, unread) = (0, 0);
-            }
+            Call::Back => ((part, unread), (answer, session)) = ((0, 0), session.back()),
+            Call::Close => ((part, unread), (answer, session)) = ((0, 0), session.close()),
         }
         *counts.entry(name(answer)).or_default() += 1;
-        if answer != Answer::Accepted {
-            right &= unread == part && before.is_none_or(|before| session == before);
+        match (call, before) {
+            (_, Some(before)) if answer != Answer::Accepted => right &= unread == part && session == before,
+            (Call::Path(_), Some(before)) => earlier.push(before),
+            (Call::Back, Some(_)) => right &= earlier.pop().is_some_and(|earlier| session == earlier),
+            _ => {}
         }
         if answer == Answer::Grade(3) {
             right &= connectivity_by_low_points(&read_plan(&script.plan).expect("opened")) == 3;

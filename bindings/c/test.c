@@ -49,7 +49,7 @@ static const uint8_t TWICE[] = {4, 2, 0, 1, 0, 1};
 static const uint8_t UNSORTED[] = {4, 2, 0, 2, 0, 1};
 
 static void limits(void) {
-    IS(fikzarn_edition(), 3);
+    IS(fikzarn_edition(), 4);
     IS(fikzarn_min_boxes(), 4);
     IS(fikzarn_max_boxes(), 128);
     IS(fikzarn_max_cables(), 512);
@@ -194,6 +194,31 @@ static void replayed(const uint8_t *script, size_t length) {
     IS(kept(out, 56, sizeof out, 170), 8);
 }
 
+/* Barn G's script with paths taken back: refused before the start and before a path, one taken back and taken again, closed, all three
+ * taken back and once more, then another path first, which is refused while box 4 is inside its link. */
+static void taken_back(void) {
+    uint8_t script[160], out[160];
+    const uint64_t none = word(FIKZARN_CERTIFICATE_FAULT, 31, 0), held = word(FIKZARN_CERTIFICATE_FAULT, 27, 0);
+    const uint64_t answers[] = {0, none, 0, none, 0, 0, 0, 0, 0, word(FIKZARN_GRADE, 3, 0), 0, none, 0, 0, none, held, 0, 0};
+    const char calls[] = "bsbPbPQRcbcbbbRPR";
+    size_t at = part(script, 0, FIVE, sizeof FIVE), count = sizeof answers / sizeof *answers;
+    for (const char *call = calls; *call; call++) {
+        /* P, Q and R are the three paths. */
+        const int path = *call >= 'P' && *call <= 'R';
+        script[at++] = path ? 'p' : (uint8_t)*call;
+        if (*call == 's')
+            at = part(script, at, FIVE_BUILD + 1, 23);
+        if (path)
+            at = part(script, at, FIVE_BUILD + 24 + 3 * (*call - 'P'), 3);
+    }
+    memset(out, 170, sizeof out);
+    IS(fikzarn_session(script, at, out, sizeof out), FIKZARN_REPLAYED + 65536 * count);
+    for (size_t i = 0; i < count; i++)
+        IS(fikzarn_answer(out, i), answers[i]);
+    IS(kept(out, 8 * count, sizeof out, 170), sizeof out - 8 * count);
+    IS(fikzarn_session(script, at, out, 8 * 8 + 7), FIKZARN_NO_ROOM + 65536 * 8);
+}
+
 static void sessions(void) {
     uint8_t script[128], out[64];
     replayed(script, five_script(script, FIVE_DOUBLED, sizeof FIVE_DOUBLED));
@@ -222,6 +247,7 @@ int main(void) {
     plans();
     certificates();
     sessions();
+    taken_back();
     printf("C: %u compared, %u differ\n", tested, failed);
     return failed != 0;
 }

@@ -58,7 +58,7 @@ class Length(NamedTuple):
 
 class End(enum.IntEnum):
     """How the replay of a script ended: every call was made; the script ends inside the next call; the next call is none of `s`,
-    `p`, `c`; or it is whole, but there was no room for its answer."""
+    `p`, `b`, `c`; or it is whole, but there was no room for its answer."""
 
     REPLAYED = 0
     CUT = 1
@@ -151,8 +151,9 @@ def _graded(word):
 
 
 def session(script, room=None):
-    """Replays a session script: a plan record, then calls, `s` or `p` with a part, or `c`; the record and each part have their length
-    before them, two bytes, the lower first. `room` is the answers' buffer in bytes, eight an answer: by default enough for all."""
+    """Replays a session script: a plan record, then calls, `s` (start) or `p` (path) with a part, `b` (back) or `c` (close); the record
+    and each part have their length before them, two bytes, the lower first. `b` takes the last path back: the session is then as it
+    was before that path. `room` is the answers' buffer in bytes, eight an answer: by default enough for all."""
     script = bytes(script)
     room = 8 * len(script) if room is None else room
     out = _buffer(room)

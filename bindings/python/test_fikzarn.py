@@ -33,7 +33,7 @@ def script(plan=FIVE):
 class Calls(unittest.TestCase):
     def test_limits(self):
         limits = [fikzarn.edition(), fikzarn.min_boxes(), fikzarn.max_boxes(), fikzarn.max_cables(), fikzarn.certificate_room()]
-        self.assertEqual(limits, [3, 4, 128, 512, 1536])
+        self.assertEqual(limits, [4, 4, 128, 512, 1536])
 
     def test_check(self):
         self.assertEqual(fikzarn.check(FIVE, FIVE_BUILD), Answer(Case.GRADE, 3, 0))
@@ -87,6 +87,17 @@ class Calls(unittest.TestCase):
         self.assertEqual(fikzarn.session(script() + b"x"), (End.UNKNOWN_CALL, answers))
         self.assertEqual(fikzarn.session(script() + b"p"), (End.CUT, answers))
         self.assertEqual(fikzarn.session(b""), (End.CUT, []))
+
+    def test_taken_back(self):
+        """Refused before the start and before a path, one path taken back and taken again, closed, all three taken back and once more,
+        then the last path first, which is refused while box 4 is inside its link."""
+        parts = {"s": b"s" + counted(FIVE_BUILD[1:24])}
+        parts.update((name, b"p" + counted(FIVE_BUILD[at : at + 3])) for name, at in zip("PQR", (24, 27, 30)))
+        calls = b"".join(parts.get(call, call.encode()) for call in "bsbPbPQRcbcbbbRPR")
+        none, held = Answer(Case.CERTIFICATE_FAULT, 31, 0), Answer(Case.CERTIFICATE_FAULT, 27, 0)
+        answers = [ACCEPTED, none, ACCEPTED, none, *5 * [ACCEPTED], Answer(Case.GRADE, 3, 0), ACCEPTED, none, *2 * [ACCEPTED], none, held]
+        self.assertEqual(fikzarn.session(counted(FIVE) + calls), (End.REPLAYED, [*answers, ACCEPTED, ACCEPTED]))
+        self.assertEqual(fikzarn.session(counted(FIVE) + calls, room=71), (End.NO_ROOM, answers[:8]))
 
 
 def load_tests(loader, tests, pattern):

@@ -44,13 +44,13 @@ mod foreign {
 /// ```
 #[derive(Clone, Copy, Debug, PartialEq, Eq, Hash)]
 pub enum Answer {
-    /// Accepted, without a grade: a plan alone, an opening, a start or a path.
+    /// Accepted, without a grade: a plan alone, an opening, a start, a path or taking it back.
     Accepted,
     /// Accepted, with the grade, 0 to 3.
     Grade(u8),
     /// The plan is refused: the refusal's number, and the offset in the plan's bytes.
     PlanFault(u8, usize),
-    /// The certificate, start or path is refused: the refusal's number, and the offset in its bytes.
+    /// The certificate, start or path is refused: the refusal's number, and the offset in its bytes; or another call of a session, at 0.
     CertificateFault(u8, usize),
 }
 
@@ -180,7 +180,7 @@ pub enum End {
     Replayed,
     /// The script ends inside the next call.
     Cut,
-    /// The next call is none of `s`, `p`, `c`.
+    /// The next call is none of `s`, `p`, `b`, `c`.
     UnknownCall,
     /// The next call is whole, but the buffer has no room for its answer.
     NoRoom,
@@ -201,9 +201,10 @@ impl<'a> Replay<'a> {
     }
 }
 
-/// Replays a session script: a plan record, then calls, `s` or `p` with a part, or `c`; the record and each part have their length
-/// before them, two bytes, the lower first. `out` takes eight bytes for each answer, so eight times the script's length is always
-/// enough; the bytes behind the answers keep their values.
+/// Replays a session script: a plan record, then calls, `s` (start) or `p` (path) with a part, `b` (back) or `c` (close); the record and
+/// each part have their length before them, two bytes, the lower first. `b` takes the last path back: the session is then as it was
+/// before that path. `out` takes eight bytes for each answer, so eight times the script's length is always enough; the bytes behind the
+/// answers keep their values.
 ///
 /// ```
 /// use fikzarn::{session, Answer, End};
@@ -216,6 +217,10 @@ impl<'a> Replay<'a> {
 /// let replay = session(&script, &mut out);
 /// assert_eq!(replay.end, End::Replayed);
 /// assert!(replay.answers().eq([Answer::Accepted, Answer::Accepted, Answer::Grade(3)]));
+/// // There is no path to take back, and the start stays.
+/// let (longer, mut out) = ([&script[..], b"bc"].concat(), [0; 40]);
+/// let replay = session(&longer, &mut out);
+/// assert!(replay.answers().skip(3).eq([Answer::CertificateFault(31, 0), Answer::Grade(3)]));
 /// ```
 pub fn session<'a>(script: &[u8], out: &'a mut [u8]) -> Replay<'a> {
     let word = unsafe { foreign::fikzarn_session(script.as_ptr(), script.len(), out.as_mut_ptr(), out.len()) };

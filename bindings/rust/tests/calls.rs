@@ -27,7 +27,7 @@ fn script(plan: &[u8]) -> Vec<u8> {
 
 #[test]
 fn limits() {
-    assert_eq!((edition(), min_boxes(), max_boxes(), max_cables()), (3, 4, 128, 512));
+    assert_eq!((edition(), min_boxes(), max_boxes(), max_cables()), (4, 4, 128, 512));
     assert_eq!(certificate_room(), CERTIFICATE_ROOM as u64);
 }
 
@@ -117,4 +117,32 @@ fn sessions() {
         assert_eq!((replay.end, replay.answers().len()), (end, 7));
     }
     assert_eq!(session(&[], &mut []).end, End::Cut);
+}
+
+/// Barn G with paths taken back: refused before the start and before a path, one taken back and taken again, closed, all three taken back
+/// and once more, then the last path first, which is refused while box 4 is inside its link.
+#[test]
+fn taken_back() {
+    use Answer::{Accepted as A, CertificateFault, Grade};
+    let (none, held) = (CertificateFault(31, 0), CertificateFault(27, 0));
+    let mut script = counted(&FIVE);
+    for call in "bsbPbPQRcbcbbbRPR".bytes() {
+        match call {
+            b's' => script.extend([b"s".to_vec(), counted(&FIVE_BUILD[1..24])].concat()),
+            // P, Q and R are the three paths.
+            b'P'..=b'R' => {
+                let at = 24 + 3 * (call - b'P') as usize;
+                script.extend([b"p".to_vec(), counted(&FIVE_BUILD[at..at + 3])].concat());
+            }
+            _ => script.push(call),
+        }
+    }
+    let answers = [A, none, A, none, A, A, A, A, A, Grade(3), A, none, A, A, none, held, A, A];
+    let mut out = [170; 160];
+    let replay = session(&script, &mut out);
+    assert_eq!(replay.end, End::Replayed);
+    assert!(replay.answers().eq(answers));
+    assert_eq!(out[144..], [170; 16]);
+    let replay = session(&script, &mut out[..71]);
+    assert_eq!((replay.end, replay.answers().len()), (End::NoRoom, 8));
 }

@@ -11,7 +11,7 @@ use Rattle.vertexset.specs.Set.{inserted, capacity}
 use Rattle.vertexset.specs.declared.VertexSet.{VertexSet}
 use Rattle.graph.specs.Rows.{joinedRows}
 use Rattle.connectivity.specs.Path.{Path, link, vertices}
-use Rattle.connectivity.proofs.Paths.{linkOf, link-vertices, two-vertices}
+use Rattle.connectivity.proofs.Paths.{headOf, linkOf, link-vertices, two-vertices}
 use Rattle.certificates.specs.Records.{vertex, tailLink, path}
 use Rattle.paths.specs.Items.{itemRead}
 use Rattle.paths.specs.Paths.{verticesAt}
@@ -22,7 +22,7 @@ use Rattle.paths.proofs.Reading.{vertex-low, values-next, path-values, vertices
 use Rattle.links.specs.Tables.{pointedBoth, pointAlong, mated, lastFrom, matedEnds}
 use Rattle.build.specs.declared.Sets.{Sets}
 use Rattle.build.specs.State.{entered}
-use Rattle.build.specs.Code.{PathAt, ToldAt, buildIn, innerAt, onPathRead}
+use Rattle.build.specs.Code.{PathAt, ToldAt, buildIn, innerAt, beforeAt, onPathRead}
 
 -- a vertex that was read, or the 0 beside its fault
 pub value-low : (n : ℕ) (s : List ℕ) (at : ℕ) {x : Item} → n ≤ capacity → x ≡ itemRead (vertex n s at) → x .value < capacity
@@ -59,6 +59,14 @@ module _ (n : ℕ) (s : List ℕ) where
     inner-begun =
         ap (λ (r : Read Path). orKept r (λ P next. P .inner) []) (h .got)
         ∙ ap (λ (P : Path). P .inner) (same-path (h .found) _ (listed ∙ sym (tail-vertices (a .value) (b .value) (valuesFrom n (x .value - 2) s (b .next)))))
+
+    -- the last of them stands before the path's last vertex
+    pub before-begun : lastFrom (a .value) (innerAt n s at) ≡ beforeAt n s at
+    unfolding innerAt beforeAt
+    before-begun =
+        let first : h .found .s ≡ a .value = ap (λ (l : List ℕ). headOf l 0) listed in
+        ap (λ (r : Read Path). lastFrom (a .value) (orKept r (λ P next. P .inner) [])) (h .got) ∙ ap (λ (v : ℕ). lastFrom v (h .found .inner)) (sym first)
+        ∙ sym (ap (λ (r : Read Path). orKept r (λ P next. lastFrom (P .s) (P .inner)) 0) (h .got))
 
     -- the outermost, once the last is known
     pub mated-done : (p : List ℕ) {out : List ℕ} {last : ℕ} → 0 < length (innerAt n s at) → last ≡ lastFrom (a .value) (innerAt n s at) → out ≡ mated p (b .value) last → out ≡ matedEnds p (innerAt n s at)
@@ -129,6 +137,17 @@ module _ {n : ℕ} {s : List ℕ} {at : ℕ} {x : PathRead} (h : ToldAt n s at x
   -- a longer path has some inside, one of two vertices none
   pub inner-some : 3 ≤ x .len → 0 < length (innerAt n s at)
   inner-some k = omega (arith, h .len, length-append (P .inner) (P .t ∷ []), ap length inner-found)
+
+  -- one of two vertices has its first before its last
+  pub before-short : x .len < 3 → x .first ≡ beforeAt n s at
+  unfolding beforeAt
+  before-short k =
+      go (P .inner) (omega (arith, h .len, length-append (P .inner) (P .t ∷ [])))
+      ∙ sym (ap (λ (r : Read Path). orKept r (λ P next. lastFrom (P .s) (P .inner)) 0) (h .there .got))
+    where
+      go : (l : List ℕ) → length l ≡ 0 → x .first ≡ lastFrom (P .s) l
+      go [] z = h .first
+      go (v ∷ l) z = absurd (omega arith)
 
   pub entered-short : {out : List ℕ} → x .len < 3 → out ≡ joinedRows linked (x .first) (x .last) → buildIn sets pointers out ≡ onPathRead entered (buildIn sets pointers linked) (path n 2 s at)
   unfolding folded pointAlong

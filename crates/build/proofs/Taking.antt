@@ -6,7 +6,7 @@ use mathlib.Core.Path.{_≡_, refl, sym, ap, _∙_}
 use native.Mathlib.Omega.{arith}
 use lib.Dec.{ltb, leb, eqb}
 use borrow.Author.Tests.{lt-ltb, le-ltb, leb-true}
-use Rattle.record.specs.Read.{Read, Read.Got, Read.Refused, Reader, onRead, _needs⟨_⟩_}
+use Rattle.record.specs.Read.{Read, Read.Got, Read.Refused, Reader, onRead, orKept, _needs⟨_⟩_}
 use Rattle.record.specs.declared.Answer.the-variants.{Accepted}
 use Rattle.record.proofs.Laws.{test-got}
 use Rattle.record.proofs.Loops.{needs-bad}
@@ -24,12 +24,14 @@ use Rattle.paths.proofs.Told.{path-told, path-fault}
 use Rattle.links.specs.declared.End.{End}
 use Rattle.links.specs.declared.Addition.{Addition}
 use Rattle.links.specs.Ends.{additionOf, held}
-use Rattle.links.specs.Tables.{splitBy, splitMatesBy}
+use Rattle.links.specs.declared.Split.{Split}
+use Rattle.links.specs.Tables.{splitBy, splitMatesBy, splitOf, lastFrom}
 use Rattle.build.specs.declared.Build.{Build}
 use Rattle.build.specs.declared.Taken.{Taken}
-use Rattle.build.specs.State.{entered, raisedAt, endOf, pathAddition, bothIn, pathTaken, buildPath, startOn}
+use Rattle.build.specs.declared.Trace.{Trace}
+use Rattle.build.specs.State.{entered, raisedAt, endOf, pathAddition, bothIn, pathTaken, buildPath, startOn, noTrace}
 use Rattle.build.specs.declared.Between.{Between}
-use Rattle.build.specs.Code.{pathFault, buildIn, ToldAt, onPathRead, Leaves, towards}
+use Rattle.build.specs.Code.{pathFault, buildIn, ToldAt, beforeAt, traceRead, onPathRead, Leaves, towards}
 
 -- refused, or as it was read
 abbrev pub faulted : {A : Type 0} → ℕ → A → ℕ → ℕ → Read A
@@ -84,6 +86,10 @@ limit-refused {A} {B} n R Q s at {q} {p} f = go (leb n capacity)
     go true e = f e
     go false e = let y : q ≡ 9 = cc in let z : p ≡ at = cc in rw (y, z)
 
+same-trace : {a b c a′ b′ c′ : ℕ} {k l k′ l′ : Split} → a ≡ a′ → b ≡ b′ → c ≡ c′ → k ≡ k′ → l ≡ l′
+    → _≡_ {A = Trace} (record { first = a; last = b; before = c; from = k; upto = l }) (record { first = a′; last = b′; before = c′; from = k′; upto = l′ })
+same-trace d e f g h = rw (d, e, f, g, h)
+
 -- a path that is read is tested by `item` and taken a step on: `fault` is the number that the tests give, `raise` the build that the path enters
 pub record Takes (n : ℕ) (adj : ℕ → ℕ → Bool) (old : ℕ → Bool) (item : Build → Reader Path) (step : Build → Path → Build) (b : Build) (s : List ℕ) (at : ℕ) : Type 0 where
   pub fault : PathRead → ℕ
@@ -105,6 +111,10 @@ module _ {n : ℕ} {adj : ℕ → ℕ → Bool} {old : ℕ → Bool} {item : Bui
       let t = path-fault adj old _ f e in
       kept (limit-refused n (path n 2) (item b) s at (T .stops _ _) (t .2)) (g ∙ t .3) h
 
+  pub no-trace-unread : NotAccepted (x .end .answer) → noTrace ≡ traceRead b (limited n (item b) s at)
+  unfolding traceRead
+  no-trace-unread f = let t = path-fault adj old _ f e in sym (ap (traceRead b) (limit-refused n (path n 2) (item b) s at (T .stops _ _) (t .2)))
+
   -- an accepted path, from here on
   module _ (f : x .end .answer ≡ Accepted) where
     told : (P : Path) × ((limited n (path n 2) s at ≡ Got P (x .end .next)) × (x ≡ pathTold adj old P (x .end .next)))
@@ -121,6 +131,13 @@ module _ {n : ℕ} {adj : ℕ → ℕ → Bool} {old : ℕ → Bool} {item : Bui
     leaves-refused {q = q} g h k m =
         let z : 0 < T .fault x = omega arith in
         kept (tested ∙ rw (lt-ltb 0 (T .fault x) z, g)) k m
+
+    pub no-trace-refused : {q : ℕ} → q ≡ T .fault x → 0 < q → noTrace ≡ traceRead b (limited n (item b) s at)
+    unfolding traceRead
+    no-trace-refused {q} g h =
+        let z : 0 < T .fault x = omega arith in
+        let y : limited n (item b) s at ≡ Refused (T .fault x) at = tested ∙ rw (lt-ltb 0 (T .fault x) z) in
+        sym (ap (traceRead b) y)
 
     -- what the path tells of itself, and the build that it has entered
     pub path-there : ToldAt n s at x
@@ -146,6 +163,19 @@ module _ {n : ℕ} {adj : ℕ → ℕ → Bool} {old : ℕ → Bool} {item : Bui
         ap (onPathRead entered (T .raise x)) (got .1) ∙ ap (λ (y : PathRead). entered (T .raise y) P) (told .1 .1) ∙ T .steps P next
         in
         record { end = k ∙ end ∙ sym (ap endRead read); build = m ∙ built ∙ sym (ap (onPathRead step b) read) }
+
+    -- the trace that it leaves, by what the code has of it
+    pub traced : {q k : ℕ} {from upto : Split} → q ≡ T .fault x → q ≤ 0 → k ≡ beforeAt n s at → from ≡ splitOf (endOf b (x .first)) → upto ≡ splitOf (endOf b (x .last))
+        → _≡_ {A = Trace} (record { first = x .first; last = x .last; before = k; from = from; upto = upto }) (traceRead b (limited n (item b) s at))
+    unfolding traceRead beforeAt
+    traced {k = k} {from = from} {upto = upto} g h m d u =
+        let P = told .0 in
+        let z : T .fault x ≤ 0 = omega arith in
+        let read : limited n (item b) s at ≡ Got P (x .end .next) = tested ∙ rw (le-ltb 0 (T .fault x) z) in
+        let first : x .first ≡ P .s = ap (λ (y : PathRead). y .first) (told .1 .1) in
+        let last : x .last ≡ P .t = ap (λ (y : PathRead). y .last) (told .1 .1) in
+        let before : k ≡ lastFrom (P .s) (P .inner) = m ∙ ap (λ (r : Read Path). orKept r (λ P next. lastFrom (P .s) (P .inner)) 0) (got .1) in
+        same-trace first last before (d ∙ ap (λ (v : ℕ). splitOf (endOf b v)) first) (u ∙ ap (λ (v : ℕ). splitOf (endOf b v)) last) ∙ sym (ap (traceRead b) read)
 
 -- the code's own results for what a test asks
 pub fault-same : (along new p q h p′ q′ h′ : Bool) → p ≡ p′ → q ≡ q′ → h ≡ h′ → pathFault along (p && q) new (not h) ≡ pathFault along (p′ && q′) new (not h′)

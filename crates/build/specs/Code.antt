@@ -20,7 +20,9 @@ use Rattle.build.specs.declared.Sets.{Sets}
 use Rattle.build.specs.declared.Taken.{Taken}
 use Rattle.build.specs.declared.Four.{Four}
 use Rattle.build.specs.declared.Between.{Between}
-use Rattle.build.specs.State.{pathTaken, bareOn, buildPath, BuildStart, startOn, startEntered, startOf}
+use Rattle.build.specs.declared.Trace.{Trace}
+use Rattle.links.specs.Tables.{lastFrom}
+use Rattle.build.specs.State.{pathTaken, traceOf, noTrace, bareOn, buildPath, BuildStart, startOn, startEntered, startOf}
 
 -- document 01's number for a path that was read whole, or 0
 abbrev pub pathFault : Bool → Bool → Bool → Bool → ℕ
@@ -47,6 +49,15 @@ pub record ToldAt (n : ℕ) (s : List ℕ) (at : ℕ) (x : PathRead) : Type 0 wh
 -- the inner vertices of the path at a place; none where it can't be read
 unfoldable pub innerAt : ℕ → List ℕ → ℕ → List ℕ
 innerAt n s at = orKept (path n 2 s at) (λ P next. P .inner) []
+
+-- the vertex before the last one on the path at a place; 0 where it can't be read
+unfoldable pub beforeAt : ℕ → List ℕ → ℕ → ℕ
+beforeAt n s at = orKept (path n 2 s at) (λ P next. lastFrom (P .s) (P .inner)) 0
+
+-- the trace of a path that was read, and none where it was refused
+unfoldable pub traceRead : Build → Read Path → Trace
+traceRead b (Got P next) = traceOf b P
+traceRead b (Refused r p) = noTrace
 
 -- what reading a path leaves of a build: one step on, or as it was
 unfoldable pub onPathRead : (Build → Path → Build) → Build → Read Path → Build

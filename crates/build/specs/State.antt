@@ -1,13 +1,14 @@
 -- The build as the code keeps it: branch vertices, vertices that are in, for each inner vertex its neighbours on its path,
 -- for the two outermost ones of a link each other, and which branch vertices a link joins. Each definition says what one function does to it.
-use Prim.Native.Nat.{ℕ}
+use Prim.Native.Nat.{ℕ, zero, suc}
 use mathlib.Core.List.{List}
-use mathlib.Core.Bool.{Bool, _&&_, not}
+use mathlib.Core.Bool.{Bool, cond, _&&_, not}
+use lib.Dec.{eqb}
 use lib.ListN.{replicate}
 use Rattle.record.specs.Read.{Reader, _needs⟨_⟩_, _▸_, many, check, folded}
-use Rattle.vertexset.specs.Set.{has, emptySet, inserted}
+use Rattle.vertexset.specs.Set.{has, emptySet, inserted, removed, capacity}
 use Rattle.vertexset.specs.declared.VertexSet.{VertexSet}
-use Rattle.graph.specs.Rows.{joinedRows, bareRows}
+use Rattle.graph.specs.Rows.{joinedRows, partedRows, bareRows}
 use Rattle.connectivity.specs.Graph.{Graph}
 use Rattle.connectivity.specs.Path.{vertices, Path}
 use Rattle.connectivity.specs.Build.{sixPairs}
@@ -17,8 +18,10 @@ use Rattle.links.specs.declared.End.{End}
 use Rattle.links.specs.declared.End.the-variants.{Branch, Inner}
 use Rattle.links.specs.declared.Addition.{Addition}
 use Rattle.links.specs.Ends.{additionOf, held}
-use Rattle.links.specs.Tables.{pointerCount, pointAlong, matedEnds, endIn, splitBy, splitMatesBy}
+use Rattle.links.specs.declared.Split.{Split}
+use Rattle.links.specs.Tables.{pointerCount, pointer, pointAlong, lastFrom, matedEnds, endIn, splitBy, splitMatesBy, splitOf, raises, cleared, rejoinedBy, rejoinedMatesBy}
 use Rattle.build.specs.declared.Build.{Build}
+use Rattle.build.specs.declared.Trace.{Trace}
 
 -- the end that a path has at v
 abbrev pub endOf : Build → ℕ → End
@@ -58,6 +61,47 @@ bothIn b P = has (b .sets .built .words) (P .s) && has (b .sets .built .words) (
 unfoldable pub buildPath : Graph → Build → Reader Path
 buildPath g b =
     path (g .n) 2 needs⟨ 24 ⟩ pathAlong g needs⟨ 25 ⟩ bothIn b needs⟨ 26 ⟩ pathNew (has (b .sets .built .words)) needs⟨ 27 ⟩ (λ P. not (held (pathAddition b P)))
+
+-- BACK AGAIN. "The session's record must then carry, for each path, what it split and which ends it raised to branch boxes." The trace of a path that
+-- was taken in: its two ends, the vertex before the last one on it, and what it split at each end.
+abbrev pub traceOf : Build → Path → Trace
+traceOf b P = record { first = P .s; last = P .t; before = lastFrom (P .s) (P .inner); from = splitOf (endOf b (P .s)); upto = splitOf (endOf b (P .t)) }
+
+-- no path: the trace of a path that is not in
+abbrev pub noTrace : Trace
+noTrace = record { first = 0; last = 0; before = 0; from = record { first = 0; last = 0 }; upto = record { first = 0; last = 0 } }
+
+-- the inner vertices of a path are no longer in, from v back to its first end, at most k: each is out of the set, and points to nothing
+unfoldable pub unwound : ℕ → ℕ → ℕ → VertexSet → List ℕ → VertexSet × List ℕ
+unwound zero first v built pointers = (built, pointers)
+unwound (suc k) first v built pointers = cond (eqb v first) (built, pointers) (unwound k first (pointer pointers 0 v) (removed built v) (cleared pointers v))
+
+abbrev pub unwoundFrom : Build → Trace → VertexSet × List ℕ
+unwoundFrom b t = unwound capacity (t .first) (t .before) (b .sets .built) (b .pointers)
+
+-- a path leaves the build, in which it was a link
+abbrev pub departed : Build → Trace → Build
+departed b t = record {
+  sets = record { branch = b .sets .branch; built = unwoundFrom b t .0 };
+  pointers = unwoundFrom b t .1;
+  linked = partedRows (b .linked) (t .last) (t .first);
+}
+
+-- an end that the path raised is a branch vertex no more
+abbrev pub loweredAt : VertexSet → ℕ → Split → VertexSet
+loweredAt branch v s = cond (raises s) (removed branch v) branch
+
+-- the same with the link whole again that was split there
+abbrev pub lowered : Build → ℕ → Split → Build
+lowered b v s = record {
+  sets = record { branch = loweredAt (b .sets .branch) v s; built = b .sets .built };
+  pointers = rejoinedMatesBy (b .pointers) v s;
+  linked = rejoinedBy (b .pointers) (b .linked) v s;
+}
+
+-- the path that was taken in last is taken back: in each table what was done last goes first
+abbrev pub takenBack : Build → Trace → Build
+takenBack b t = lowered (lowered (departed b t) (t .last) (t .upto)) (t .first) (t .from)
 
 -- branch vertices and no links yet, beside these tables
 abbrev pub bareOn : VertexSet → List ℕ → List ℕ → Build

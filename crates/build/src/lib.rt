@@ -1,4 +1,4 @@
-// Builds for grade 3: what reading and taking a path does, the start, and a certificate of kind 3.
+// Builds for grade 3: what reading and taking a path does, taking it back, the start, and a certificate of kind 3.
 ghost use mathlib.Core.Path.{_≡_};
 ghost use Prim.Native.Nat.{suc, _≤_, _<_};
 ghost use lib.Dec.{leb};
@@ -12,12 +12,13 @@ ghost use Rattle.paths.specs.Items.{itemRead, endRead, limited};
 ghost use Rattle.paths.specs.Paths.{verticesAt};
 ghost use Rattle.graph.specs.Rows.{rowsGraph};
 ghost use Rattle.links.specs.Tables.{pointAlong, matedEnds};
-ghost use Rattle.build.specs.State.{entered, raisedAt, pathTaken, buildPath, bareBuild, fourSet, startOn, startEntered, startOf, startIn, buildBody};
-ghost use Rattle.build.specs.Code.{pathFault, buildIn, PathAt, ToldAt, innerAt, onPathRead, Leaves, towards, noFour, fourRead, fourOf, firsts, lasts, noStart, startLeft, startLoop, furtherLoop, pathEnds};
+ghost use Rattle.build.specs.State.{entered, raisedAt, pathTaken, buildPath, noTrace, unwound, loweredAt, takenBack, bareBuild, fourSet, startOn, startEntered, startOf, startIn, buildBody};
+ghost use Rattle.build.specs.Code.{pathFault, buildIn, PathAt, ToldAt, innerAt, beforeAt, traceRead, onPathRead, Leaves, towards, noFour, fourRead, fourOf, firsts, lasts, noStart, startLeft, startLoop, furtherLoop, pathEnds};
 use graph::GraphTable;
 use links::End;
 use links::Ends;
 use links::Link;
+use links::Split;
 use paths::Item;
 use paths::PathRead;
 use record::Answer;
@@ -40,6 +41,33 @@ pub struct Build {
 pub struct Taken {
     pub end: Item,
     pub sets: Sets,
+}
+
+// What taking a path in did to a build: the path's two ends, the vertex before the last one on it, and what it split at each end.
+pub struct Trace {
+    pub first: u16,
+    pub last: u16,
+    pub before: u16,
+    pub from: Split,
+    pub upto: Split,
+}
+
+// What `Taken` has, and the trace that the path leaves.
+pub struct Traced {
+    pub taken: Taken,
+    pub trace: Trace,
+}
+
+// The vertices that are in with those inside a path, and the last of these.
+struct Inside {
+    built: VertexSet,
+    last: u16,
+}
+
+// A path that entered, and the vertex before the last one on it.
+struct Entered {
+    taken: Taken,
+    before: u16,
 }
 
 // The two ends of a path of the start.
@@ -83,10 +111,11 @@ fn take_inner<'a>(
     at: usize,
     built: VertexSet,
     pointers: &'a mut [u16; Link::POINTERS],
-) -> VertexSet
+) -> Inside
     requires { ⌜ PathAt n (now s) at ⌝ }
     requires { ⌜ 0 < length (innerAt n (now s) at) ⌝ }
-    ensures { λ r. ⌜ r ≡ folded inserted built (innerAt n (now (s .entry)) at) ⌝ }
+    ensures { λ r. ⌜ r .built ≡ folded inserted built (innerAt n (now (s .entry)) at) ⌝ }
+    ensures { λ r. ⌜ r .last ≡ beforeAt n (now (s .entry)) at ⌝ }
     ensures { λ r. ⌜ now (pointers .exit) ≡ matedEnds (pointAlong (now (pointers .entry)) (verticesAt n (now (s .entry)) at)) (innerAt n (now (s .entry)) at) ⌝ }
 {
     let x = paths::read_ranged(s, 2, n, at);
@@ -107,7 +136,10 @@ fn take_inner<'a>(
         left -= 1;
     }
     links::mate(pointers, b.value, u);
-    VertexSet { words }
+    Inside {
+        built: VertexSet { words },
+        last: u,
+    }
 }
 
 // A path that was read at a place enters the build as a link.
@@ -119,21 +151,29 @@ fn enter<'a>(
     sets: Sets,
     pointers: &'a mut [u16; Link::POINTERS],
     linked: &'a mut [u64; GraphTable::ROW_WORDS],
-) -> Taken
+) -> Entered
     requires { ⌜ ToldAt n (now s) at x ⌝ }
-    ensures { λ r. ⌜ r .end ≡ x .end ⌝ }
-    ensures { λ r. ⌜ buildIn (r .sets) (now (pointers .exit)) (now (linked .exit))
+    ensures { λ r. ⌜ r .taken .end ≡ x .end ⌝ }
+    ensures { λ r. ⌜ buildIn (r .taken .sets) (now (pointers .exit)) (now (linked .exit))
         ≡ onPathRead entered (buildIn sets (now (pointers .entry)) (now (linked .entry))) (path n 2 (now (s .entry)) at) ⌝ }
+    ensures { λ r. ⌜ r .before ≡ beforeAt n (now (s .entry)) at ⌝ }
 {
     graph::join(linked, x.first, x.last);
     let end = x.end;
     if x.len < 3 {
-        return Taken { end, sets };
+        return Entered {
+            taken: Taken { end, sets },
+            before: x.first,
+        };
     }
-    let built = take_inner(s, n, at, sets.built, pointers);
+    let inside = take_inner(s, n, at, sets.built, pointers);
     let branch = sets.branch;
+    let built = inside.built;
     let grown = Sets { branch, built };
-    Taken { end, sets: grown }
+    Entered {
+        taken: Taken { end, sets: grown },
+        before: inside.last,
+    }
 }
 
 // A path of the start between two ends, read, tested and taken in; nothing changes where it is refused.
@@ -169,7 +209,8 @@ fn take_start_path<'a>(
             sets,
         };
     }
-    enter(s, n, at, x, sets, pointers, linked)
+    let e = enter(s, n, at, x, sets, pointers, linked);
+    e.taken
 }
 
 // An inner vertex at which a path ends becomes a branch vertex.
@@ -182,7 +223,33 @@ fn raise(branch: VertexSet, end: End) -> VertexSet
     }
 }
 
-// A further path, read, tested and taken in; nothing changes where it is refused.
+impl Trace {
+    // No path.
+    pub fn none() -> Self
+        ensures { λ r. ⌜ r ≡ noTrace ⌝ }
+    {
+        Trace {
+            first: 0,
+            last: 0,
+            before: 0,
+            from: Split { first: 0, last: 0 },
+            upto: Split { first: 0, last: 0 },
+        }
+    }
+}
+
+// A path that was refused: nothing changed, and there is no trace.
+fn untaken(end: Item, sets: Sets) -> Traced
+    ensures { λ r. ⌜ (r .taken .end ≡ end) × (r .taken .sets ≡ sets) × (r .trace ≡ noTrace) ⌝ }
+{
+    let taken = Taken { end, sets };
+    Traced {
+        taken,
+        trace: Trace::none(),
+    }
+}
+
+// A further path, read, tested and taken in, with the trace by which it can be taken back; nothing changes where it is refused.
 pub fn take_path<'a>(
     s: &'a [u8],
     rows: &'a [u64; GraphTable::ROW_WORDS],
@@ -191,9 +258,11 @@ pub fn take_path<'a>(
     sets: Sets,
     pointers: &'a mut [u16; Link::POINTERS],
     linked: &'a mut [u64; GraphTable::ROW_WORDS],
-) -> Taken
+) -> Traced
     ensures { λ r. ⌜ Leaves n (buildPath (rowsGraph n (now (rows .entry)))) pathTaken (buildIn sets (now (pointers .entry)) (now (linked .entry))) (now (s .entry)) at
-        r (now (pointers .exit)) (now (linked .exit)) ⌝ }
+        (r .taken) (now (pointers .exit)) (now (linked .exit)) ⌝ }
+    ensures { λ r. ⌜ r .trace ≡ traceRead (buildIn sets (now (pointers .entry)) (now (linked .entry)))
+        (limited n (buildPath (rowsGraph n (now (rows .entry))) (buildIn sets (now (pointers .entry)) (now (linked .entry)))) (now (s .entry)) at) ⌝ }
 {
     let branch = sets.branch;
     let built = sets.built;
@@ -201,7 +270,7 @@ pub fn take_path<'a>(
     let end = x.end;
     let end_answer = end.answer;
     let Answer::Accepted = end_answer else {
-        return Taken { end, sets };
+        return untaken(end, sets);
     };
     let first = links::end_of(pointers, branch, x.first);
     let last = links::end_of(pointers, branch, x.last);
@@ -210,17 +279,75 @@ pub fn take_path<'a>(
     let both = built.contains(x.first) & built.contains(x.last);
     let r = path_fault(x.along, both, x.new, !a.is_held());
     if 0 < r {
-        return Taken {
-            end: Item::refused(r, at),
-            sets,
-        };
+        return untaken(Item::refused(r, at), sets);
     }
     links::split_by(linked, pointers, a);
     let raised = Sets {
         branch: raise(raise(branch, first), last),
         built,
     };
-    enter(s, n, at, x, raised, pointers, linked)
+    let e = enter(s, n, at, x, raised, pointers, linked);
+    let trace = Trace {
+        first: x.first,
+        last: x.last,
+        before: e.before,
+        from: first.split(),
+        upto: last.split(),
+    };
+    let taken = e.taken;
+    Traced { taken, trace }
+}
+
+// The inner vertices of a path are no longer in, from v back to its first end.
+fn unwind<'a>(
+    pointers: &'a mut [u16; Link::POINTERS],
+    built: VertexSet,
+    first: u16,
+    v: u16,
+) -> VertexSet
+    ensures { λ r. ⌜ r ≡ unwound capacity first v built (now (pointers .entry)) .0 ⌝ }
+    ensures { λ r. ⌜ now (pointers .exit) ≡ unwound capacity first v built (now (pointers .entry)) .1 ⌝ }
+{
+    let mut set = built;
+    let mut u = v;
+    let mut left = VertexSet::CAPACITY;
+    while 0 < left {
+        if u == first {
+            return set;
+        }
+        let before = links::clear(pointers, u);
+        set = set.remove(u);
+        u = before;
+        left -= 1;
+    }
+    set
+}
+
+// An end that a path raised is a branch vertex no more.
+fn lower(branch: VertexSet, v: u16, s: Split) -> VertexSet
+    ensures { λ r. ⌜ r ≡ loweredAt branch v s ⌝ }
+{
+    if VertexSet::CAPACITY <= s.first {
+        return branch;
+    }
+    branch.remove(v)
+}
+
+// The path that was taken in last, which left this trace, is taken back: in each table what was done last goes first.
+pub fn take_back<'a>(
+    sets: Sets,
+    pointers: &'a mut [u16; Link::POINTERS],
+    linked: &'a mut [u64; GraphTable::ROW_WORDS],
+    t: Trace,
+) -> Sets
+    ensures { λ r. ⌜ buildIn r (now (pointers .exit)) (now (linked .exit)) ≡ takenBack (buildIn sets (now (pointers .entry)) (now (linked .entry))) t ⌝ }
+{
+    graph::part(linked, t.last, t.first);
+    let built = unwind(pointers, sets.built, t.first, t.before);
+    links::rejoin(linked, pointers, t.last, t.upto);
+    links::rejoin(linked, pointers, t.first, t.from);
+    let branch = lower(lower(sets.branch, t.last, t.upto), t.first, t.from);
+    Sets { branch, built }
 }
 
 // A vertex above the one before it.
@@ -428,7 +555,8 @@ fn read_further<'a>(
     let mut sets = start.sets;
     let mut left = count;
     while 0 < left {
-        let x = take_path(s, rows, n, at, sets, pointers, linked);
+        let y = take_path(s, rows, n, at, sets, pointers, linked);
+        let x = y.taken;
         let end = x.end;
         let answer = end.answer;
         let Answer::Accepted = answer else {

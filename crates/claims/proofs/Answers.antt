@@ -31,7 +31,8 @@ use Rattle.build.specs.declared.Build.{Build}
 use Rattle.build.specs.State.{BuildStart, startOn, startIn, buildStart, buildPath}
 use Rattle.sessions.specs.declared.Session.{Session}
 use Rattle.sessions.specs.declared.Opened.{Opened}
-use Rattle.sessions.specs.Session.{noSession, openedOn, onOpening, opening, refusedStep, onStart, startStep, pathCount, onPath, pathStep, closeStep}
+use Rattle.sessions.specs.Session.{noSession, openedOn, onOpening, opening, refusedStep, onStart, startStep, pathCount, onPath, isDue, pathStep, backStep, closeStep}
+use Rattle.sessions.proofs.Calls.{back-either}
 use Rattle.certifier.specs.declared.Made.{Made}
 use Rattle.certifier.specs.Made.{lengthBy, lengthFrom, madeFrom, gradeMade, certificateOf}
 use Rattle.claims.specs.Answers as listed
@@ -265,12 +266,15 @@ pathing : (s : Session) (part : List ℕ) → OneOf listed.pathAnswers 0 (length
 unfolding pathStep
 pathing s part =
     let g = rowsGraph (s .graph .n) (s .graph .rows) in
-    go (s .started && ltb (s .taken) (pathCount s)) (limited (g .n) (buildPath g (s .build)) part 0) (from-0 (build-path-by g (s .build)) part)
+    go (isDue s) (limited (g .n) (buildPath g (s .build)) part 0) (from-0 (build-path-by g (s .build)) part)
   where
     go : (b : Bool) (x : Read Path) → Ends (λ r. In r pathNumbers) part x → OneOf listed.pathAnswers 0 (length part) (cond b (onPath s x) (refusedStep s 31 0) .answer)
     go false x h = (member-in 31 pathNumbers refl, omega arith)
     go true (Got x next) h = refl
     go true (Refused r p) h = h
+
+taking-back : (s : Session) → OneOf listed.backAnswers 0 0 (backStep s .answer)
+taking-back s = back-either s (λ x. OneOf listed.backAnswers 0 0 (x .answer)) refl (inl refl, omega arith)
 
 closes : (s : Session) → OneOf listed.closingAnswers 0 0 (closeStep s .answer)
 unfolding closeStep
@@ -291,6 +295,7 @@ demand1-answers = record {
   opening = opens;
   starting = starting;
   pathing = pathing;
+  taking-back = taking-back;
   closing = closes;
 }
 

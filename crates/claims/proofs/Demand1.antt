@@ -1,11 +1,11 @@
--- DEMAND 1, SESSIONS: the code's session is document 01's, whatever calls come. Assumes nothing.
+-- DEMAND 1, SESSIONS: the code's session is that of documents 01 and 02, whatever calls come. Assumes nothing.
 use Prim.Native.Nat.{ℕ, _+_}
 use mathlib.Core.List.{List, [], _∷_}
 use mathlib.Core.Bool.{Bool, true, false, cond}
-use mathlib.Core.Path.{_≡_, refl, sym}
-use native.Mathlib.Omega.{arith}
+use mathlib.Core.Path.{_≡_, refl, sym, ap, _∙_}
 use lib.Dec.{ltb}
-use lib.ListN.{drop}
+use lib.ListN.{length, drop}
+use borrow.Author.Tests.{ltb-true}
 use Rattle.record.specs.Read.{Read, Read.Got, Read.Refused, Bytes, ended}
 use Rattle.record.specs.declared.Answer.the-variants.{Accepted, PlanFault}
 use Rattle.record.proofs.Laws.{ended-there}
@@ -18,21 +18,27 @@ use Rattle.certificates.specs.Records.{start as readStart, furtherPath}
 use Rattle.sessions.specs.declared.Session.{Session}
 use Rattle.sessions.specs.declared.Opened.{Opened}
 use Rattle.sessions.specs.declared.Stepped.{Stepped}
-use Rattle.sessions.specs.Session.{noSession, openedOn, onOpening, opening, refusedStep, onStart, startStep, onPath, pathStep, closeStep}
+use Rattle.sessions.specs.Session.{noSession, openedOn, onOpening, opening, refusedStep, onStart, startStep, onPath, pathStep, backStep, closeStep}
+use Rattle.sessions.proofs.Calls.{back-either}
 use Rattle.checker.specs.Check.{planGraph}
 use Rattle.claims.specs.Session as of
 use Rattle.claims.specs.Session.{State, State.never, State.waiting, State.building, Gives, due}
-use Rattle.claims.specs.Calls.{Call, Call.start, Call.path, Call.close, called, leftOf, calledOn, Heard, heard, heardOn}
+use Rattle.claims.specs.Calls.{Call, Call.start, Call.path, Call.back, Call.close, called, leftOf, calledOn, sessionAfter, Heard, heard, heardOn}
+use Rattle.claims.specs.Back.{stateAfter}
 use Rattle.claims.specs.Demands.{Demand1Sessions}
-use Rattle.claims.proofs.Sessions.{Building, never-accepts, close-same, refused-same, start-step, start-building, early-path, second-start, path-step, path-building, closing-is}
+use Rattle.claims.proofs.Sessions.{Building, Begun, Begun.first, Begun.more, begun-building, begun-back, begun-first, never-accepts, close-same, refused-same, start-step, early-path, early-back, second-start, path-step, closing-is}
 
--- the code's session is at this state of document 01's
+-- the parts may be any lists of numbers
+abbrev pub Any : List ℕ → Type 0
+Any part = Unit {0}
+
+-- the code's session is at this state of the documents' session
 abbrev pub At : Session → State → Type 0
 At s never = s ≡ noSession
 At s (waiting p) = Allowed p × (s ≡ openedOn (graphOf p))
-At s (building p links k) = Allowed p × Building p s links × (s .taken ≡ k)
+At s (building p links earlier) = Allowed p × Begun Any p s links earlier
 
--- a step of the code and what document 01's session gives agree on all that is heard, and lead to the same
+-- a step of the code and what the documents' session gives agree on all that is heard, and lead to the same
 pub record Agree (x : Stepped) (part : List ℕ) (y : Gives) : Type 0 where
   pub answer : x .answer ≡ y .answer
   pub unread : drop (x .read) part ≡ y .unread
@@ -48,26 +54,39 @@ module _ (p : Plan) (al : Allowed p) where
     where
       go : (x : Read ((ℕ × (ℕ × (ℕ × ℕ))) × List Path)) → readStart (planGraph p) part 0 ≡ x → Agree (onStart (openedOn (graphOf p)) x) part (of.onStartRead p part x)
       go (Refused r q) e = both-refuse (waiting p) (al, refl) part r q
-      go (Got x next) e = record { answer = refl; unread = refl; next = (al, start-building p al part x next e, refl) }
+      go (Got x next) e = record { answer = refl; unread = refl; next = (al, first part tt x next e) }
 
-  module _ {s : Session} {links : List Path} (h : Building p s links) where
-    both-path : (part : List ℕ) → Agree (pathStep s part) part (of.pathCall (building p links (s .taken)) part)
-    both-path part = rw (path-step p al h part) (test (ltb (s .taken) (due p)) (furtherPath (planGraph p) links part 0) refl)
+  module _ {s : Session} {links : List Path} {earlier : List (List Path)} (b : Begun Any p s links earlier) where
+    h : Building p s links
+    h = begun-building p al b .0
+
+    count : s .taken ≡ length earlier
+    count = begun-building p al b .1
+
+    both-path : (part : List ℕ) → Agree (pathStep s part) part (of.pathCall (building p links earlier) part)
+    both-path part =
+        let z : ltb (length earlier) (due p) ≡ ltb (s .taken) (due p) = ap (λ (k : ℕ). ltb k (due p)) (sym count) in
+        rw (path-step p al h part, z) (test (ltb (s .taken) (due p)) refl (furtherPath (planGraph p) links part 0) refl)
       where
-        test : (b : Bool) (x : Read Path) → furtherPath (planGraph p) links part 0 ≡ x
-            → Agree (cond b (onPath s x) (refusedStep s 31 0)) part (cond b (of.onPathRead p links (s .taken) part x) (of.refuses (building p links (s .taken)) part 31 0))
-        test false x e = both-refuse (building p links (s .taken)) (al, h, refl) part 31 0
-        test true (Refused r q) e = both-refuse (building p links (s .taken)) (al, h, refl) part r q
-        test true (Got P next) e = record { answer = refl; unread = refl; next = (al, path-building p al h part P next e, omega arith) }
+        test : (t : Bool) → ltb (s .taken) (due p) ≡ t → (x : Read Path) → furtherPath (planGraph p) links part 0 ≡ x
+            → Agree (cond t (onPath s x) (refusedStep s 31 0)) part (cond t (of.onPathRead p links earlier part x) (of.refuses (building p links earlier) part 31 0))
+        test false f x e = both-refuse (building p links earlier) (al, b) part 31 0
+        test true f (Refused r q) e = both-refuse (building p links earlier) (al, b) part r q
+        test true f (Got P next) e = record { answer = refl; unread = refl; next = (al, more b (ltb-true (s .taken) (due p) f) part tt P next e) }
 
-    both-close : Agree (closeStep s) [] (of.closeCall (building p links (s .taken)))
+    both-close : Agree (closeStep s) [] (of.closeCall (building p links earlier))
     unfolding closeStep
-    both-close = record { answer = closing-is p al h; unread = refl; next = (al, h, refl) }
+    both-close = record { answer = closing-is p al h ∙ ap (of.closingAnswer p links) count; unread = refl; next = (al, b) }
+
+  both-back : {s : Session} {links : List Path} (earlier : List (List Path)) → Begun Any p s links earlier → Agree (backStep s) [] (of.backCall (building p links earlier))
+  both-back {links = links} [] b = rw (begun-first p al b) (both-refuse (building p links []) (al, b) [] 31 0)
+  both-back (before ∷ earlier) b = let r = begun-back p al b in rw (r .2) (record { answer = refl; unread = refl; next = (al, r .1) })
 
 -- the part that a call hands in
 abbrev pub handed : Call → List ℕ
 handed (start part) = part
 handed (path part) = part
+handed back = []
 handed close = []
 
 -- EACH CALL agrees,
@@ -75,19 +94,23 @@ pub agree : (s : Session) (z : State) → At s z → (c : Call) → Agree (calle
 unfolding closeStep
 agree s never h (start part) = rw (h, never-accepts (start part)) (both-refuse never refl part 31 0)
 agree s never h (path part) = rw (h, never-accepts (path part)) (both-refuse never refl part 31 0)
+agree s never h back = rw (h, never-accepts back) (both-refuse never refl [] 31 0)
 agree s never h close = rw (h, never-accepts close) (both-refuse never refl [] 31 0)
 agree s (waiting p) h (start part) = rw (h .1) (both-start p (h .0) part)
 agree s (waiting p) h (path part) = rw (h .1, early-path p (h .0) part) (both-refuse (waiting p) (h .0, refl) part 31 0)
+agree s (waiting p) h back = rw (h .1, early-back p (h .0)) (both-refuse (waiting p) (h .0, refl) [] 31 0)
 agree s (waiting p) h close = rw (h .1) (both-refuse (waiting p) (h .0, refl) [] 31 0)
-agree s (building p links k) h (start part) = rw (second-start p (h .0) (h .1) part) (both-refuse (building p links k) h part 31 0)
-agree s (building p links k) h (path part) = rw (sym (h .2)) (both-path p (h .0) (h .1) part)
-agree s (building p links k) h close = rw (sym (h .2)) (both-close p (h .0) (h .1))
+agree s (building p links earlier) h (start part) = rw (second-start p (h .0) (begun-building p (h .0) (h .1) .0) part) (both-refuse (building p links earlier) h part 31 0)
+agree s (building p links earlier) h (path part) = both-path p (h .0) (h .1) part
+agree s (building p links earlier) h back = both-back p (h .0) earlier (h .1)
+agree s (building p links earlier) h close = both-close p (h .0) (h .1)
 
 -- what is left of the part, call by call
 rest-handed : (s : Session) (c : Call) → leftOf s c ≡ drop (called s c .read) (handed c)
 unfolding closeStep
 rest-handed s (start part) = refl
 rest-handed s (path part) = refl
+rest-handed s back = back-either s (λ x. _≡_ {A = List ℕ} [] (drop (x .read) [])) refl refl
 rest-handed s close = refl
 
 -- so every list of calls does
@@ -99,6 +122,11 @@ agree-all (c ∷ cs) s z h =
     rw (a .answer, rest-handed s c, a .unread) in
     let later = agree-all cs (called s c .session) (calledOn z c .state) (a .next) in
     λ i. first i ∷ later i
+
+-- the two sessions after a list of calls
+pub at-after : (calls : List Call) (s : Session) (z : State) → At s z → At (sessionAfter s calls) (stateAfter z calls)
+at-after [] s z h = h
+at-after (c ∷ cs) s z h = at-after cs (called s c .session) (calledOn z c .state) (agree s z h c .next)
 
 -- OPENING
 pub record OpensAt (x : Opened) (y : Gives) : Type 0 where
@@ -122,4 +150,4 @@ opens-at P bytes = go (ended plan P 0) refl
 pub demand1-sessions : Demand1Sessions
 demand1-sessions P bytes calls =
     let o = opens-at P bytes in
-    record { opens = o .answer; answers = agree-all calls (opening P .session) (of.openCall P .state) (o .state); unchanged = λ c r q e. refused-same _ c r q e .0; closed = close-same _ }
+    record { opens = o .answer; answers = agree-all calls (opening P .session) (of.openCall P .state) (o .state); unchanged = refused-same _; closed = close-same _ }

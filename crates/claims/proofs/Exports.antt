@@ -2,7 +2,7 @@
 -- read from their words, and a grade in a word is the figure of the plan. Assumes nothing.
 use Prim.Native.Nat.{ℕ, zero, suc, _+_, _*_, _-_, _/_, _%_, _≤_, _<_, _^_, min}
 use mathlib.Core.List.{List, [], _∷_, _++_, append-assoc}
-use mathlib.Core.Bool.{Bool, true, false, cond, _&&_, _||_, and-false}
+use mathlib.Core.Bool.{Bool, true, false, cond, _||_, and-false}
 use mathlib.Core.Path.{_≡_, refl, sym, ap, _∙_, subst}
 use mathlib.Core.Logic.{⊎-elim}
 use native.Mathlib.Nat.{pow-suc}
@@ -30,17 +30,18 @@ use Rattle.build.specs.State.{buildStart, buildPath}
 use Rattle.sessions.specs.declared.Session.{Session}
 use Rattle.sessions.specs.declared.Opened.{Opened}
 use Rattle.sessions.specs.declared.Stepped.{Stepped}
-use Rattle.sessions.specs.Session.{opening, startStep, pathStep, closeStep, onStart, onPath, pathCount, refusedStep}
+use Rattle.sessions.specs.Session.{opening, startStep, pathStep, backStep, closeStep, onStart, onPath, isDue, refusedStep}
+use Rattle.sessions.proofs.Calls.{back-either}
 use Rattle.script.specs.declared.Part.{Part}
 use Rattle.script.specs.declared.Part.the-variants.{Within, Cut}
 use Rattle.script.specs.Script.{partAt}
-use Rattle.script.specs.Replay.{word, answerWord, wordBytes, answerBytes, partOf, replayOf}
+use Rattle.script.specs.Replay.{word, answerWord, wordBytes, answerBytes, partOf, isLone, replayOf}
 use Rattle.script.proofs.Answers.{word-length}
 use Rattle.writing.specs.Write.{withPlan}
 use Rattle.writing.proofs.RoundTrip.{planned, record-again}
 use Rattle.fikzarn.specs.Words.{rewritten, gradeWord, madeWord}
 use Rattle.claims.specs.Certified.{HasFigure}
-use Rattle.claims.specs.Calls.{Call, Call.start, Call.path, Call.close, CallBytes, sessionAfter}
+use Rattle.claims.specs.Calls.{Call, Call.start, Call.path, Call.back, Call.close, CallBytes, sessionAfter}
 use Rattle.claims.specs.Answers as listed
 use Rattle.claims.specs.Answers.{Answers, OneOf}
 use Rattle.claims.specs.Exports.{inWord, decoded, Fits, wordOf, wordAt, onPartCalls, callsFrom, answersOf, scriptAnswers}
@@ -187,27 +188,30 @@ abbrev Each : (List ℕ → Type 0) → List Call → Type 0
 Each Q [] = Unit {0}
 Each Q (start part ∷ cs) = Q part × Each Q cs
 Each Q (path part ∷ cs) = Q part × Each Q cs
+Each Q (back ∷ cs) = Each Q cs
 Each Q (close ∷ cs) = Each Q cs
 
 calls-each : (Q : List ℕ → Type 0) (k : ℕ) (s : List ℕ) → ((a e : ℕ) → Q (partOf s a e)) → (at : ℕ) → Each Q (callsFrom k s at)
 unfolding callsFrom
 calls-each Q zero s part at = tt
 calls-each Q (suc k) s part at =
-    go (leb (length s) at) (eqb (getD s at 0) 99) (eqb (getD s at 0) 115 || eqb (getD s at 0) 112) (eqb (getD s at 0) 115) (partAt s (at + 1)) (calls-each Q k s part)
+    go (leb (length s) at) (isLone (getD s at 0)) (eqb (getD s at 0) 99) (eqb (getD s at 0) 115 || eqb (getD s at 0) 112) (eqb (getD s at 0) 115) (partAt s (at + 1)) (calls-each Q k s part)
   where
-    go : (b c d t : Bool) (p : Part) → ((e : ℕ) → Each Q (callsFrom k s e)) → Each Q
-        (cond b [] (cond c (close ∷ callsFrom k s (at + 1)) (cond d (onPartCalls p (λ a e. cond t (start (partOf s a e)) (path (partOf s a e)) ∷ callsFrom k s e)) [])))
-    go true c d t p rest = tt
-    go false true d t p rest = rest (at + 1)
-    go false false true true (Within a e) rest = (part a e, rest e)
-    go false false true false (Within a e) rest = (part a e, rest e)
-    go false false true t Cut rest = tt
-    go false false false t p rest = tt
+    go : (b c f d t : Bool) (p : Part) → ((e : ℕ) → Each Q (callsFrom k s e)) → Each Q
+        (cond b [] (cond c (cond f close back ∷ callsFrom k s (at + 1)) (cond d (onPartCalls p (λ a e. cond t (start (partOf s a e)) (path (partOf s a e)) ∷ callsFrom k s e)) [])))
+    go true c f d t p rest = tt
+    go false true true d t p rest = rest (at + 1)
+    go false true false d t p rest = rest (at + 1)
+    go false false f true true (Within a e) rest = (part a e, rest e)
+    go false false f true false (Within a e) rest = (part a e, rest e)
+    go false false f true t Cut rest = tt
+    go false false f false t p rest = tt
 
 each-bytes : (calls : List Call) → Each Bytes calls → CallBytes calls
 each-bytes [] h = tt
 each-bytes (start part ∷ cs) h = (h .0, each-bytes cs (h .1))
 each-bytes (path part ∷ cs) h = (h .0, each-bytes cs (h .1))
+each-bytes (back ∷ cs) h = each-bytes cs h
 each-bytes (close ∷ cs) h = each-bytes cs h
 
 calls-bytes : (k : ℕ) (s : List ℕ) → Bytes s → (at : ℕ) → CallBytes (callsFrom k s at)
@@ -223,9 +227,11 @@ answers-fit s (start part ∷ cs) h zero =
     listed-fits listed.startAnswers 0 (length part) refl refl refl (omega arith) (h .0) (startStep s part .answer) (demand1-answers .starting s part)
 answers-fit s (path part ∷ cs) h zero =
     listed-fits listed.pathAnswers 0 (length part) refl refl refl (omega arith) (h .0) (pathStep s part .answer) (demand1-answers .pathing s part)
+answers-fit s (back ∷ cs) h zero = listed-fits listed.backAnswers 0 0 refl refl refl (omega arith) (omega arith) (backStep s .answer) (demand1-answers .taking-back s)
 answers-fit s (close ∷ cs) h zero = listed-fits listed.closingAnswers 0 0 refl refl refl (omega arith) (omega arith) (closeStep s .answer) (demand1-answers .closing s)
 answers-fit s (start part ∷ cs) h (suc i) = answers-fit (startStep s part .session) cs (h .1) i
 answers-fit s (path part ∷ cs) h (suc i) = answers-fit (pathStep s part .session) cs (h .1) i
+answers-fit s (back ∷ cs) h (suc i) = answers-fit (backStep s .session) cs h i
 answers-fit s (close ∷ cs) h (suc i) = answers-fit (closeStep s .session) cs h i
 
 script-fits : (s : List ℕ) → length s < 2 ^ 48 → (a e i : ℕ) → Fits (getD (scriptAnswers s a e) i Accepted)
@@ -257,8 +263,11 @@ start-no-grade s part e = read-no-grade s (onStart s) (λ x next. refl) (λ n at
 
 path-no-grade : (s : Session) (part : List ℕ) {j : ℕ} → pathStep s part .answer ≡ Grade j → ⊥
 unfolding pathStep
-path-no-grade s part e = read-no-grade s (onPath s) (λ x next. refl) (λ n at. refl) (s .started && ltb (s .taken) (pathCount s))
+path-no-grade s part e = read-no-grade s (onPath s) (λ x next. refl) (λ n at. refl) (isDue s)
     (limited (s .graph .n) (buildPath (rowsGraph (s .graph .n) (s .graph .rows)) (s .build)) part 0) e
+
+back-no-grade : (s : Session) {j : ℕ} → backStep s .answer ≡ Grade j → ⊥
+back-no-grade s {j} = back-either s (λ x. x .answer ≡ Grade j → ⊥) (λ e. let z : _≡_ {A = ℕ} 0 1 = cc in omega arith) (λ e. let z : _≡_ {A = ℕ} 0 1 = cc in omega arith)
 
 -- so a grade among the answers of calls is what closing answers after those before it
 abbrev Closes : Session → ℕ → Type 0
@@ -268,9 +277,11 @@ closes : (s : Session) (calls : List Call) → CallBytes calls → (i : ℕ) {j 
 closes s [] bytes i e = let z : _≡_ {A = ℕ} 0 1 = cc in absurd (omega arith)
 closes s (start part ∷ cs) bytes zero e = absurd (start-no-grade s part e)
 closes s (path part ∷ cs) bytes zero e = absurd (path-no-grade s part e)
+closes s (back ∷ cs) bytes zero e = absurd (back-no-grade s e)
 closes s (close ∷ cs) bytes zero e = ([], tt, e)
 closes s (start part ∷ cs) bytes (suc i) e = let r = closes (startStep s part .session) cs (bytes .1) i e in (start part ∷ r .0, (bytes .0, r .1), r .2)
 closes s (path part ∷ cs) bytes (suc i) e = let r = closes (pathStep s part .session) cs (bytes .1) i e in (path part ∷ r .0, (bytes .0, r .1), r .2)
+closes s (back ∷ cs) bytes (suc i) e = let r = closes (backStep s .session) cs bytes i e in (back ∷ r .0, r .1, r .2)
 closes s (close ∷ cs) bytes (suc i) e = let r = closes (closeStep s .session) cs bytes i e in (close ∷ r .0, r .1, r .2)
 
 script-closes : (s : List ℕ) → Bytes s → (a e i j : ℕ) → getD (scriptAnswers s a e) i Accepted ≡ Grade j → Closes (opening (partOf s a e) .session) j

@@ -2,6 +2,7 @@ pub mod Starred
 pub mod Maker
 pub mod Demands
 pub mod Demand1
+pub mod Back
 pub mod Answers
 pub mod Lengths
 pub mod Walks

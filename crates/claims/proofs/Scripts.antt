@@ -16,16 +16,15 @@ use Rattle.record.specs.Write.{overwritten}
 use Rattle.record.specs.declared.Answer.{Answer}
 use Rattle.record.proofs.Write.{overwritten-none, overwritten-length, overwritten-more}
 use Rattle.sessions.specs.declared.Session.{Session}
-use Rattle.sessions.specs.Session.{opening, startStep, pathStep, closeStep}
+use Rattle.sessions.specs.Session.{opening, startStep, pathStep, backStep, closeStep}
 use Rattle.script.specs.declared.Part.{Part}
 use Rattle.script.specs.declared.Part.the-variants.{Within, Cut}
 use Rattle.script.specs.Script.{sizeAt, partAt}
-use Rattle.script.specs.Replay.{answerWord, answerBytes, Reply, reply, hasRoomFor, withAnswer, partOf, stepOf, onPart, replayOn, opened, replayOf}
+use Rattle.script.specs.Replay.{answerWord, answerBytes, Reply, reply, hasRoomFor, withAnswer, partOf, stepOf, isLone, loneOf, onPart, replayOn, opened, replayOf}
 use Rattle.script.proofs.Answers.{word-length}
-use Rattle.claims.specs.Calls.{Call, Call.start, Call.path, Call.close, CallBytes, called}
-use Rattle.claims.specs.Exports.{partBytes, callBytes, scriptBytes, Short, callOf, onPartCalls, callsFrom, answersOf, scriptAnswers}
+use Rattle.claims.specs.Calls.{Call, Call.start, Call.path, Call.back, Call.close, CallBytes, called}
+use Rattle.claims.specs.Exports.{partBytes, callBytes, scriptBytes, Short, callOf, loneCall, onPartCalls, callsFrom, answersOf, scriptAnswers}
 use Rattle.claims.specs.Demands.{ScriptsEncode, ScriptsReplay, ScriptReplies, ScriptCut}
-use Rattle.claims.proofs.Sessions.{close-same}
 
 -- A PART behind other bytes is found, and is what was written
 module _ (front part behind : List ℕ) (at : ℕ) (h : length front ≡ at) where
@@ -62,21 +61,22 @@ pub record PartCall (s : List ℕ) (at call : ℕ) (part : List ℕ) : Type 0 wh
   pub within : partAt s (at + 1) ≡ Within (at + 3) (at + 3 + length part)
   pub handed : partOf s (at + 3) (at + 3 + length part) ≡ part
 
-pub record CloseCall (s : List ℕ) (at : ℕ) : Type 0 where
+pub record LoneCall (s : List ℕ) (at call : ℕ) : Type 0 where
   pub inside : leb (length s) at ≡ false
-  pub byte : getD s at 0 ≡ 99
+  pub byte : getD s at 0 ≡ call
 
 abbrev pub Has : List ℕ → ℕ → List Call → Type 0
 Has s at [] = leb (length s) at ≡ true
 Has s at (start part ∷ cs) = PartCall s at 115 part × Has s (at + 3 + length part) cs
 Has s at (path part ∷ cs) = PartCall s at 112 part × Has s (at + 3 + length part) cs
-Has s at (close ∷ cs) = CloseCall s at × Has s (at + 1) cs
+Has s at (back ∷ cs) = LoneCall s at 98 × Has s (at + 1) cs
+Has s at (close ∷ cs) = LoneCall s at 99 × Has s (at + 1) cs
 
 module _ (front behind : List ℕ) where
-  close-there : CloseCall (front ++ (99 ∷ behind)) (length front)
-  close-there =
-      let n = length-append front (99 ∷ behind) in
-      record { inside = lt-leb (length (front ++ (99 ∷ behind))) (length front) (omega (arith, n)); byte = getD-at front 99 behind 0 (length front) refl }
+  lone-there : (call : ℕ) → LoneCall (front ++ (call ∷ behind)) (length front) call
+  lone-there call =
+      let n = length-append front (call ∷ behind) in
+      record { inside = lt-leb (length (front ++ (call ∷ behind))) (length front) (omega (arith, n)); byte = getD-at front call behind 0 (length front) refl }
 
   part-there : (call : ℕ) (part : List ℕ) → PartCall (front ++ (call ∷ partBytes part ++ behind)) (length front) call part
   part-there call part =
@@ -102,7 +102,8 @@ unfolding listBytes
 calls-there front [] = le-leb (length (front ++ [])) (length front) (omega (arith, length-append front []))
 calls-there front (start part ∷ cs) = (part-there front (listBytes callBytes cs) 115 part, later front (start part) cs _ (omega arith) (calls-there (front ++ callBytes (start part)) cs))
 calls-there front (path part ∷ cs) = (part-there front (listBytes callBytes cs) 112 part, later front (path part) cs _ (omega arith) (calls-there (front ++ callBytes (path part)) cs))
-calls-there front (close ∷ cs) = (close-there front (listBytes callBytes cs), later front close cs _ (omega arith) (calls-there (front ++ callBytes close) cs))
+calls-there front (back ∷ cs) = (lone-there front (listBytes callBytes cs) 98, later front back cs _ (omega arith) (calls-there (front ++ callBytes back) cs))
+calls-there front (close ∷ cs) = (lone-there front (listBytes callBytes cs) 99, later front close cs _ (omega arith) (calls-there (front ++ callBytes close) cs))
 
 -- of which there are no more than bytes
 calls-few : (calls : List Call) → length calls ≤ length (listBytes callBytes calls)
@@ -110,6 +111,7 @@ unfolding listBytes
 calls-few [] = omega arith
 calls-few (start part ∷ cs) = omega (arith, calls-few cs, length-append part (listBytes callBytes cs))
 calls-few (path part ∷ cs) = omega (arith, calls-few cs, length-append part (listBytes callBytes cs))
+calls-few (back ∷ cs) = omega (arith, calls-few cs)
 calls-few (close ∷ cs) = omega (arith, calls-few cs)
 
 -- the calls of a script
@@ -135,6 +137,9 @@ calls-back (suc k) s at (start part ∷ cs) h f =
 calls-back (suc k) s at (path part ∷ cs) h f =
     let c = h .0 in
     rw (c .inside, c .byte, c .within, c .handed) (ap (λ (l : List Call). path part ∷ l) (calls-back k s (at + 3 + length part) cs (h .1) (omega arith)))
+calls-back (suc k) s at (back ∷ cs) h f =
+    let c = h .0 in
+    rw (c .inside, c .byte) (ap (λ (l : List Call). back ∷ l) (calls-back k s (at + 1) cs (h .1) (omega arith)))
 calls-back (suc k) s at (close ∷ cs) h f =
     let c = h .0 in
     rw (c .inside, c .byte) (ap (λ (l : List Call). close ∷ l) (calls-back k s (at + 1) cs (h .1) (omega arith)))
@@ -158,6 +163,7 @@ unfolding listBytes
 written-calls [] h f = λ i. omega arith
 written-calls (start part ∷ cs) h f = bytes-cons 115 (partBytes part ++ listBytes callBytes cs) (omega arith) (written-part part (listBytes callBytes cs) (h .0) (f .0) (written-calls cs (h .1) (f .1)))
 written-calls (path part ∷ cs) h f = bytes-cons 112 (partBytes part ++ listBytes callBytes cs) (omega arith) (written-part part (listBytes callBytes cs) (h .0) (f .0) (written-calls cs (h .1) (f .1)))
+written-calls (back ∷ cs) h f = bytes-cons 98 (listBytes callBytes cs) (omega arith) (written-calls cs h f)
 written-calls (close ∷ cs) h f = bytes-cons 99 (listBytes callBytes cs) (omega arith) (written-calls cs h f)
 
 pub scripts-encode : ScriptsEncode
@@ -215,6 +221,13 @@ step-called call session part = go (eqb call 115)
     go true = refl
     go false = refl
 
+lone-called : (call : ℕ) (session : Session) → loneOf call session ≡ called session (loneCall call)
+lone-called call session = go (eqb call 99)
+  where
+    go : (b : Bool) → cond b (closeStep session) (backStep session) ≡ called session (cond b close back)
+    go true = refl
+    go false = refl
+
 -- k calls of a script, from any place and session on
 abbrev Replays : ℕ → List ℕ → Type 0
 Replays k s =
@@ -223,19 +236,20 @@ Replays k s =
 
 turn-tells : (k : ℕ) (s : List ℕ) → Replays k s → Replays (suc k) s
 unfolding replayOn callsFrom
-turn-tells k s rest session at buffer count room h = go (leb (length s) at) (eqb (getD s at 0) 99) (eqb (getD s at 0) 115 || eqb (getD s at 0) 112) (partAt s (at + 1))
+turn-tells k s rest session at buffer count room h = go (leb (length s) at) (isLone (getD s at 0)) (eqb (getD s at 0) 115 || eqb (getD s at 0) 112) (partAt s (at + 1))
   where
     go : (b c d : Bool) (p : Part) → TellsOn
         (cond b (reply buffer count 0) (cond c
-        (cond (hasRoomFor buffer count) (replayOn k s session (at + 1) (withAnswer buffer count (closeStep session .answer)) (count + 1)) (reply buffer count 3))
+        (cond (hasRoomFor buffer count)
+        (replayOn k s (loneOf (getD s at 0) session .session) (at + 1) (withAnswer buffer count (loneOf (getD s at 0) session .answer)) (count + 1)) (reply buffer count 3))
         (cond d (onPart p (reply buffer count 1) (λ start end.
         cond (hasRoomFor buffer count)
         (replayOn k s (stepOf (getD s at 0) session (partOf s start end) .session) end (withAnswer buffer count (stepOf (getD s at 0) session (partOf s start end) .answer)) (count + 1))
         (reply buffer count 3))) (reply buffer count 2))))
-        buffer count room (answersOf session (cond b [] (cond c (close ∷ callsFrom k s (at + 1))
+        buffer count room (answersOf session (cond b [] (cond c (loneCall (getD s at 0) ∷ callsFrom k s (at + 1))
         (cond d (onPartCalls p (λ a e. callOf (getD s at 0) (partOf s a e) ∷ callsFrom k s e)) []))))
     go true c d p = tells-none buffer count room 0 (omega arith)
-    go false true d p = one-more buffer count room h (closeStep session .answer) _ _ (λ left e. rw (close-same session) (rest session (at + 1) _ (count + 1) left e))
+    go false true d p = rw (lone-called (getD s at 0) session) (one-more buffer count room h _ _ _ (λ left e. rest _ (at + 1) _ (count + 1) left e))
     go false false true Cut = tells-none buffer count room 1 (omega arith)
     go false false true (Within a e) = rw (step-called (getD s at 0) session (partOf s a e)) (one-more buffer count room h _ _ _ (λ left f. rest _ e _ (count + 1) left f))
     go false false false p = tells-none buffer count room 2 (omega arith)
@@ -285,10 +299,14 @@ ends (suc k) s session at buffer count (path part ∷ cs) h f r =
     let c = h .0 in
     rw (c .inside, c .byte, c .within, c .handed, room-for buffer count (omega arith))
     (ends k s (pathStep session part .session) (at + 3 + length part) _ (count + 1) cs (h .1) (omega arith) (room-left buffer count (pathStep session part .answer) (length cs) r))
+ends (suc k) s session at buffer count (back ∷ cs) h f r =
+    let c = h .0 in
+    rw (c .inside, c .byte, room-for buffer count (omega arith))
+    (ends k s (backStep session .session) (at + 1) _ (count + 1) cs (h .1) (omega arith) (room-left buffer count (backStep session .answer) (length cs) r))
 ends (suc k) s session at buffer count (close ∷ cs) h f r =
     let c = h .0 in
     rw (c .inside, c .byte, room-for buffer count (omega arith))
-    (ends k s session (at + 1) _ (count + 1) cs (h .1) (omega arith) (room-left buffer count (closeStep session .answer) (length cs) r))
+    (ends k s (closeStep session .session) (at + 1) _ (count + 1) cs (h .1) (omega arith) (room-left buffer count (closeStep session .answer) (length cs) r))
 
 pub script-replies : ScriptReplies
 script-replies P calls buffer p f r =

@@ -8,7 +8,7 @@ use Rattle.certificates.specs.Records.{vertex, sideVertex, side, pair, vertexLi
 use Rattle.checker.specs.Check.{checkOf, certificateAnswer, gradeOf}
 use Rattle.lines.specs.Lines.{digitsIn}
 use Rattle.gradeline.specs.Line.{gradeLine}
-use Rattle.claims.specs.Starred.{starred, doubled, besideLink, AllAnswered, BarnAPrinted}
+use Rattle.claims.specs.Starred.{starred, doubled, besideLink, AllAnswered, BarnAPrinted, BackTold}
 
 pub all-starred : AllAnswered starred
 unfolding _needs⟨_⟩_ _▸_ _▹_ into many check ended folded number numberIn higherGroups edge plan someBelow allBelow anyLink each along distinct vertex sideVertex side pair vertexList path ear startPath furtherPath branchFour start certificate checkOf certificateAnswer
@@ -28,3 +28,8 @@ barn-a-printed = refl
 pub beside-link : checkOf (besideLink .plan) (besideLink .certificate) ≡ besideLink .answer
 unfolding _needs⟨_⟩_ _▸_ _▹_ into many check ended folded number numberIn higherGroups edge plan someBelow allBelow anyLink each along distinct vertex sideVertex side pair vertexList path ear startPath furtherPath branchFour start certificate checkOf certificateAnswer
 beside-link = refl
+
+-- taking back, on the documents' session
+pub back-told : BackTold
+unfolding _needs⟨_⟩_ _▸_ _▹_ into many ended folded number numberIn higherGroups edge plan allBelow anyLink each along distinct vertex vertexList path startPath furtherPath branchFour start
+back-told = refl

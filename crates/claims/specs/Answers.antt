@@ -60,5 +60,9 @@ startAnswers = answers true [] [] (1 ∷ 2 ∷ 9 ∷ 20 ∷ 24 ∷ 25 ∷ 26 ∷
 abbrev pub pathAnswers : Answers
 pathAnswers = answers true [] [] (1 ∷ 2 ∷ 9 ∷ 24 ∷ 25 ∷ 26 ∷ 27 ∷ 31 ∷ [])
 
+-- "its record at fault is the certificate"
+abbrev pub backAnswers : Answers
+backAnswers = answers true [] [] (31 ∷ [])
+
 abbrev pub closingAnswers : Answers
 closingAnswers = answers false (3 ∷ []) [] (28 ∷ 31 ∷ [])

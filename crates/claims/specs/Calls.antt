@@ -10,12 +10,14 @@ use Rattle.record.specs.declared.Answer.the-variants.{Accepted, Grade}
 use Rattle.reading.specs.Plan.{Plan, planBytes}
 use Rattle.sessions.specs.declared.Session.{Session}
 use Rattle.sessions.specs.declared.Stepped.{Stepped}
-use Rattle.sessions.specs.Session.{opening, startStep, pathStep, closeStep, startRest, pathRest}
-use Rattle.claims.specs.Session.{State, Gives, due, startCall, pathCall, closeCall}
+use Rattle.sessions.specs.Session.{opening, startStep, pathStep, backStep, closeStep, startRest, pathRest}
+use Rattle.claims.specs.Session.{State, Gives, due, startCall, pathCall, backCall, closeCall}
 
+-- "Taking back is a session call like the others"
 pub data Call : Type 0 where
   start : (part : List ℕ) → Call
   path : (part : List ℕ) → Call
+  back : Call
   close : Call
 
 -- what is handed in are bytes
@@ -23,23 +25,27 @@ abbrev pub CallBytes : List Call → Type 0
 CallBytes [] = Unit {0}
 CallBytes (start part ∷ cs) = Bytes part × CallBytes cs
 CallBytes (path part ∷ cs) = Bytes part × CallBytes cs
+CallBytes (back ∷ cs) = CallBytes cs
 CallBytes (close ∷ cs) = CallBytes cs
 
 -- the code's session, by the promises of its calls ..
 abbrev pub called : Session → Call → Stepped
 called s (start part) = startStep s part
 called s (path part) = pathStep s part
+called s back = backStep s
 called s close = closeStep s
 
 abbrev pub leftOf : Session → Call → List ℕ
 leftOf s (start part) = startRest s part
 leftOf s (path part) = pathRest s part
+leftOf s back = []
 leftOf s close = []
 
--- .. and the session of document 01
+-- .. and the session of documents 01 and 02
 abbrev pub calledOn : State → Call → Gives
 calledOn z (start part) = startCall z part
 calledOn z (path part) = pathCall z part
+calledOn z back = backCall z
 calledOn z close = closeCall z
 
 -- the session after a list of calls, refused ones among them: each gets the session that the last one returned

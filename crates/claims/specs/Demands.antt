@@ -19,7 +19,7 @@ use Rattle.connectivity.specs.Connectivity.{connectivity}
 use Rattle.reading.specs.Plan.{Plan, Allowed, plan, planBytes}
 use Rattle.reading.specs.Code.{wholePlan}
 use Rattle.sessions.specs.declared.Session.{Session}
-use Rattle.sessions.specs.Session.{opening, startStep, pathStep, closeStep}
+use Rattle.sessions.specs.Session.{opening, startStep, pathStep, backStep, closeStep}
 use Rattle.checker.specs.Check.{planGraph, checkOf, gradeOf}
 use Rattle.construction.specs.Ears.{pathSpace}
 use Rattle.construction.specs.Construction.{certificate}
@@ -41,20 +41,20 @@ use Rattle.claims.specs.Exports.{decoded, Fits, wordAt, scriptBytes, Sho
 use Rattle.claims.specs.Printed.{callLines, GradePrinted, CertificatePrinted}
 
 -- DEMAND 1. "a faulty record or a call out of turn gets the number and place listed in document 01; a refused session is unchanged".
--- From the opening on, whatever calls come, the session is document 01's (specs/Session): each answers what that one answers and leaves
--- unread what that one leaves; and a call that is refused, and a closing, leave the session's value as it was.
+-- From the opening on, whatever calls come, the session is that of documents 01 and 02 (specs/Session): each answers what that one answers and
+-- leaves unread what that one leaves; a call that is refused leaves the session's value as it was and reads nothing, and a closing leaves it too.
 pub record SessionIs (P : List ℕ) (calls : List Call) : Type 0 where
   pub opens : opening P .answer ≡ of.openCall P .answer
   pub answers : heard (opening P .session) calls ≡ heardOn (of.openCall P .state) calls
   pub unchanged : (c : Call) (r p : ℕ) → called (sessionAfter (opening P .session) calls) c .answer ≡ CertificateFault r p
-      → called (sessionAfter (opening P .session) calls) c .session ≡ sessionAfter (opening P .session) calls
+      → (called (sessionAfter (opening P .session) calls) c .session ≡ sessionAfter (opening P .session) calls) × (called (sessionAfter (opening P .session) calls) c .read ≡ 0)
   pub closed : closeStep (sessionAfter (opening P .session) calls) .session ≡ sessionAfter (opening P .session) calls
 
 abbrev pub Demand1Sessions : Type 0
 Demand1Sessions = (P : List ℕ) → Bytes P → (calls : List Call) → SessionIs P calls
 
 -- Every answer is one that documents 01 and 02 list for that call: a refusal has one of its numbers and a place within the record, and where a
--- grade is due no answer is `Accepted`. Start, path and closing, on every value of a session.
+-- grade is due no answer is `Accepted`. Start, path, taking back and closing, on every value of a session.
 pub record Demand1Answers : Type 0 where
   pub reading : (P : List ℕ) → OneOf listed.readingAnswers (length P) 0 (wholePlan P .answer)
   pub checking : (P C : List ℕ) → OneOf listed.checkingAnswers (length P) (length C) (checkOf P C)
@@ -64,6 +64,7 @@ pub record Demand1Answers : Type 0 where
   pub opening : (P : List ℕ) → OneOf listed.openingAnswers (length P) 0 (opening P .answer)
   pub starting : (s : Session) (part : List ℕ) → OneOf listed.startAnswers 0 (length part) (startStep s part .answer)
   pub pathing : (s : Session) (part : List ℕ) → OneOf listed.pathAnswers 0 (length part) (pathStep s part .answer)
+  pub taking-back : (s : Session) → OneOf listed.backAnswers 0 0 (backStep s .answer)
   pub closing : (s : Session) → OneOf listed.closingAnswers 0 0 (closeStep s .answer)
 
 -- "Plan faults come before certificate faults": the checker gives a plan's fault exactly where reading the plan gives it.
@@ -133,7 +134,8 @@ abbrev pub PlanAccepted : Type 0
 PlanAccepted = (P : List ℕ) → Bytes P → (wholePlan P .answer ≡ Accepted) ↔ ((p : Plan) × IsPlan P p)
 
 -- "A grade is accepted when the checker answers it for a plan and a certificate, the maker for a plan, or closing for the plan
--- its session was opened on.": the maker with a buffer or asked for the length alone, closing after any list of session calls.
+-- its session was opened on.": the maker with a buffer or asked for the length alone, closing after any list of session calls (taking back is "in demand
+-- 3's list too").
 pub data AcceptedGrade (P : List ℕ) (k : ℕ) : Type 0 where
   checked : (C : List ℕ) → Bytes C → checkOf P C ≡ Grade k → AcceptedGrade P k
   made-for : (buffer : List ℕ) → madeFrom P buffer .answer ≡ Grade k → AcceptedGrade P k
@@ -242,7 +244,7 @@ pub record GradesInWords : Type 0 where
   pub of-session : (s buffer : List ℕ) → Bytes s → (a e : ℕ) → partAt s 0 ≡ Within a e → (i k : ℕ) → i < replayOf s buffer .count
       → decoded (wordAt (replayOf s buffer .buffer) i) ≡ Grade k → HasFigure (partOf s a e) k
 
--- THE PROGRAMS. The session program prints a line for each call of its script, the opening's first: those of document 01's session.
+-- THE PROGRAMS. The session program prints a line for each call of its script, the opening's first: those of the session of documents 01 and 02.
 abbrev pub SessionPrints : Type 0
 SessionPrints =
     (P : List ℕ) (calls : List Call) → Bytes P → length (scriptBytes P calls) ≤ scriptLimit

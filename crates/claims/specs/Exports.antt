@@ -14,8 +14,8 @@ use Rattle.sessions.specs.Session.{opening}
 use Rattle.script.specs.declared.Part.{Part}
 use Rattle.script.specs.declared.Part.the-variants.{Within, Cut}
 use Rattle.script.specs.Script.{partAt}
-use Rattle.script.specs.Replay.{answerBytes, partOf, replayOf}
-use Rattle.claims.specs.Calls.{Call, Call.start, Call.path, Call.close, called}
+use Rattle.script.specs.Replay.{answerBytes, partOf, isLone, replayOf}
+use Rattle.claims.specs.Calls.{Call, Call.start, Call.path, Call.back, Call.close, called}
 
 -- A WORD taken apart: the case in the lowest byte, the number in the next, the place in the six above
 abbrev pub inWord : ℕ → ℕ → ℕ → Answer
@@ -49,6 +49,7 @@ partBytes part = (length part % 256) ∷ (length part / 256) ∷ part
 abbrev pub callBytes : Call → List ℕ
 callBytes (start part) = 115 ∷ partBytes part
 callBytes (path part) = 112 ∷ partBytes part
+callBytes back = 98 ∷ []
 callBytes close = 99 ∷ []
 
 abbrev pub scriptBytes : List ℕ → List Call → List ℕ
@@ -59,11 +60,15 @@ abbrev pub Short : List Call → Type 0
 Short [] = Unit {0}
 Short (start part ∷ cs) = (length part < 65536) × Short cs
 Short (path part ∷ cs) = (length part < 65536) × Short cs
+Short (back ∷ cs) = Short cs
 Short (close ∷ cs) = Short cs
 
 -- THE CALLS THAT A SCRIPT HAS from a place on, at most k: up to its end, to a part that is cut, or to a call that is none
 abbrev pub callOf : ℕ → List ℕ → Call
 callOf call part = cond (eqb call 115) (start part) (path part)
+
+abbrev pub loneCall : ℕ → Call
+loneCall call = cond (eqb call 99) close back
 
 abbrev pub onPartCalls : Part → (ℕ → ℕ → List Call) → List Call
 onPartCalls Cut f = []
@@ -74,8 +79,8 @@ callsFrom zero s at = []
 callsFrom (suc k) s at =
     cond (leb (length s) at)
     []
-    (cond (eqb (getD s at 0) 99)
-    (close ∷ callsFrom k s (at + 1))
+    (cond (isLone (getD s at 0))
+    (loneCall (getD s at 0) ∷ callsFrom k s (at + 1))
     (cond (eqb (getD s at 0) 115 || eqb (getD s at 0) 112)
     (onPartCalls (partAt s (at + 1)) (λ a e. callOf (getD s at 0) (partOf s a e) ∷ callsFrom k s e))
     []))

@@ -1,11 +1,12 @@
-pub mod Starred
 pub mod Certified
 pub mod Session
 pub mod Calls
+pub mod Starred
 pub mod Answers
 pub mod Exports
 pub mod Printed
 pub mod Demands
+pub mod Back
 pub mod Lengths
 pub mod Walks
 pub mod Doubles

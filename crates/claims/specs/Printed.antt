@@ -10,12 +10,13 @@ use Rattle.certifybytes.specs.Bytes.{certifyBytes}
 use Rattle.sessionlines.specs.Lines.{answerLine, stepLine}
 use Rattle.claims.specs.Certified.{HasFigure}
 use Rattle.claims.specs.Session.{State, Gives}
-use Rattle.claims.specs.Calls.{Call, Call.start, Call.path, Call.close, calledOn}
+use Rattle.claims.specs.Calls.{Call, Call.start, Call.path, Call.back, Call.close, calledOn}
 
--- the session program's line for a call of document 01's session, and its lines for a list of calls
+-- the session program's line for a call of the session of documents 01 and 02, and its lines for a list of calls
 abbrev pub callLine : Call → Gives → List ℕ
 callLine (start part) x = stepLine (length (x .unread)) (x .answer)
 callLine (path part) x = stepLine (length (x .unread)) (x .answer)
+callLine back x = answerLine (x .answer)
 callLine close x = answerLine (x .answer)
 
 abbrev pub callLines : State → List Call → List ℕ

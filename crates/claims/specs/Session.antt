@@ -1,9 +1,9 @@
--- THE SESSION in document 01's words, on lists of links: what it is, and what each of its four calls gives.
-use Prim.Native.Nat.{ℕ, suc, _+_}
-use mathlib.Core.List.{List, []}
+-- THE SESSION in the words of documents 01 and 02, on lists of links: what it is, and what each of its five calls gives.
+use Prim.Native.Nat.{ℕ, _+_}
+use mathlib.Core.List.{List, [], _∷_}
 use mathlib.Core.Bool.{cond}
 use lib.Dec.{ltb, eqb}
-use lib.ListN.{drop}
+use lib.ListN.{length, drop}
 use Rattle.record.specs.Read.{Read, Read.Got, Read.Refused, ended}
 use Rattle.record.specs.declared.Answer.{Answer}
 use Rattle.record.specs.declared.Answer.the-variants.{Accepted, Grade, PlanFault, CertificateFault}
@@ -15,11 +15,12 @@ use Rattle.certificates.specs.Tests.{allBelow, isBranch}
 use Rattle.certificates.specs.Records.{start, furtherPath}
 use Rattle.checker.specs.Check.{planGraph}
 
--- Never opened; opened on a plan; or started on it, with the links of the build and how many paths have come after the start.
+-- Never opened; opened on a plan; or started on it, with the links of the build and, for each path that has come after the start, the links as
+-- they were before it, the last path's first.
 pub data State : Type 0 where
   never : State
   waiting : (p : Plan) → State
-  building : (p : Plan) (links : List Path) (paths : ℕ) → State
+  building : (p : Plan) (links : List Path) (earlier : List (List Path)) → State
 
 -- What a call gives: its answer, the session then, and what of the part handed in was not read.
 pub record Gives : Type 0 where
@@ -48,28 +49,36 @@ openCall P = onPlanRead (ended plan P 0)
 
 -- A START is read as a certificate's is; its six paths are the first links. 31 before reading: never opened, or a second start.
 abbrev pub onStartRead : Plan → List ℕ → Read ((ℕ × (ℕ × (ℕ × ℕ))) × List Path) → Gives
-onStartRead p part (Got x next) = gives Accepted (building p (x .1) 0) (drop next part)
+onStartRead p part (Got x next) = gives Accepted (building p (x .1) []) (drop next part)
 onStartRead p part (Refused r at) = refuses (waiting p) part r at
 
 abbrev pub startCall : State → List ℕ → Gives
 startCall never part = refuses never part 31 0
 startCall (waiting p) part = onStartRead p part (start (planGraph p) part 0)
-startCall (building p links k) part = refuses (building p links k) part 31 0
+startCall (building p links earlier) part = refuses (building p links earlier) part 31 0
 
 -- how many paths come after the start: d - n - 2
 abbrev pub due : Plan → ℕ
 due p = furtherCount (pairCount p) (p .n)
 
 -- A PATH is read beside the links, and taken in. 31 before reading: before the start, or where none is due any more.
-abbrev pub onPathRead : Plan → List Path → ℕ → List ℕ → Read Path → Gives
-onPathRead p links k part (Got P next) = gives Accepted (building p (taken links P) (suc k)) (drop next part)
-onPathRead p links k part (Refused r at) = refuses (building p links k) part r at
+abbrev pub onPathRead : Plan → List Path → List (List Path) → List ℕ → Read Path → Gives
+onPathRead p links earlier part (Got P next) = gives Accepted (building p (taken links P) (links ∷ earlier)) (drop next part)
+onPathRead p links earlier part (Refused r at) = refuses (building p links earlier) part r at
 
 abbrev pub pathCall : State → List ℕ → Gives
 pathCall never part = refuses never part 31 0
 pathCall (waiting p) part = refuses (waiting p) part 31 0
-pathCall (building p links k) part =
-    cond (ltb k (due p)) (onPathRead p links k part (furtherPath (planGraph p) links part 0)) (refuses (building p links k) part 31 0)
+pathCall (building p links earlier) part =
+    cond (ltb (length earlier) (due p)) (onPathRead p links earlier part (furtherPath (planGraph p) links part 0)) (refuses (building p links earlier) part 31 0)
+
+-- TAKING BACK: "the session equals the one before that path". "Number 31 is given at place 0 when no path is there to take back.", and "The start
+-- itself can't be taken back." Nothing is read.
+abbrev pub backCall : State → Gives
+backCall never = refuses never [] 31 0
+backCall (waiting p) = refuses (waiting p) [] 31 0
+backCall (building p links []) = refuses (building p links []) [] 31 0
+backCall (building p links (before ∷ earlier)) = gives Accepted (building p before earlier) []
 
 -- CLOSING: 31 before the start and all d - n - 2 paths are in, then 28 where a vertex is no branch vertex; else grade 3. The session stays.
 abbrev pub closingAnswer : Plan → List Path → ℕ → Answer
@@ -78,4 +87,4 @@ closingAnswer p links k = cond (eqb k (due p)) (cond (allBelow (p .n) (isBranch 
 abbrev pub closeCall : State → Gives
 closeCall never = refuses never [] 31 0
 closeCall (waiting p) = refuses (waiting p) [] 31 0
-closeCall (building p links k) = gives (closingAnswer p links k) (building p links k) []
+closeCall (building p links earlier) = gives (closingAnswer p links (length earlier)) (building p links earlier) []

@@ -1,11 +1,13 @@
--- The starred barns and plans of document 01, with the one that request 1 changes, as records with their answers.
+-- The starred barns and plans of document 01, with the one that request 1 changes, as records with their answers, and a session with what it is told.
 use Prim.Native.Nat.{ℕ}
 use mathlib.Core.List.{List, [], _∷_, _++_}
 use mathlib.Core.Path.{_≡_}
 use Rattle.record.specs.declared.Answer.{Answer}
-use Rattle.record.specs.declared.Answer.the-variants.{Grade, PlanFault, CertificateFault}
+use Rattle.record.specs.declared.Answer.the-variants.{Accepted, Grade, PlanFault, CertificateFault}
 use Rattle.checker.specs.Check.{checkOf}
 use Rattle.gradeline.specs.Line.{gradeLine}
+use Rattle.claims.specs.Session.{State, openCall}
+use Rattle.claims.specs.Calls.{Call, Call.start, Call.path, Call.back, Call.close, calledOn}
 
 pub record Example : Type 0 where
   pub plan : List ℕ
@@ -85,3 +87,19 @@ abbrev pub besideLink : Example
 besideLink =
     example complete5
     (3 ∷ 0 ∷ 1 ∷ 2 ∷ 3 ∷ 2 ∷ 0 ∷ 1 ∷ 2 ∷ 0 ∷ 2 ∷ 2 ∷ 0 ∷ 3 ∷ 2 ∷ 1 ∷ 2 ∷ 2 ∷ 1 ∷ 3 ∷ 2 ∷ 2 ∷ 3 ∷ 3 ∷ 0 ∷ 4 ∷ 1 ∷ 2 ∷ 2 ∷ 4 ∷ 2 ∷ 3 ∷ 4 ∷ []) (CertificateFault 27 23)
+
+-- request 4: barn G's plan in a session whose start runs from 0 over 4 to 1. Taking back is refused before a start and right after it. 0 1 is refused beside that
+-- link, good once 2 4 has split it, and refused again after both are taken back: the link is whole, and 4 inside it. There is no third path to take
+-- back. After the closing the last path is taken back, and taken the other way round.
+abbrev pub told : State → List Call → List Answer
+told z [] = []
+told z (c ∷ cs) = calledOn z c .answer ∷ told (calledOn z c .state) cs
+
+abbrev pub BackTold : Type 0
+BackTold = told (openCall complete5 .state) (
+    back ∷ start (0 ∷ 1 ∷ 2 ∷ 3 ∷ 3 ∷ 0 ∷ 4 ∷ 1 ∷ 2 ∷ 0 ∷ 2 ∷ 2 ∷ 0 ∷ 3 ∷ 2 ∷ 1 ∷ 2 ∷ 2 ∷ 1 ∷ 3 ∷ 2 ∷ 2 ∷ 3 ∷ []) ∷ back
+    ∷ path (2 ∷ 0 ∷ 1 ∷ []) ∷ path (2 ∷ 2 ∷ 4 ∷ []) ∷ path (2 ∷ 0 ∷ 1 ∷ []) ∷ back ∷ back ∷ back ∷ path (2 ∷ 0 ∷ 1 ∷ [])
+    ∷ path (2 ∷ 3 ∷ 4 ∷ []) ∷ path (2 ∷ 0 ∷ 1 ∷ []) ∷ path (2 ∷ 2 ∷ 4 ∷ []) ∷ close ∷ back ∷ close ∷ path (2 ∷ 4 ∷ 2 ∷ []) ∷ close ∷ [])
+    ≡ CertificateFault 31 0 ∷ Accepted ∷ CertificateFault 31 0
+    ∷ CertificateFault 27 0 ∷ Accepted ∷ Accepted ∷ Accepted ∷ Accepted ∷ CertificateFault 31 0 ∷ CertificateFault 27 0
+    ∷ Accepted ∷ Accepted ∷ Accepted ∷ Grade 3 ∷ Accepted ∷ CertificateFault 31 0 ∷ Accepted ∷ Grade 3 ∷ []

@@ -87,7 +87,7 @@ pub extern "C" fn fikzarn_session(script: &[u8], out: &mut [u8]) -> u64
 pub extern "C" fn fikzarn_edition() -> u64
     ensures { λ r. ⌜ r ≡ edition ⌝ }
 {
-    3
+    4
 }
 
 #[no_mangle]

@@ -3,15 +3,16 @@ use Prim.Native.Nat.{ℕ, zero, suc, _+_, _*_, _/_, _%_, _<_}
 use mathlib.Core.List.{List}
 use mathlib.Core.Bool.{Bool, true, false, cond, _&&_}
 use mathlib.Core.Path.{_≡_, refl, sym, ap, _∙_}
-use lib.Dec.{ltb}
+use mathlib.Core.Logic.{_≢_}
+use lib.Dec.{eqb, ltb}
 use native.Mathlib.Decide.{ℕ-discrete}
-use lib.ListN.{length, getD, set}
+use lib.ListN.{length, getD, set, length-set}
 use lib.Seq.{ext-getD, getD-set-same, getD-set-other}
-use borrow.Author.Tests.{ltb-true, ltb-false}
+use borrow.Author.Tests.{lt-ltb, ltb-true, ltb-false, ne-eqb}
 use native.Mathlib.Omega.{arith}
-use Rattle.vertexset.specs.Set.{wordCount, has, emptySet, capacity}
-use Rattle.vertexset.proofs.Laws.{has-past, has-empty}
-use Rattle.graph.specs.Rows.{adjacentIn, wordsFrom, rowOf}
+use Rattle.vertexset.specs.Set.{wordCount, has, withBit, withoutBit, emptySet, capacity}
+use Rattle.vertexset.proofs.Laws.{has-past, has-empty, has-insert, has-remove, remove-inserted, insert-removed}
+use Rattle.graph.specs.Rows.{adjacentIn, wordsFrom, rowOf, rowWords, joinedRows, partedRows}
 
 pub word-of : (u v : ℕ) → (u * capacity + v) / 64 ≡ u * wordCount + v / 64
 word-of u v = omega arith
@@ -54,3 +55,33 @@ row-adjacent rows u v = go (ltb u capacity) (ltb v capacity) refl
     go true true e = low (ltb-true _ _ e)
     go true false e = has-past (wordsFrom rows wordCount (u * wordCount)) v (omega (arith, length-words rows wordCount (u * wordCount), ltb-false v capacity e))
     go false c e = has-empty wordCount v
+
+-- AN EDGE THAT COMES AND GOES: each bit goes back, the one that was set last first.
+module _ (rows : List ℕ) (long : length rows ≡ rowWords) (u v : ℕ) (lu : u < capacity) (lv : v < capacity) (differ : u ≢ v) where
+  here : (t : Bool) → adjacentIn rows u v ≡ t → has rows (u * capacity + v) ≡ t
+  here t e = rw (lt-ltb u capacity lu, lt-ltb v capacity lv) at e
+
+  there : (t : Bool) → adjacentIn rows v u ≡ t → has rows (v * capacity + u) ≡ t
+  there t e = rw (lt-ltb u capacity lu, lt-ltb v capacity lv) at e
+
+  first-place : u * capacity + v < 64 * length rows
+  first-place = omega arith
+
+  places : eqb (v * capacity + u) (u * capacity + v) ≡ false
+  places = ne-eqb (v * capacity + u) (u * capacity + v) (λ e. differ (omega arith))
+
+  pub part-joined : adjacentIn rows u v ≡ false → adjacentIn rows v u ≡ false → partedRows (joinedRows rows u v) v u ≡ rows
+  part-joined e f =
+      let once = withBit rows (u * capacity + v) in
+      let k : length once ≡ length rows = simp length-set in
+      let l : v * capacity + u < 64 * length once = omega arith in
+      let out : has once (v * capacity + u) ≡ false = ap (λ (t : ℕ → Bool). t (v * capacity + u)) (has-insert rows (u * capacity + v) first-place) ∙ rw (there false f, places) in
+      rw (lt-ltb u capacity lu, lt-ltb v capacity lv) (ap (λ (r : List ℕ). withoutBit r (u * capacity + v)) (remove-inserted once (v * capacity + u) l out) ∙ remove-inserted rows (u * capacity + v) first-place (here false e))
+
+  pub join-parted : adjacentIn rows u v ≡ true → adjacentIn rows v u ≡ true → joinedRows (partedRows rows u v) v u ≡ rows
+  join-parted e f =
+      let once = withoutBit rows (u * capacity + v) in
+      let k : length once ≡ length rows = simp length-set in
+      let l : v * capacity + u < 64 * length once = omega arith in
+      let still : has once (v * capacity + u) ≡ true = has-remove rows (u * capacity + v) first-place (v * capacity + u) ∙ rw (there true f, places) in
+      rw (lt-ltb u capacity lu, lt-ltb v capacity lv) (ap (λ (r : List ℕ). withBit r (u * capacity + v)) (insert-removed once (v * capacity + u) l still) ∙ insert-removed rows (u * capacity + v) first-place (here true e))

@@ -1,11 +1,11 @@
 -- A graph by value: its adjacency as rows of bits, one row for each vertex, in one list of words.
-use Prim.Native.Nat.{ℕ, zero, suc, _+_, _*_, _/_, _%_, _^_}
+use Prim.Native.Nat.{ℕ, zero, suc, _+_, _*_}
 use mathlib.Core.List.{List, [], _∷_}
 use mathlib.Core.Bool.{Bool, cond, _&&_}
 use lib.Dec.{ltb}
-use lib.ListN.{getD, replicate, set}
+use lib.ListN.{getD, replicate}
 use Rattle.connectivity.specs.Graph as connectivity
-use Rattle.vertexset.specs.Set.{has, withBit, less, wordCount, emptySet, capacity}
+use Rattle.vertexset.specs.Set.{has, withBit, withoutBit, wordCount, emptySet, capacity}
 use Rattle.vertexset.specs.declared.VertexSet.{VertexSet}
 use Rattle.graph.specs.declared.GraphTable.{GraphTable}
 
@@ -37,10 +37,6 @@ joined rows e = withBit (withBit rows (e .0 * capacity + e .1)) (e .1 * capacity
 -- the same for any two numbers: one past the vertices joins nothing
 abbrev pub joinedRows : List ℕ → ℕ → ℕ → List ℕ
 joinedRows rows u v = cond (ltb u capacity && ltb v capacity) (joined rows (u, v)) rows
-
--- the words without that bit; nothing changes where v is past the words
-abbrev pub withoutBit : List ℕ → ℕ → List ℕ
-withoutBit ws v = set ws (v / 64) (less (getD ws (v / 64) 0) (2 ^ (v % 64)))
 
 -- an edge fewer, in both directions; a number past the vertices parts nothing
 abbrev pub partedRows : List ℕ → ℕ → ℕ → List ℕ

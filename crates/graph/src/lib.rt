@@ -1,8 +1,8 @@
 // A graph by value: rows of bits, one for each vertex; two vertices are joined or parted in them, or found adjacent.
 ghost use mathlib.Core.Path.{_≡_};
 ghost use Prim.Native.Nat.{_+_, _*_, _<_};
-ghost use Rattle.vertexset.specs.Set.{withBit, capacity};
-ghost use Rattle.graph.specs.Rows.{adjacentIn, rowOf, noGraph, joinedRows, withoutBit, partedRows};
+ghost use Rattle.vertexset.specs.Set.{withBit, withoutBit, capacity};
+ghost use Rattle.graph.specs.Rows.{adjacentIn, rowOf, noGraph, joinedRows, partedRows};
 use vertexset::VertexSet;
 
 // n vertices, d pairs of adjacent ones, and for each vertex a row of bits: the vertices adjacent to it.

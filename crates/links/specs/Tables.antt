@@ -9,6 +9,7 @@ use Rattle.vertexset.specs.Set.{has, capacity}
 use Rattle.vertexset.specs.declared.VertexSet.{VertexSet}
 use Rattle.graph.specs.Rows.{joinedRows, partedRows}
 use Rattle.links.specs.declared.Link.{Link}
+use Rattle.links.specs.declared.Split.{Split}
 use Rattle.links.specs.declared.End.{End}
 use Rattle.links.specs.declared.End.the-variants.{Branch, Inner}
 use Rattle.links.specs.declared.Addition.{Addition}
@@ -97,3 +98,39 @@ splitBy = splitEach splitRows
 
 abbrev pub splitMatesBy : List ℕ → Addition → List ℕ
 splitMatesBy = splitEach splitMates
+
+-- BACK AGAIN: what a split at a path's end is known by later on, the outermost inner vertices of the link that it split; the capacity, which is
+-- no vertex, twice where the end was a branch vertex already
+abbrev pub splitOf : End → Split
+splitOf (Branch v) = record { first = capacity; last = capacity }
+splitOf (Inner v l) = record { first = l .first; last = l .last }
+
+-- a link was split there: so the end is one that the path raised
+abbrev pub raises : Split → Bool
+raises s = ltb (s .first) capacity
+
+-- v stands on no link: it points to nothing
+abbrev pub cleared : List ℕ → ℕ → List ℕ
+cleared pointers v = pointed (pointed (pointed pointers 0 v 0) capacity v 0) mates v 0
+
+-- the table with the link l, which was split at x, whole again
+abbrev pub rejoinedRows : List ℕ → ℕ → Link → List ℕ
+rejoinedRows linked x l = joinedRows (partedRows (partedRows linked (l .b) x) x (l .a)) (l .b) (l .a)
+
+-- x's neighbour on one side has no mate any more; where x is outermost, it has no neighbour inside
+abbrev pub unmatedAside : List ℕ → ℕ → ℕ → ℕ → List ℕ
+unmatedAside pointers part x outer = cond (eqb x outer) pointers (pointed pointers mates (pointer pointers part x) 0)
+
+-- the pointers with the link l, which was split at x, whole again: its outermost inner vertices are mates
+abbrev pub rejoinedMates : List ℕ → ℕ → Link → List ℕ
+rejoinedMates pointers x l = mated (unmatedAside (unmatedAside pointers 0 x (l .first)) capacity x (l .last)) (l .first) (l .last)
+
+-- a table with the link whole again that was split at x, where one was; the pointers tell its ends
+abbrev pub rejoinedEach : (List ℕ → ℕ → Link → List ℕ) → List ℕ → List ℕ → ℕ → Split → List ℕ
+rejoinedEach rejoin pointers t x s = cond (raises s) (rejoin t x (linkAround pointers (s .first, s .last))) t
+
+abbrev pub rejoinedBy : List ℕ → List ℕ → ℕ → Split → List ℕ
+rejoinedBy = rejoinedEach rejoinedRows
+
+abbrev pub rejoinedMatesBy : List ℕ → ℕ → Split → List ℕ
+rejoinedMatesBy pointers = rejoinedEach rejoinedMates pointers pointers

@@ -3,7 +3,7 @@ ghost use mathlib.Core.Path.{_≡_};
 ghost use Prim.Native.Nat.{_*_, _≤_};
 ghost use Rattle.vertexset.specs.Set.{capacity};
 ghost use Rattle.links.specs.Ends.{sameLink, linkEnd, additionOf, held};
-ghost use Rattle.links.specs.Tables.{pointer, pointed, pointedBoth, mated, linkAround, linkAt, endIn, matedAside, splitRows, splitMates, splitBy, splitMatesBy};
+ghost use Rattle.links.specs.Tables.{pointer, pointed, pointedBoth, mated, linkAround, linkAt, endIn, matedAside, splitRows, splitMates, splitBy, splitMatesBy, splitOf, cleared, rejoinedRows, unmatedAside, rejoinedMates, rejoinedBy, rejoinedMatesBy};
 use graph::GraphTable;
 use vertexset::VertexSet;
 
@@ -19,6 +19,12 @@ pub struct Link {
 pub enum End {
     Branch(u16),
     Inner(u16, Link),
+}
+
+// What a path split at one of its ends: the outermost inner vertices of a link; the capacity twice where that end was a branch vertex already.
+pub struct Split {
+    pub first: u16,
+    pub last: u16,
 }
 
 pub struct Ends {
@@ -56,6 +62,24 @@ impl Link {
         ensures { λ r. ⌜ r ≡ sameLink self other ⌝ }
     {
         ((self.a == other.a) & (self.b == other.b)) | ((self.a == other.b) & (self.b == other.a))
+    }
+}
+
+impl End {
+    // What a path that ends here splits.
+    pub fn split(self) -> Split
+        ensures { λ r. ⌜ r ≡ splitOf self ⌝ }
+    {
+        match self {
+            End::Branch(_) => Split {
+                first: VertexSet::CAPACITY,
+                last: VertexSet::CAPACITY,
+            },
+            End::Inner(_, l) => Split {
+                first: l.first,
+                last: l.last,
+            },
+        }
     }
 }
 
@@ -241,4 +265,63 @@ pub fn split_by<'a>(
             split_link(linked, pointers, y, l);
         }
     }
+}
+
+// A vertex is on no link any more: it points to nothing. The vertex that stood before it.
+pub fn clear(pointers: &mut [u16; Link::POINTERS], v: u16) -> u16
+    ensures { λ r. ⌜ r ≡ pointer (now (pointers .entry)) 0 v ⌝ }
+    ensures { λ r. ⌜ now (pointers .exit) ≡ cleared (now (pointers .entry)) v ⌝ }
+{
+    let before = pointer(pointers, Link::BEFORE, v);
+    point(pointers, Link::BEFORE, v, 0);
+    point(pointers, Link::AFTER, v, 0);
+    point(pointers, Link::MATE, v, 0);
+    before
+}
+
+// The neighbour of x on one side of a link that was split at x is no longer outermost; where x is outermost, there is none inside.
+fn unmate_aside(pointers: &mut [u16; Link::POINTERS], part: usize, x: u16, outer: u16)
+    requires { ⌜ part ≤ 2 * capacity ⌝ }
+    ensures { λ r. ⌜ now (pointers .exit) ≡ unmatedAside (now (pointers .entry)) part x outer ⌝ }
+{
+    if x == outer {
+        return;
+    }
+    let next = pointer(pointers, part, x);
+    point(pointers, Link::MATE, next, 0);
+}
+
+// A link that was split at x is whole again; in the table of links what was done last is taken back first.
+fn rejoin_link<'a>(
+    linked: &'a mut [u64; GraphTable::ROW_WORDS],
+    pointers: &'a mut [u16; Link::POINTERS],
+    x: u16,
+    l: Link,
+)
+    ensures { λ r. ⌜ now (linked .exit) ≡ rejoinedRows (now (linked .entry)) x l ⌝ }
+    ensures { λ r. ⌜ now (pointers .exit) ≡ rejoinedMates (now (pointers .entry)) x l ⌝ }
+{
+    graph::part(linked, l.b, x);
+    graph::part(linked, x, l.a);
+    graph::join(linked, l.b, l.a);
+    unmate_aside(pointers, Link::BEFORE, x, l.first);
+    unmate_aside(pointers, Link::AFTER, x, l.last);
+    mate(pointers, l.first, l.last);
+}
+
+// The link that was split at x, where one was, is whole again.
+pub fn rejoin<'a>(
+    linked: &'a mut [u64; GraphTable::ROW_WORDS],
+    pointers: &'a mut [u16; Link::POINTERS],
+    x: u16,
+    s: Split,
+)
+    ensures { λ r. ⌜ now (linked .exit) ≡ rejoinedBy (now (pointers .entry)) (now (linked .entry)) x s ⌝ }
+    ensures { λ r. ⌜ now (pointers .exit) ≡ rejoinedMatesBy (now (pointers .entry)) x s ⌝ }
+{
+    if VertexSet::CAPACITY <= s.first {
+        return;
+    }
+    let l = link_around(pointers, s.first, s.last);
+    rejoin_link(linked, pointers, x, l);
 }

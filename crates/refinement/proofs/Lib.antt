@@ -1,12 +1,16 @@
 pub mod Tests
 pub mod Pointers
 pub mod Mates
+pub mod Places
 pub mod Table
 pub mod Splits
 pub mod Runs
 pub mod Shows
+pub mod Rejoined
 pub mod Apart
 pub mod Taken
 pub mod Reading
 pub mod Start
+pub mod Clean
+pub mod Back
 pub mod Kind3

@@ -20,7 +20,7 @@ abbrev pub Mated : (ℕ → ℕ) → List ℕ → Type 0
 Mated mate [] = Unit {0}
 Mated mate (v ∷ l) = (mate v ≡ lastFrom v l) × (mate (lastFrom v l) ≡ v)
 
-last-in : (v : ℕ) (l : List ℕ) → In (lastFrom v l) (v ∷ l)
+pub last-in : (v : ℕ) (l : List ℕ) → In (lastFrom v l) (v ∷ l)
 last-in v [] = inl refl
 last-in v (w ∷ l) = inr (last-in w l)
 
@@ -38,11 +38,11 @@ mated-cut mate [] x q h = h
 mated-cut mate (v ∷ l) x q h = let e = last-cut v l x q in (h .0 ∙ e, ap mate (sym e) ∙ h .1)
 
 -- the neighbours of x where a list is cut
-before-cut : (to : ℕ → ℕ) (u : ℕ) (l : List ℕ) (x : ℕ) (q : List ℕ) → Back to u (l ++ (x ∷ q)) → to x ≡ lastFrom u l
+pub before-cut : (to : ℕ → ℕ) (u : ℕ) (l : List ℕ) (x : ℕ) (q : List ℕ) → Back to u (l ++ (x ∷ q)) → to x ≡ lastFrom u l
 before-cut to u [] x q h = h .0
 before-cut to u (v ∷ l) x q h = before-cut to v l x q (h .1)
 
-on-rest : (to : ℕ → ℕ) (l : List ℕ) (x : ℕ) (q : List ℕ) (t : ℕ) → On to (l ++ (x ∷ q)) t → On to (x ∷ q) t
+pub on-rest : (to : ℕ → ℕ) (l : List ℕ) (x : ℕ) (q : List ℕ) (t : ℕ) → On to (l ++ (x ∷ q)) t → On to (x ∷ q) t
 on-rest to [] x q t h = h
 on-rest to (v ∷ l) x q t h = on-rest to l x q t (h .1)
 
@@ -104,7 +104,7 @@ pub record Remated (p q : List ℕ) (l : List ℕ) : Type 0 where
   pub set : Mated (pointer q mates) l
   pub others : (i w : ℕ) → (i ≡ 2 → ¬ In w l) → pointer q (i * capacity) w ≡ pointer p (i * capacity) w
 
-mated-length : (p : List ℕ) (u v : ℕ) → length (mated p u v) ≡ length p
+pub mated-length : (p : List ℕ) (u v : ℕ) → length (mated p u v) ≡ length p
 mated-length p u v = pointed-length (pointed p mates u v) mates v u ∙ pointed-length p mates u v
 
 pub ends-length : (p l : List ℕ) → length (matedEnds p l) ≡ length p
@@ -117,17 +117,17 @@ module _ (p : List ℕ) (long : length p ≡ pointerCount) where
     abbrev once : List ℕ
     once = pointed p mates u v
 
-    pair-last : pointer (mated p u v) mates v ≡ u
+    pub pair-last : pointer (mated p u v) mates v ≡ u
     pair-last = pointed-same once mates v u (omega (arith, pointed-length p mates u v)) lv
 
-    pair-first : pointer (mated p u v) mates u ≡ v
+    pub pair-first : pointer (mated p u v) mates u ≡ v
     pair-first = go (eqb u v) refl
       where
         go : (b : Bool) → eqb u v ≡ b → pointer (mated p u v) mates u ≡ v
         go true e = let z : u ≡ v = eqb-true u v e in ap (pointer (mated p u v) mates) z ∙ pair-last ∙ z
         go false e = pointed-apart once mates v u mates u (λ h k z. let n : u ≢ v = λ k. clash (eq-eqb u v k) e in n (omega arith)) ∙ pointed-same p mates u v (omega arith) lu
 
-    pair-others : (i w : ℕ) → (i ≡ 2 → (w ≢ u) × (w ≢ v)) → pointer (mated p u v) (i * capacity) w ≡ pointer p (i * capacity) w
+    pub pair-others : (i w : ℕ) → (i ≡ 2 → (w ≢ u) × (w ≢ v)) → pointer (mated p u v) (i * capacity) w ≡ pointer p (i * capacity) w
     pair-others i w n =
         pointed-apart once mates v u (i * capacity) w (λ h k e. n (omega arith) .1 (omega arith))
         ∙ pointed-apart p mates u v (i * capacity) w (λ h k e. n (omega arith) .0 (omega arith))

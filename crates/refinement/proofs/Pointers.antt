@@ -94,12 +94,12 @@ module _ (p : List ℕ) (u v w : ℕ) where
 abbrev pub pathList : ℕ → List ℕ → ℕ → List ℕ
 pathList u l t = u ∷ (l ++ (t ∷ []))
 
-along-step : (p : List ℕ) (u v : ℕ) (l : List ℕ) (t : ℕ) → pointAlong p (pathList u (v ∷ l) t) ≡ pointAlong (pointedBoth p u v (headOf l t)) (pathList v l t)
+pub along-step : (p : List ℕ) (u v : ℕ) (l : List ℕ) (t : ℕ) → pointAlong p (pathList u (v ∷ l) t) ≡ pointAlong (pointedBoth p u v (headOf l t)) (pathList v l t)
 unfolding pointAlong
 along-step p u v [] t = refl
 along-step p u v (w ∷ l) t = refl
 
-along-none : (p : List ℕ) (u t : ℕ) → pointAlong p (pathList u [] t) ≡ p
+pub along-none : (p : List ℕ) (u t : ℕ) → pointAlong p (pathList u [] t) ≡ p
 unfolding pointAlong
 along-none p u t = refl
 

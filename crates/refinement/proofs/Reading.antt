@@ -99,7 +99,7 @@ module _ (g : Graph) (links : List Path) (s : List ℕ) (at : ℕ) {P : Path} {n
   unfolding furtherPath
   last-test = needs-true (tested g (endsIn links) (inBuild links)) 27 (endsApart links) e
 
-  tests : Tested g (endsIn links) (inBuild links) P
+  pub tests : Tested g (endsIn links) (inBuild links) P
   tests = tests-tell g (endsIn links) (inBuild links) s at (last-test .0)
 
   pub further-path : BGPath (Adj everyEdge) links P

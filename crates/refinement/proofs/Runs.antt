@@ -45,13 +45,13 @@ module _ (L : Path) (v : ℕ) (inside : In v (L .inner)) where
   abbrev after : List ℕ
   after = takeAfter v (L .inner)
 
-  cut : L .inner ≡ before ++ (v ∷ after)
+  pub cut : L .inner ≡ before ++ (v ∷ after)
   cut = split-list v (L .inner) inside
 
-  first-cut : headOf (L .inner) 0 ≡ headOf before v
+  pub first-cut : headOf (L .inner) 0 ≡ headOf before v
   first-cut = ap (λ (l : List ℕ). headOf l 0) cut ∙ head-cut before v after 0
 
-  last-of-cut : lastFrom 0 (L .inner) ≡ lastFrom v after
+  pub last-of-cut : lastFrom 0 (L .inner) ≡ lastFrom v after
   last-of-cut = ap (lastFrom 0) cut ∙ last-cut 0 before v after
 
   pub link-found : (p : List ℕ) (branch : VertexSet) → RunsAlong p L → has (branch .words) (L .s) ≡ true → has (branch .words) (L .t) ≡ true

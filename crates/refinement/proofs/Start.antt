@@ -34,10 +34,10 @@ use Rattle.refinement.proofs.Taken.{listed-more, members-length, has-me
 use Rattle.refinement.proofs.Reading.{vertex-low, Tested, tests-tell, tests-same}
 
 -- four branch vertices, and their six pairs
-abbrev Four : Type 0
+abbrev pub Four : Type 0
 Four = ℕ × (ℕ × (ℕ × ℕ))
 
-abbrev fourOf : Four → List ℕ
+abbrev pub fourOf : Four → List ℕ
 fourOf b = four (b .0) (b .1 .0) (b .1 .1 .0) (b .1 .1 .1)
 
 abbrev sixOf : Four → List (ℕ × ℕ)
@@ -87,13 +87,13 @@ item-kept g low st t h s at P next e = record {
         (in-append v (P .inner) (t .built) (member-in v (P .inner ++ t .built) k))
 
 -- four ascending vertices that were read
-record Ascends (n : ℕ) (b : Four) : Type 0 where
+pub record Ascends (n : ℕ) (b : Four) : Type 0 where
   pq : b .0 < b .1 .0
   qr : b .1 .0 < b .1 .1 .0
   rs : b .1 .1 .0 < b .1 .1 .1
   low : b .1 .1 .1 < n
 
-pair-got : {A : Type 0} {B : A → Type 0} (R : Reader A) (f : (a : A) → Reader (B a)) {s : List ℕ} {at : ℕ} {x : (a : A) × B a} {next : ℕ} → (R ▸ f) s at ≡ Got x next
+pub pair-got : {A : Type 0} {B : A → Type 0} (R : Reader A) (f : (a : A) → Reader (B a)) {s : List ℕ} {at : ℕ} {x : (a : A) × B a} {next : ℕ} → (R ▸ f) s at ≡ Got x next
     → (mid : ℕ) × (R s at ≡ Got (x .0) mid) × (f (x .0) s mid ≡ Got (x .1) next)
 unfolding _▸_
 pair-got R f {s} {at} e =
@@ -101,7 +101,7 @@ pair-got R f {s} {at} e =
     let h = on-got (f (g .0) s (g .1)) _ (g .3) in
     carry (λ x n. (mid : ℕ) × (R s at ≡ Got (x .0) mid) × (f (x .0) s mid ≡ Got (x .1) n)) (h .3) (g .1, g .2, h .2)
 
-four-read : (n : ℕ) (s : List ℕ) (at : ℕ) {b : Four} {next : ℕ} → branchFour n s at ≡ Got b next → Ascends n b
+pub four-read : (n : ℕ) (s : List ℕ) (at : ℕ) {b : Four} {next : ℕ} → branchFour n s at ≡ Got b next → Ascends n b
 unfolding branchFour
 four-read n s at {b} e =
     let p = pair-got (vertex n) (λ p. vertex n needs⟨ 20 ⟩ leb (suc p) ▸ λ q. vertex n needs⟨ 20 ⟩ leb (suc q) ▸ λ r. vertex n needs⟨ 20 ⟩ leb (suc r)) e in
@@ -148,7 +148,7 @@ six-four b e i = go i
     go (inr (inr (inr (inr (inr (inr k)))))) = absurd k
 
 -- the start beside bare tables
-abbrev bareStart : Four → BuildStart
+abbrev pub bareStart : Four → BuildStart
 bareStart b = startOf barePointers bareRows b
 
 beside-start : (n : ℕ) (b : Four) → n ≤ capacity → Ascends n b → Beside (bareStart b) (starting b)
@@ -162,9 +162,9 @@ start-same g h s at = then-same (branchFour (g .n)) (branchFour (g .n)) (λ b. m
     (beside-start (g .n) b h (four-read (g .n) s at e)) s mid))
 
 -- WHAT THE PATHS OF A START THAT WAS READ ARE
-record PathsRead (t : Start) (l : List Path) : Type 0 where
-  starts : Starts (Adj everyEdge) (t .built) l
-  low : (L : Path) → In L l → AllLow (vertices L)
+pub record PathsRead (t : Start) (l : List Path) : Type 0 where
+  pub starts : Starts (Adj everyEdge) (t .built) l
+  pub low : (L : Path) → In L l → AllLow (vertices L)
   rest : List (ℕ × ℕ)
   cut : t .ends ≡ endPairs l ++ rest
 
@@ -189,7 +189,7 @@ paths-read g h (suc k) t s at e =
         all L (inr k) w i = r .low L k w i
 
 -- the paths of a list entered one after the other, the last first
-abbrev onto : List Path → List Path → List Path
+abbrev pub onto : List Path → List Path → List Path
 onto [] done = done
 onto (P ∷ ps) done = onto ps (P ∷ done)
 
@@ -209,6 +209,11 @@ in-onto (P ∷ ps) done L (inl (inl e)) = in-onto ps (P ∷ done) L (inr (inl e)
 in-onto (P ∷ ps) done L (inl (inr i)) = in-onto ps (P ∷ done) L (inl i)
 in-onto (P ∷ ps) done L (inr i) = in-onto ps (P ∷ done) L (inr (inr i))
 
+-- the inner vertices of paths are among the vertices that are in; one path more
+pub within-more : (P : Path) (done : List Path) (B : List ℕ) → ((L : Path) → In L done → (w : ℕ) → In w (L .inner) → In w B) → (L : Path) → In L (P ∷ done) → (w : ℕ) → In w (L .inner) → In w (P .inner ++ B)
+within-more P done B inner L (inl e) w i = in-left w (P .inner) B (rw e at i)
+within-more P done B inner L (inr h) w i = in-right w (P .inner) B (inner L h w i)
+
 record Carries (b : Build) (links : List Path) : Type 0 where
   sizes : Sizes b
   linked : Listed (b .linked) links
@@ -219,16 +224,12 @@ carries-more : (B : List ℕ) (ps done : List Path) (st : BuildStart) → Starts
 unfolding folded
 carries-more B [] done st starts low inner c = c
 carries-more B (P ∷ ps) done st starts low inner c =
-    carries-more (P .inner ++ B) ps (P ∷ done) (startEntered st P) (starts .2) (λ L i. low L (inr i)) within
+    carries-more (P .inner ++ B) ps (P ∷ done) (startEntered st P) (starts .2) (λ L i. low L (inr i)) (within-more P done B inner)
     (record {
       sizes = entered-sizes (st .build) (c .sizes) P;
       linked = listed-more (st .build .linked) done (c .linked) P (low P (inl refl));
       runs = runs-more (st .build .pointers) done (c .sizes .pointers, c .runs) P (starts .0 .nodup) (low P (inl refl)) (λ L i w k j. starts .1 w j (inner L i w k));
     })
-  where
-    within : (L : Path) → In L (P ∷ done) → (w : ℕ) → In w (L .inner) → In w (P .inner ++ B)
-    within L (inl e) w i = in-left w (P .inner) B (rw e at i)
-    within L (inr h) w i = in-right w (P .inner) B (inner L h w i)
 
 -- the branch vertices and the vertices that are in, after the paths
 started-branch : (st : BuildStart) (ps : List Path) → folded startEntered st ps .build .sets .branch ≡ st .build .sets .branch
@@ -260,7 +261,7 @@ module _ (g : Graph) (h : g .n ≤ capacity) (b : Four) (asc : Ascends (g .n) b)
   abbrev B : List ℕ
   B = fourOf b
 
-  all : PathsRead (starting b) start
+  pub all : PathsRead (starting b) start
   all = paths-read g h 6 (starting b) s at e
 
   shape : endPairs start ≡ sixOf b
@@ -302,10 +303,10 @@ module _ (g : Graph) (h : g .n ≤ capacity) (b : Four) (asc : Ascends (g .n) b)
   carried : Carries (startedBuild (b, start)) (onto start [])
   carried = carries-more B start [] (bareStart b) (all .starts) (all .low) (λ L i. absurd i) (record { sizes = bare-sizes b; linked = bare-listed; runs = λ L i. absurd i })
 
-  there : (L : Path) → In L start → In L (onto start [])
+  pub there : (L : Path) → In L start → In L (onto start [])
   there L i = in-onto start [] L (inl i)
 
-  back : (L : Path) → In L (onto start []) → In L start
+  pub back : (L : Path) → In L (onto start []) → In L start
   back L i = ⊎-elim (λ k. k) (λ k. absurd k) (onto-in start [] L i)
 
   started-shows : Shows (startedBuild (b, start)) start

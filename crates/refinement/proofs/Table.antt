@@ -9,9 +9,9 @@ use native.Mathlib.Decide.{decLt}
 use lib.Dec.{eqb, ltb}
 use lib.ListN.{length, length-set}
 use borrow.Author.Tests.{eqb-true, eq-eqb, lt-ltb, ltb-true, not-true}
-use Rattle.vertexset.specs.Set.{has, withBit, capacity}
+use Rattle.vertexset.specs.Set.{has, withBit, withoutBit, capacity}
 use Rattle.vertexset.proofs.Laws.{has-insert, has-remove}
-use Rattle.graph.specs.Rows.{adjacentIn, rowWords, joined, joinedRows, withoutBit, partedRows}
+use Rattle.graph.specs.Rows.{adjacentIn, rowWords, joined, joinedRows, partedRows}
 use Rattle.connectivity.proofs.Lists.{and-true, or-true, true-or, clash}
 use Rattle.connectivity.proofs.Paths.{SamePair}
 use Rattle.refinement.proofs.Tests.{same-test, samePair, pair-tells, both-true, left-true, false-of}

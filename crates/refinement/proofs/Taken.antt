@@ -111,35 +111,35 @@ raised-has s e x h low (inr k) v = rw (k .1) (ap (λ (t : ℕ → Bool). t v) (i
 
 -- THE STEP
 module _ {b : Build} {links : List Path} (sh : Shows b links) (P : Path) (bg : BGPath (Adj everyEdge) links P) (low : AllLow (vertices P)) where
-  differ : P .s ≢ P .t
+  pub differ : P .s ≢ P .t
   differ = ends-differ P (bg .is-path .nodup)
 
-  apart : ¬ Holds links (P .s) (P .t)
+  pub apart : ¬ Holds links (P .s) (P .t)
   apart r = bg .apart (r .0) (r .1) (r .2) (r .3)
 
-  abbrev rest : List Path
+  abbrev pub rest : List Path
   rest = splitLinks (P .s) (splitLinks (P .t) links)
 
-  rest-built : (v : ℕ) → InBuild v rest → InBuild v links
+  pub rest-built : (v : ℕ) → InBuild v rest → InBuild v links
   rest-built v r = kept-split (P .t) v links (kept-split (P .s) v (splitLinks (P .t) links) r)
 
   -- which addition it is, by the ends
-  branches : IsBranch (P .s) links → IsBranch (P .t) links → pathAddition b P ≡ VertexVertex
+  pub branches : IsBranch (P .s) links → IsBranch (P .t) links → pathAddition b P ≡ VertexVertex
   branches p q =
       let f : adjacentIn (b .linked) (P .s) (P .t) ≡ false = false-of (λ e. apart (branch-branch sh (P .s) (P .t) differ p q .0 e)) in
       rw (end-branch sh (P .s) p, end-branch sh (P .t) q, f)
 
-  last-inner : IsBranch (P .s) links → (L : Path) → In L links → In (P .t) (L .inner) → pathAddition b P ≡ EdgeVertex (P .t) (ends L)
+  pub last-inner : IsBranch (P .s) links → (L : Path) → In L links → In (P .t) (L .inner) → pathAddition b P ≡ EdgeVertex (P .t) (ends L)
   last-inner p L h i =
       let f : linkEnd (P .s) (ends L) ≡ false = false-of (λ e. apart (branch-inner sh (P .s) (P .t) p L h i .0 e)) in
       rw (end-branch sh (P .s) p, end-inner sh (P .t) L h i, f)
 
-  first-inner : (L : Path) → In L links → In (P .s) (L .inner) → IsBranch (P .t) links → pathAddition b P ≡ EdgeVertex (P .s) (ends L)
+  pub first-inner : (L : Path) → In L links → In (P .s) (L .inner) → IsBranch (P .t) links → pathAddition b P ≡ EdgeVertex (P .s) (ends L)
   first-inner L h i q =
       let f : linkEnd (P .t) (ends L) ≡ false = false-of (λ e. apart (inner-branch sh (P .s) (P .t) L h i q .0 e)) in
       rw (end-inner sh (P .s) L h i, end-branch sh (P .t) q, f)
 
-  both-inner : (L M : Path) → In L links → In M links → In (P .s) (L .inner) → In (P .t) (M .inner) → pathAddition b P ≡ EdgeEdge (P .s) (ends L) (P .t) (ends M)
+  pub both-inner : (L M : Path) → In L links → In M links → In (P .s) (L .inner) → In (P .t) (M .inner) → pathAddition b P ≡ EdgeEdge (P .s) (ends L) (P .t) (ends M)
   both-inner L M h k i j =
       let f : sameLink (ends L) (ends M) ≡ false = false-of (λ e. apart (inner-inner sh (P .s) (P .t) L M h k i j .0 e)) in
       rw (end-inner sh (P .s) L h i, end-inner sh (P .t) M k j, f)
@@ -152,7 +152,7 @@ module _ {b : Build} {links : List Path} (sh : Shows b links) (P : Path) (bg : B
   none-first p = split-none (P .s) (splitLinks (P .t) links) (λ M m i. let r = piece-of (P .t) links M m in not-inside sh (P .s) p (r .0) (r .1) (piece-inner (P .t) (P .s) (r .0) M (r .2) i))
 
   -- the link with the last vertex inside is not touched by the split at the first
-  still-sole : (M : Path) → In M links → In (P .t) (M .inner) → Sole (splitLinks (P .s) links) (P .t) M
+  pub still-sole : (M : Path) → In M links → In (P .t) (M .inner) → Sole (splitLinks (P .s) links) (P .t) M
   still-sole M h j = record {
     there = piece-there (P .s) links M h M (whole (λ i. apart (M, h, inner-in (P .s) M i, inner-in (P .t) M j)) refl);
     inside = j;
@@ -177,7 +177,7 @@ module _ {b : Build} {links : List Path} (sh : Shows b links) (P : Path) (bg : B
       by-ends N K k (back f e) i = absurd (⊎-elim (λ z. on (rw (z .0) (end-s M))) (λ z. on (rw (z .0) (end-t M))) (rw e at i))
 
   -- a table with the links split that the path splits: what holds of it beside the links holds beside the rest
-  raised-rest : (split : List ℕ → ℕ → Link → List ℕ) (Q : List ℕ → List Path → Type 0)
+  pub raised-rest : (split : List ℕ → ℕ → Link → List ℕ) (Q : List ℕ → List Path → Type 0)
       → ((t : List ℕ) (ls : List Path) → Q t ls → (x : ℕ) (K : Path) → Sole ls x K → NoDup (vertices K) → AllLow (vertices K) → Q (split t x (ends K)) (splitLinks x ls))
       → (t : List ℕ) → Q t links → Q (splitEach split t (pathAddition b P)) rest
   raised-rest split Q step t h = go (placed sh (P .s) (bg .from)) (placed sh (P .t) (bg .upto))
@@ -193,7 +193,7 @@ module _ {b : Build} {links : List Path} (sh : Shows b links) (P : Path) (bg : B
           rw (both-inner (p .0) (q .0) (p .1) (q .1) (p .2) (q .2), split-swap (P .s) (P .t) links (λ L h i j. apart (L, h, inner-in (P .s) L i, inner-in (P .t) L j)))
           (step (split t (P .s) (ends (p .0))) (splitLinks (P .s) links) (at (P .s) (p .0) (p .1) (p .2)) (P .t) (q .0) (still-sole (q .0) (q .1) (q .2)) (path-of sh (q .0) (q .1)) (sh .low (q .0) (q .1)))
 
-  raised-listed : Listed (splitBy (b .linked) (pathAddition b P)) rest
+  pub raised-listed : Listed (splitBy (b .linked) (pathAddition b P)) rest
   raised-listed = raised-rest splitRows Listed (λ t ls h x K one nd low. listed-split t ls h x K one low) (b .linked) (sh .linked)
 
   raised-runs : Pointing (splitMatesBy (b .pointers) (pathAddition b P)) rest

@@ -11,12 +11,12 @@ use Rattle.record.specs.declared.Answer.{Answer}
 use Rattle.sessions.specs.declared.Session.{Session}
 use Rattle.sessions.specs.declared.Stepped.{Stepped}
 use Rattle.sessions.specs.declared.Opened.{Opened}
-use Rattle.sessions.specs.Session.{opening, closeStep}
+use Rattle.sessions.specs.Session.{opening, startStep, pathStep}
 use Rattle.script.specs.declared.Part.{Part}
 use Rattle.script.specs.declared.Part.the-variants.{Within, Cut}
 use Rattle.script.specs.declared.Replayed.{Replayed}
 use Rattle.script.specs.Script.{partAt}
-use Rattle.script.specs.Replay.{Reply, reply, hasRoomFor, withAnswer, partOf, stepOf, onPart, replayOn, opened, replayOf, replayedOf}
+use Rattle.script.specs.Replay.{Reply, reply, hasRoomFor, withAnswer, partOf, stepOf, isLone, loneOf, onPart, replayOn, opened, replayOf, replayedOf}
 use Rattle.script.proofs.Parts.{part-within}
 use Rattle.script.proofs.Answers.{Put, unput-same, put-room, put-after, put-length}
 
@@ -32,19 +32,21 @@ module _ (s : List ℕ) (session : Session) (at : ℕ) (buffer : List ℕ) (coun
       (reply buffer count 3)
 
   abbrev called : Rest → Bool → Bool → Reply
-  called f true known = cond (hasRoomFor buffer count) (f session (at + 1) (withAnswer buffer count (closeStep session .answer)) (count + 1)) (reply buffer count 3)
+  called f true known = cond (hasRoomFor buffer count)
+      (f (loneOf (getD s at 0) session .session) (at + 1) (withAnswer buffer count (loneOf (getD s at 0) session .answer)) (count + 1)) (reply buffer count 3)
   called f false true = onPart (partAt s (at + 1)) (reply buffer count 1) (stepped f)
   called f false false = reply buffer count 2
 
   abbrev turned : Rest → Reply
-  turned f = cond (leb (length s) at) (reply buffer count 0) (called f (eqb (getD s at 0) 99) (eqb (getD s at 0) 115 || eqb (getD s at 0) 112))
+  turned f = cond (leb (length s) at) (reply buffer count 0) (called f (isLone (getD s at 0)) (eqb (getD s at 0) 115 || eqb (getD s at 0) 112))
 
   one-turn : (k : ℕ) → replayOn (suc k) s session at buffer count ≡ turned (replayOn k s)
   unfolding replayOn
-  one-turn k = go (eqb (getD s at 0) 99) (eqb (getD s at 0) 115 || eqb (getD s at 0) 112)
+  one-turn k = go (isLone (getD s at 0)) (eqb (getD s at 0) 115 || eqb (getD s at 0) 112)
     where
       go : (b c : Bool) → cond (leb (length s) at) (reply buffer count 0) (cond b
-          (cond (hasRoomFor buffer count) (replayOn k s session (at + 1) (withAnswer buffer count (closeStep session .answer)) (count + 1)) (reply buffer count 3))
+          (cond (hasRoomFor buffer count)
+          (replayOn k s (loneOf (getD s at 0) session .session) (at + 1) (withAnswer buffer count (loneOf (getD s at 0) session .answer)) (count + 1)) (reply buffer count 3))
           (cond c (onPart (partAt s (at + 1)) (reply buffer count 1) (stepped (replayOn k s))) (reply buffer count 2)))
           ≡ cond (leb (length s) at) (reply buffer count 0) (called (replayOn k s) b c)
       go true c = refl
@@ -65,7 +67,7 @@ module _ (s : List ℕ) (session : Session) (at : ℕ) (buffer : List ℕ) (coun
     call-agrees false false = refl
 
     turn-agrees : turned f ≡ turned g
-    turn-agrees = ap (cond (leb (length s) at) (reply buffer count 0)) (call-agrees (eqb (getD s at 0) 99) (eqb (getD s at 0) 115 || eqb (getD s at 0) 112))
+    turn-agrees = ap (cond (leb (length s) at) (reply buffer count 0)) (call-agrees (isLone (getD s at 0)) (eqb (getD s at 0) 115 || eqb (getD s at 0) 112))
 
 pub at-end : (k : ℕ) (s : List ℕ) (session : Session) (at : ℕ) (buffer : List ℕ) (count : ℕ) → length s ≤ at → replayOn k s session at buffer count ≡ reply buffer count 0
 unfolding replayOn
@@ -107,33 +109,33 @@ module _ {s first : List ℕ} {whole : Reply} {session : Session} {at : ℕ} {bu
   has-room a q f = omega (arith, p .long, put-room buffer count a q f)
 
   module _ (h : at < length s) where
-    any-call : {b c : Bool} → eqb (getD s at 0) 99 ≡ b → eqb (getD s at 0) 115 || eqb (getD s at 0) 112 ≡ c
+    any-call : {b c : Bool} → isLone (getD s at 0) ≡ b → eqb (getD s at 0) 115 || eqb (getD s at 0) 112 ≡ c
         → replayOn (length s) s session at buffer count ≡ called s session at buffer count (replayOn (length s) s) b c
     any-call e f =
         enough (length s) (suc (length s)) s session at buffer count (omega arith) (omega arith)
         ∙ one-turn s session at buffer count (length s)
         ∙ rw (lt-leb (length s) at h, e, f)
 
-    pub call-unknown : (getD s at 0 ≡ 99 → ⊥) → eqb (getD s at 0) 115 || eqb (getD s at 0) 112 ≡ false → Told whole buffer count 2
-    call-unknown c d = ends (any-call (ne-eqb _ _ c) d)
+    pub call-unknown : isLone (getD s at 0) ≡ false → eqb (getD s at 0) 115 || eqb (getD s at 0) 112 ≡ false → Told whole buffer count 2
+    call-unknown c d = ends (any-call c d)
 
-    module _ (c : getD s at 0 ≡ 99) {x : Stepped} (e : x ≡ closeStep session) {put : Bool} {out : List ℕ} (q : Put buffer count (x .answer) put out) where
-      pub close-full : put ≡ false → Told whole out count 3
-      close-full f =
+    module _ (c : isLone (getD s at 0) ≡ true) {x : Stepped} (e : x ≡ loneOf (getD s at 0) session) {put : Bool} {out : List ℕ} (q : Put buffer count (x .answer) put out) where
+      pub lone-full : put ≡ false → Told whole out count 3
+      lone-full f =
           let u = unput-same buffer count (x .answer) q f in
-          rw (u .1) (ends (any-call (eq-eqb _ _ c) refl ∙ rw (u .0)))
+          rw (u .1) (ends (any-call c refl ∙ rw (u .0)))
 
-      pub close-answered : put ≡ true → Replaying s first whole session (at + 1) out (count + 1)
-      close-answered f =
+      pub lone-answered : put ≡ true → Replaying s first whole (x .session) (at + 1) out (count + 1)
+      lone-answered f =
           let u = put-after buffer count (x .answer) q f in
           record {
             long = put-length buffer count (x .answer) q f ∙ p .long;
-            left = rw (u .1, e) (sym (any-call (eq-eqb _ _ c) refl ∙ rw (u .0))) ∙ p .left;
+            left = rw (u .1, e) (sym (any-call c refl ∙ rw (u .0))) ∙ p .left;
           }
 
-    module _ (c : getD s at 0 ≡ 99 → ⊥) (d : eqb (getD s at 0) 115 || eqb (getD s at 0) 112 ≡ true) {x : Part} (e : x ≡ partAt s (at + 1)) where
+    module _ (c : isLone (getD s at 0) ≡ false) (d : eqb (getD s at 0) 115 || eqb (getD s at 0) 112 ≡ true) {x : Part} (e : x ≡ partAt s (at + 1)) where
       part-call : replayOn (length s) s session at buffer count ≡ onPart x (reply buffer count 1) (stepped s session at buffer count (replayOn (length s) s))
-      part-call = any-call (ne-eqb _ _ c) d ∙ rw (← e)
+      part-call = any-call c d ∙ rw (← e)
 
       pub call-cut : x ≡ Cut → Told whole buffer count 1
       call-cut f = ends (part-call ∙ rw f)
@@ -152,6 +154,14 @@ module _ {s first : List ℕ} {whole : Reply} {session : Session} {at : ℕ} {bu
               long = put-length buffer count (y .answer) q f ∙ p .long;
               left = rw (u .1, g) (sym (part-call ∙ rw (w, u .0))) ∙ p .left;
             }
+
+-- a start or a path, by the byte of the call
+module _ (call : ℕ) (session : Session) (part : List ℕ) {x : Stepped} where
+  pub step-start : call ≡ 115 → x ≡ startStep session part → x ≡ stepOf call session part
+  step-start c e = e ∙ sym (ap (λ (b : Bool). cond b (startStep session part) (pathStep session part)) (eq-eqb call 115 c))
+
+  pub step-path : (call ≡ 115 → ⊥) → x ≡ pathStep session part → x ≡ stepOf call session part
+  step-path c e = e ∙ sym (ap (λ (b : Bool). cond b (startStep session part) (pathStep session part)) (ne-eqb call 115 c))
 
 -- the opening
 module _ (s buffer : List ℕ) {x : Part} (e : x ≡ partAt s 0) where

@@ -9,7 +9,7 @@ use Rattle.record.specs.declared.Answer.{Answer}
 use Rattle.record.specs.declared.Answer.the-variants.{Accepted, Grade, PlanFault, CertificateFault}
 use Rattle.sessions.specs.declared.Session.{Session}
 use Rattle.sessions.specs.declared.Stepped.{Stepped}
-use Rattle.sessions.specs.Session.{opening, startStep, pathStep, closeStep}
+use Rattle.sessions.specs.Session.{opening, startStep, pathStep, backStep, closeStep}
 use Rattle.script.specs.declared.Part.{Part}
 use Rattle.script.specs.declared.Part.the-variants.{Within, Cut}
 use Rattle.script.specs.declared.Replayed.{Replayed}
@@ -60,20 +60,27 @@ partOf s start end = take (end - start) (drop start s)
 abbrev pub stepOf : ℕ → Session → List ℕ → Stepped
 stepOf call session part = cond (eqb call 115) (startStep session part) (pathStep session part)
 
+-- a call without a part: 99 is `c`, 98 is `b`
+abbrev pub isLone : ℕ → Bool
+isLone call = eqb call 99 || eqb call 98
+
+abbrev pub loneOf : ℕ → Session → Stepped
+loneOf call session = cond (eqb call 99) (closeStep session) (backStep session)
+
 -- a part, or that the script is cut short
 abbrev pub onPart : {A : Type 0} → Part → A → (ℕ → ℕ → A) → A
 onPart Cut short f = short
 onPart (Within start end) short f = f start end
 
--- the calls from a place on, at most k more: 115 is `s`, 112 is `p`, 99 is `c`
+-- the calls from a place on, at most k more: 115 is `s`, 112 is `p`
 unfoldable pub replayOn : ℕ → List ℕ → Session → ℕ → List ℕ → ℕ → Reply
 replayOn zero s session at buffer count = reply buffer count 0
 replayOn (suc k) s session at buffer count =
     cond (leb (length s) at)
     (reply buffer count 0)
-    (cond (eqb (getD s at 0) 99)
+    (cond (isLone (getD s at 0))
     (cond (hasRoomFor buffer count)
-    (replayOn k s session (at + 1) (withAnswer buffer count (closeStep session .answer)) (count + 1))
+    (replayOn k s (loneOf (getD s at 0) session .session) (at + 1) (withAnswer buffer count (loneOf (getD s at 0) session .answer)) (count + 1))
     (reply buffer count 3))
     (cond (eqb (getD s at 0) 115 || eqb (getD s at 0) 112)
     (onPart (partAt s (at + 1)) (reply buffer count 1) (λ start end.

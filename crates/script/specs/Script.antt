@@ -1,4 +1,4 @@
--- A session script: a plan record with its length before it, then calls: `s` or `p` with a part, its length before it, or `c`.
+-- A session script: a plan record with its length before it, then calls: `s` or `p` with a part, its length before it, or `b` or `c`.
 use Prim.Native.Nat.{ℕ, _+_, _*_}
 use mathlib.Core.List.{List}
 use mathlib.Core.Bool.{cond}

@@ -3,7 +3,7 @@ ghost use mathlib.Core.Path.{_≡_};
 ghost use Prim.Native.Nat.{_<_};
 ghost use lib.ListN.{length};
 ghost use Rattle.script.specs.Script.{partAt};
-ghost use Rattle.script.specs.Replay.{word, answerWord, hasRoomFor, answered, stepOf, replayOn, replayOf, replayedOf};
+ghost use Rattle.script.specs.Replay.{word, answerWord, hasRoomFor, answered, stepOf, loneOf, replayOn, replayOf, replayedOf};
 use record::Answer;
 use sessions::Session;
 use sessions::Stepped;
@@ -86,19 +86,35 @@ pub fn step(session: Session, call: u8, part: &[u8]) -> Stepped
     session.path(part)
 }
 
+// A closing or a taking back, which have no part, by the byte of the call.
+pub fn step_alone(session: Session, call: u8) -> Stepped
+    ensures { λ r. ⌜ r ≡ loneOf call session ⌝ }
+{
+    if call == b'c' {
+        return session.close();
+    }
+    session.back()
+}
+
 // The calls of a script from a place on.
 fn replay_on<'a>(s: &'a [u8], out: &'a mut [u8], first: Session, from: usize) -> Replayed
     ensures { λ r. ⌜ r ≡ replayedOf (replayOn (length (now (s .entry))) (now (s .entry)) first from (now (out .entry)) 1) ⌝ }
     ensures { λ r. ⌜ now (out .exit) ≡ replayOn (length (now (s .entry))) (now (s .entry)) first from (now (out .entry)) 1 .buffer ⌝ }
 {
-    let mut session = first;
+    // the last step is kept whole: each taking apart of a step may copy its session
+    let mut now = Stepped {
+        session: first,
+        answer: Answer::Accepted,
+        read: 0,
+    };
     let mut at = from;
     let mut count = 1;
     while at < s.len() {
         let call = s[at];
-        if call == b'c' {
-            let closed = session.close();
-            let answer = closed.answer;
+        let lone = (call == b'c') | (call == b'b');
+        if lone {
+            now = step_alone(now.session, call);
+            let answer = now.answer;
             let put = put_answer(out, count, answer);
             if !put {
                 return Replayed { count, status: 3 };
@@ -115,15 +131,17 @@ fn replay_on<'a>(s: &'a [u8], out: &'a mut [u8], first: Session, from: usize) ->
         let Part::Within(start, end) = part else {
             return Replayed { count, status: 1 };
         };
-        let stepped = step(session, call, &s[start..end]);
-        let answer = stepped.answer;
-        let next = stepped.session;
+        if call == b's' {
+            now = now.session.start(&s[start..end]);
+        } else {
+            now = now.session.path(&s[start..end]);
+        }
+        let answer = now.answer;
         let put = put_answer(out, count, answer);
         if !put {
             return Replayed { count, status: 3 };
         }
         count += 1;
-        session = next;
         at = end;
     }
     Replayed { count, status: 0 }

@@ -1,5 +1,5 @@
 // Replays a session script from standard input and prints a line for each call, the opening first.
-// A script is a plan record with its length before it, then calls: `s` or `p` with a part, its length before it, or `c`.
+// A script is a plan record with its length before it, then calls: `s` or `p` with a part, its length before it, or `b` or `c`.
 // A length is two bytes, the lower first. A script that ends inside a call, or has another call, ends the output.
 use libc::STDIN_FILENO;
 use libc::STDOUT_FILENO;

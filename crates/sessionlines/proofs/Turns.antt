@@ -6,15 +6,15 @@ use mathlib.Core.Path.{_≡_, refl, sym, ap, subst, _∙_}
 use native.Mathlib.Omega.{arith}
 use lib.Dec.{leb, eqb}
 use lib.ListN.{length, getD}
-use borrow.Author.Tests.{lt-ltb, le-ltb, le-leb, lt-leb, leb-true, leb-false, eq-eqb, ne-eqb}
+use borrow.Author.Tests.{lt-ltb, le-ltb, le-leb, lt-leb, leb-true, leb-false}
 use Rattle.sessions.specs.declared.Session.{Session}
 use Rattle.sessions.specs.declared.Opened.{Opened}
 use Rattle.sessions.specs.declared.Stepped.{Stepped}
-use Rattle.sessions.specs.Session.{noSession, opening, closeStep}
+use Rattle.sessions.specs.Session.{noSession, opening}
 use Rattle.script.specs.declared.Part.{Part}
 use Rattle.script.specs.declared.Part.the-variants.{Within, Cut}
 use Rattle.script.specs.Script.{partAt}
-use Rattle.script.specs.Replay.{onPart, partOf, stepOf}
+use Rattle.script.specs.Replay.{onPart, partOf, stepOf, isLone, loneOf}
 use Rattle.script.proofs.Parts.{part-within}
 use Rattle.lines.specs.Lines.{tooLong, written, longest}
 use Rattle.lines.proofs.Put.{Lined}
@@ -58,34 +58,34 @@ module _ (s : List ℕ) (session : Session) (at : ℕ) where
   call-none h = rw (le-leb (length s) at h)
 
   module _ (h : at < length s) where
-    pub call-close : getD s at 0 ≡ 99 → {x : Stepped} → x ≡ closeStep session → printed (answerLine (x .answer)) session (at + 1) ≡ callTurn s session at
+    pub call-lone : isLone (getD s at 0) ≡ true → {x : Stepped} → x ≡ loneOf (getD s at 0) session → printed (answerLine (x .answer)) (x .session) (at + 1) ≡ callTurn s session at
     unfolding callTurn
-    call-close c e = rw (lt-leb (length s) at h, eq-eqb _ _ c, e)
+    call-lone c e = rw (lt-leb (length s) at h, c, e)
 
-    module _ (c : getD s at 0 ≡ 99 → ⊥) where
+    module _ (c : isLone (getD s at 0) ≡ false) where
       pub call-unknown : eqb (getD s at 0) 115 || eqb (getD s at 0) 112 ≡ false → printed unknownCall session (length s) ≡ callTurn s session at
       unfolding callTurn
-      call-unknown d = rw (lt-leb (length s) at h, ne-eqb _ _ c, d)
+      call-unknown d = rw (lt-leb (length s) at h, c, d)
 
       module _ (d : eqb (getD s at 0) 115 || eqb (getD s at 0) 112 ≡ true) {x : Part} (e : x ≡ partAt s (at + 1)) where
         pub call-cut : x ≡ Cut → printed cutShort session (length s) ≡ callTurn s session at
         unfolding callTurn
-        call-cut f = rw (lt-leb (length s) at h, ne-eqb _ _ c, d, ← e, f)
+        call-cut f = rw (lt-leb (length s) at h, c, d, ← e, f)
 
         pub call-part : {start end : ℕ} → x ≡ Within start end → stepTurn (stepOf (getD s at 0) session (partOf s start end)) start end ≡ callTurn s session at
         unfolding callTurn
-        call-part f = rw (lt-leb (length s) at h, ne-eqb _ _ c, d, ← e, f)
+        call-part f = rw (lt-leb (length s) at h, c, d, ← e, f)
 
     pub call-on : at < callTurn s session at .at
     unfolding callTurn
-    call-on = rw (lt-leb (length s) at h) (go (eqb (getD s at 0) 99) (eqb (getD s at 0) 115 || eqb (getD s at 0) 112))
+    call-on = rw (lt-leb (length s) at h) (go (isLone (getD s at 0)) (eqb (getD s at 0) 115 || eqb (getD s at 0) 112))
       where
         parted : (x : Part) → x ≡ partAt s (at + 1)
             → at < onPart x (printed cutShort session (length s)) (λ start end. stepTurn (stepOf (getD s at 0) session (partOf s start end)) start end) .at
         parted Cut e = h
         parted (Within start end) e = let w = part-within s (at + 1) e refl in omega arith
 
-        go : (b d : Bool) → at < cond b (printed (answerLine (closeStep session .answer)) session (at + 1))
+        go : (b d : Bool) → at < cond b (printed (answerLine (loneOf (getD s at 0) session .answer)) (loneOf (getD s at 0) session .session) (at + 1))
             (cond d (onPart (partAt s (at + 1)) (printed cutShort session (length s)) (λ start end. stepTurn (stepOf (getD s at 0) session (partOf s start end)) start end))
             (printed unknownCall session (length s))) .at
         go true d = omega arith

@@ -8,9 +8,9 @@ use Rattle.record.specs.declared.Answer.{Answer}
 use Rattle.record.specs.declared.Answer.the-variants.{Accepted, Grade, PlanFault, CertificateFault}
 use Rattle.sessions.specs.declared.Session.{Session}
 use Rattle.sessions.specs.declared.Stepped.{Stepped}
-use Rattle.sessions.specs.Session.{noSession, opening, closeStep}
+use Rattle.sessions.specs.Session.{noSession, opening}
 use Rattle.script.specs.Script.{partAt}
-use Rattle.script.specs.Replay.{onPart, partOf, stepOf}
+use Rattle.script.specs.Replay.{onPart, partOf, stepOf, isLone, loneOf}
 use Rattle.lines.specs.Lines.{decimal, newline, tooLong, refusalLine, placeAfter}
 use Rattle.sessionlines.specs.declared.Turn.{Turn}
 
@@ -74,8 +74,8 @@ unfoldable pub callTurn : List ℕ → Session → ℕ → Printed
 callTurn s session at =
     cond (leb (length s) at)
     (printed [] session at)
-    (cond (eqb (getD s at 0) 99)
-    (printed (answerLine (closeStep session .answer)) session (at + 1))
+    (cond (isLone (getD s at 0))
+    (printed (answerLine (loneOf (getD s at 0) session .answer)) (loneOf (getD s at 0) session .session) (at + 1))
     (cond (eqb (getD s at 0) 115 || eqb (getD s at 0) 112)
     (onPart (partAt s (at + 1)) (printed cutShort session (length s)) (λ start end. stepTurn (stepOf (getD s at 0) session (partOf s start end)) start end))
     (printed unknownCall session (length s))))

@@ -146,12 +146,14 @@ pub fn call<'a>(script: &'a [u8], turn: Turn, out: &'a mut [u8]) -> Turn
         };
     }
     let byte = script[at];
-    if byte == b'c' {
-        let closed = session.close();
-        let answer = closed.answer;
+    let lone = (byte == b'c') | (byte == b'b');
+    if lone {
+        let alone = script::step_alone(session, byte);
+        let answer = alone.answer;
         let len = put_answer(out, answer);
+        let next = alone.session;
         return Turn {
-            session,
+            session: next,
             at: at + 1,
             len,
         };

@@ -1,9 +1,9 @@
-// The building session: opening, start, path, closing.
+// The building session: opening, start, path, taking back, closing.
 ghost use mathlib.Core.Path.{_≡_};
-ghost use Prim.Native.Nat.{_<_};
 ghost use lib.ListN.{drop};
-ghost use Rattle.sessions.specs.Session.{noSession, opening, refusedStep, unreadStep, startStep, pathCount, dueStep, pathStep, closing, closeStep, startRest, pathRest};
+ghost use Rattle.sessions.specs.Session.{noSession, opening, refusedStep, unreadStep, startStep, isDue, pathStep, hasPath, backStep, closing, closeStep, startRest, pathRest};
 use build::Build;
+use build::Trace;
 use graph::GraphTable;
 use links::Link;
 use record::Answer;
@@ -16,6 +16,8 @@ pub struct Session {
     pub started: bool,
     pub taken: u16,
     pub build: Build,
+    // the trace of each path that is in, in their order; none behind the last
+    pub traces: [Trace; Session::PATHS],
 }
 
 pub struct Opened {
@@ -31,18 +33,23 @@ pub struct Stepped {
 }
 
 impl Session {
+    // no more paths can come after a start, by the limits of the format
+    pub const PATHS: usize = GraphTable::MAX_EDGES as usize - GraphTable::MIN_VERTICES as usize - 2;
+
     // A session never opened.
     pub fn none() -> Self
         ensures { λ r. ⌜ r ≡ noSession ⌝ }
     {
         let graph = GraphTable::none();
         let build = Build::bare(VertexSet::empty());
+        let trace = Trace::none();
         Session {
             graph,
             ready: false,
             started: false,
             taken: 0,
             build,
+            traces: [trace; Session::PATHS],
         }
     }
 
@@ -91,12 +98,14 @@ impl Session {
             pointers,
             linked,
         };
+        let traces = self.traces;
         let session = Session {
             graph,
             ready: false,
             started: true,
             taken: 0,
             build,
+            traces,
         };
         Stepped {
             session,
@@ -105,31 +114,28 @@ impl Session {
         }
     }
 
-    // One further path; 31 before reading where none is due.
-    pub fn path(self, part: &[u8]) -> Stepped
-        ensures { λ x. ⌜ x ≡ pathStep self (now (part .entry)) ⌝ }
+    // A path is due, and its trace has room (in every session that calls gave it has).
+    fn is_due(self) -> bool
+        ensures { λ r. ⌜ r ≡ isDue self ⌝ }
     {
-        let started = self.started;
-        if !started {
-            return self.refused(31, 0);
-        }
         let graph = self.graph;
-        if build::further_count(graph.d, graph.n) <= self.taken {
-            return self.refused(31, 0);
-        }
-        self.take(part)
+        let count = build::further_count(graph.d, graph.n);
+        self.started & ((self.taken < count) & ((self.taken as usize) < Session::PATHS))
     }
 
-    // The path that is due.
-    fn take(mut self, part: &[u8]) -> Stepped
-        requires { ⌜ self .taken < pathCount self ⌝ }
-        ensures { λ x. ⌜ x ≡ dueStep self (now (part .entry)) ⌝ }
+    // One further path; 31 before reading where none is due. Each call of a function with a session, and each return, may copy it, so this is one function.
+    pub fn path(mut self, part: &[u8]) -> Stepped
+        ensures { λ x. ⌜ x ≡ pathStep self (now (part .entry)) ⌝ }
     {
+        let due = self.is_due();
+        if !due {
+            return self.refused(31, 0);
+        }
         let graph = self.graph;
         let b = self.build;
         let mut pointers = b.pointers;
         let mut linked = b.linked;
-        let x = build::take_path(
+        let y = build::take_path(
             part,
             &graph.rows,
             graph.n,
@@ -138,11 +144,15 @@ impl Session {
             &mut pointers,
             &mut linked,
         );
+        let x = y.taken;
         let end = x.end;
         let answer = end.answer;
         let Answer::Accepted = answer else {
             return self.unread(answer);
         };
+        let i = self.taken as usize;
+        let trace = y.trace;
+        self.traces[i] = trace;
         self.taken += 1;
         let sets = x.sets;
         let build = Build {
@@ -155,6 +165,42 @@ impl Session {
             session: self,
             answer: Answer::Accepted,
             read: end.next,
+        }
+    }
+
+    // A path is there to take back; that it is within the room only matters in a session that no calls gave.
+    fn has_path(self) -> bool
+        ensures { λ r. ⌜ r ≡ hasPath self ⌝ }
+    {
+        self.started & ((0 < self.taken) & (self.taken as usize <= Session::PATHS))
+    }
+
+    // Takes back the path that was accepted last; 31 where there is none. Nothing is read.
+    pub fn back(mut self) -> Stepped
+        ensures { λ x. ⌜ x ≡ backStep self ⌝ }
+    {
+        let there = self.has_path();
+        if !there {
+            return self.refused(31, 0);
+        }
+        let left = self.taken - 1;
+        self.taken = left;
+        let i = left as usize;
+        let b = self.build;
+        let mut pointers = b.pointers;
+        let mut linked = b.linked;
+        let sets = build::take_back(b.sets, &mut pointers, &mut linked, self.traces[i]);
+        let build = Build {
+            sets,
+            pointers,
+            linked,
+        };
+        self.build = build;
+        self.traces[i] = Trace::none();
+        Stepped {
+            session: self,
+            answer: Answer::Accepted,
+            read: 0,
         }
     }
 
@@ -209,12 +255,14 @@ pub fn open(plan: &[u8]) -> Opened
         };
     }
     let build = Build::bare(VertexSet::empty());
+    let trace = Trace::none();
     let session = Session {
         graph,
         ready: true,
         started: false,
         taken: 0,
         build,
+        traces: [trace; Session::PATHS],
     };
     Opened { answer, session }
 }

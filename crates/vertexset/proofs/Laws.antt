@@ -1,6 +1,6 @@
 -- What the definitions on words say about members, at any number of words. Assumes nothing.
 use mathlib.Core.Path.{_≡_, refl, sym, ap, fun-ext, _∙_}
-use mathlib.Core.Bool.{Bool, true, false, not, _&&_, _||_, or-false, and-true, false≢true, cond}
+use mathlib.Core.Bool.{Bool, true, false, not, _&&_, _||_, or-false, or-true, and-true, and-false, false≢true, cond}
 use mathlib.Core.List.{List, [], _∷_}
 use mathlib.Core.Logic.{_⊎_, inl, inr, ⊎-elim}
 use Prim.Native.Nat.{ℕ, zero, suc, _+_, _*_, _-_, _/_, _%_, _^_, _<_, _≤_}
@@ -14,7 +14,7 @@ use lib.Seq.{getD-set-same, getD-set-other, ext-getD}
 use lib.Bits.{bitOr, and-le-l, xor-lt}
 use borrow.Author.Tests.{eq-eqb, ne-eqb, eqb-true, ltb-true, ltb-false, not-false}
 use Rattle.vertexset.specs.declared.VertexSet.{VertexSet}
-use Rattle.vertexset.specs.Set.{Words, wordCount, has, emptySet, withBit, inserted, zip, wordwise, less, count, none, subsetOf, firstFrom, next}
+use Rattle.vertexset.specs.Set.{Words, wordCount, has, emptySet, withBit, inserted, withoutBit, removed, zip, wordwise, less, count, none, subsetOf, firstFrom, next}
 use Rattle.vertexset.proofs.Bit.{on, on-or, on-less, on-zero, on-pow, same-bits, tally-same, ones-tally, tally}
 
 -- ---- members after each operation
@@ -24,7 +24,7 @@ has-past ws x h =
     let l : length ws ≤ x / 64 = omega arith in
     rw (List·getD-eq-default ws 0 l, zero-div)
 
-zeros-at : (n i : ℕ) → _≡_ {A = ℕ} (getD (replicate n 0) i 0) 0
+pub zeros-at : (n i : ℕ) → _≡_ {A = ℕ} (getD (replicate n 0) i 0) 0
 zeros-at zero i = refl
 zeros-at (suc n) zero = refl
 zeros-at (suc n) (suc i) = zeros-at n i
@@ -104,6 +104,46 @@ insert-again ws v h m = same-words (withBit ws v) ws (length-set ws (v / 64) _) 
     | yes e ↦ rw (e, getD-set-same ws (v / 64) _ 0 (omega arith)) (kept (getD ws (v / 64) 0) (v % 64) k m)
     | no n ↦ rw (getD-set-other ws (v / 64) i _ 0 n)
   ]
+
+-- a word that is set twice, at last to the bits that it had
+set-back : (ws : List ℕ) (i a b : ℕ) → i < length ws → ((k : ℕ) → on b k ≡ on (getD ws i 0) k) → set (set ws i a) i b ≡ ws
+set-back ws i a b h same = same-words (set (set ws i a) i b) ws (length-set (set ws i a) i b ∙ length-set ws i a) at where
+  at : (j k : ℕ) → on (getD (set (set ws i a) i b) j 0) k ≡ on (getD ws j 0) k
+  at j k = elim (ℕ-discrete j i) [
+    | yes e ↦ rw (e, getD-set-same (set ws i a) i b 0 (omega (arith, length-set ws i a))) (same k)
+    | no n ↦ rw (getD-set-other (set ws i a) i j b 0 n, getD-set-other ws i j a 0 n)
+  ]
+
+-- a vertex that comes in and goes out again, and one that goes out and comes in again
+pub remove-inserted : (ws : List ℕ) (v : ℕ) → v < 64 * length ws → has ws v ≡ false → withoutBit (withBit ws v) v ≡ ws
+remove-inserted ws v h m =
+    let l : v / 64 < length ws = omega arith in
+    rw (getD-set-same ws (v / 64) (bitOr (getD ws (v / 64) 0) (2 ^ (v % 64))) 0 l)
+    (set-back ws (v / 64) (bitOr (getD ws (v / 64) 0) (2 ^ (v % 64))) (less (bitOr (getD ws (v / 64) 0) (2 ^ (v % 64))) (2 ^ (v % 64))) l (λ k. kept (getD ws (v / 64) 0) (v % 64) k m)) where
+      old : (b : Bool) → ((b || false) && true) ≡ b
+      old true = refl
+      old false = refl
+
+      kept : (w j k : ℕ) → on w j ≡ false → on (less (bitOr w (2 ^ j)) (2 ^ j)) k ≡ on w k
+      kept w j k t = elim (ℕ-discrete j k) [
+        | yes e ↦ rw (← e, on-less (bitOr w (2 ^ j)) (2 ^ j) j, on-pow, eq-eqb j j refl, t) (and-false (on (bitOr w (2 ^ j)) j))
+        | no n ↦ rw (on-less (bitOr w (2 ^ j)) (2 ^ j) k, on-or w (2 ^ j) k, on-pow, ne-eqb j k n) (old (on w k))
+      ]
+
+pub insert-removed : (ws : List ℕ) (v : ℕ) → v < 64 * length ws → has ws v ≡ true → withBit (withoutBit ws v) v ≡ ws
+insert-removed ws v h m =
+    let l : v / 64 < length ws = omega arith in
+    rw (getD-set-same ws (v / 64) (less (getD ws (v / 64) 0) (2 ^ (v % 64))) 0 l)
+    (set-back ws (v / 64) (less (getD ws (v / 64) 0) (2 ^ (v % 64))) (bitOr (less (getD ws (v / 64) 0) (2 ^ (v % 64))) (2 ^ (v % 64))) l (λ k. kept (getD ws (v / 64) 0) (v % 64) k m)) where
+      old : (b : Bool) → ((b && true) || false) ≡ b
+      old true = refl
+      old false = refl
+
+      kept : (w j k : ℕ) → on w j ≡ true → on (bitOr (less w (2 ^ j)) (2 ^ j)) k ≡ on w k
+      kept w j k t = elim (ℕ-discrete j k) [
+        | yes e ↦ rw (← e, on-or (less w (2 ^ j)) (2 ^ j) j, on-pow, eq-eqb j j refl, t) (or-true (on (less w (2 ^ j)) j))
+        | no n ↦ rw (on-or (less w (2 ^ j)) (2 ^ j) k, on-less w (2 ^ j) k, on-pow, ne-eqb j k n) (old (on w k))
+      ]
 
 -- ---- no members, and members of another set
 
@@ -233,6 +273,9 @@ inserted-has s v l h = has-insert (s .words) v (omega arith)
 
 pub inserted-length : (s : VertexSet) (v : ℕ) → length (s .words) ≡ wordCount → length (inserted s v .words) ≡ wordCount
 inserted-length s v l = simp length-set l
+
+pub removed-inserted : (s : VertexSet) (v : ℕ) → length (s .words) ≡ wordCount → v < 64 * wordCount → has (s .words) v ≡ false → removed (inserted s v) v ≡ s
+removed-inserted s v l h m = ap (λ (ws : List ℕ). record { words = ws }) (remove-inserted (s .words) v (omega arith) m)
 
 pub wordwise-length : (f : ℕ → ℕ → ℕ) (s t : VertexSet) → length (s .words) ≡ wordCount → length (t .words) ≡ wordCount → length (wordwise f s t .words) ≡ wordCount
 wordwise-length f s t l m = length-zip f _ _ (l ∙ sym m) ∙ l

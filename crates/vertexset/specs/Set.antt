@@ -36,6 +36,18 @@ withBit ws v = set ws (v / 64) (bitOr (getD ws (v / 64) 0) (2 ^ (v % 64)))
 abbrev pub inserted : VertexSet → ℕ → VertexSet
 inserted s v = record { words = withBit (s .words) v }
 
+-- the bits of x that are not bits of y
+abbrev pub less : ℕ → ℕ → ℕ
+less x y = bitXor x (bitAnd x y)
+
+-- the words without that bit; nothing changes where v is past the words
+abbrev pub withoutBit : List ℕ → ℕ → List ℕ
+withoutBit ws v = set ws (v / 64) (less (getD ws (v / 64) 0) (2 ^ (v % 64)))
+
+-- the set without v
+abbrev pub removed : VertexSet → ℕ → VertexSet
+removed s v = record { words = withoutBit (s .words) v }
+
 -- the vertices below n; past the words there are none
 unfoldable pub belowSet : ℕ → VertexSet
 belowSet zero = emptySet
@@ -50,10 +62,6 @@ zip f (x ∷ xs) (y ∷ ys) = f x y ∷ zip f xs ys
 -- two sets, word by word: the union by bitOr, the difference by less
 abbrev pub wordwise : (ℕ → ℕ → ℕ) → VertexSet → VertexSet → VertexSet
 wordwise f s t = record { words = zip f (s .words) (t .words) }
-
--- the bits of x that are not bits of y
-abbrev pub less : ℕ → ℕ → ℕ
-less x y = bitXor x (bitAnd x y)
 
 -- how many bits of the words are 1
 unfoldable pub count : List ℕ → ℕ

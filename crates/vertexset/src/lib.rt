@@ -3,7 +3,7 @@ ghost use mathlib.Core.Path.{_≡_};
 ghost use lib.Bits.{bitOr};
 ghost use lib.ListN.{getD};
 ghost use Prim.Native.Nat.{_<_};
-ghost use Rattle.vertexset.specs.Set.{has, emptySet, inserted, count, wordwise, less, none, subsetOf, next, belowSet, wordCount};
+ghost use Rattle.vertexset.specs.Set.{has, emptySet, inserted, removed, count, wordwise, less, none, subsetOf, next, belowSet, wordCount};
 ghost use Rattle.vertexset.specs.Walk.{standing, walkFrom, going, meets, met, stepped};
 
 pub struct VertexSet {
@@ -49,6 +49,23 @@ impl VertexSet {
             i += 1;
             if w == k {
                 self.words[w] |= bit;
+            }
+        }
+        self
+    }
+
+    // Nothing changes where v is no member, or past the words.
+    pub fn remove(mut self, v: u16) -> Self
+        ensures { λ r. ⌜ r ≡ removed self v ⌝ }
+    {
+        let k = (v / 64) as usize;
+        let bit = 1u64 << (v % 64);
+        let mut i = 0;
+        while i < VertexSet::WORDS {
+            let w = i;
+            i += 1;
+            if w == k {
+                self.words[w] ^= self.words[w] & bit;
             }
         }
         self

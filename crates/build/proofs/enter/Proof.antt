@@ -1,7 +1,7 @@
 -- `build::enter` meets its contract: a path of two vertices has none inside. Assumes nothing.
 use mathlib.Core.Path.{refl}
 use borrow.Author.Needs.{needs}
-use Rattle.build.proofs.Inner.{inner-some, entered-short, entered-long}
+use Rattle.build.proofs.Inner.{inner-some, before-short, entered-short, entered-long}
 use Rattle.build.proofs.enter.Statement.{statement}
 use Rattle.build.proofs.enter.Tie as tie
 
@@ -9,16 +9,21 @@ returns : tie.Need-returns
 returns c =
     let j = c .before .before .before in
     let st = j .before .before .before in
-    let a = st .args in
-    (refl, entered-short (st .pre) (a .sets) (a .pointers .now) (a .linked .now) (c .if1 .taken) (j .join .ensures))
+    let a = st .args in (
+      refl,
+      (
+        entered-short (st .pre) (a .sets) (a .pointers .now) (a .linked .now) (c .if1 .taken) (j .join .ensures),
+        before-short (st .pre) (a .sets) (a .pointers .now) (a .linked .now) (c .if1 .taken),
+      ),
+    )
 
 returns-2 : tie.Need-returns-2
 returns-2 c =
-    let t = c .before .take-inner .ensures in
-    let j = c .before .before .before .before .before .before in
+    let t = c .before .before .take-inner .ensures in
+    let j = c .before .before .before .before .before .before .before in
     let st = j .before .before .before in
     let a = st .args in
-    (refl, entered-long (st .pre) (a .sets) (a .pointers .now) (a .linked .now) (t .0) (t .1) (j .join .ensures))
+    (refl, (entered-long (st .pre) (a .sets) (a .pointers .now) (a .linked .now) (t .0) (t .1 .1) (j .join .ensures), t .1 .0))
 
 take-inner-requires : tie.Need-take-inner-requires
 take-inner-requires c κs =

@@ -17,24 +17,24 @@ abbrev μ-loop : tie.MeasureT-loop
 
 returns : tie.Need-returns Inv-loop μ-loop
 returns c =
-    let k = c .before .before in
+    let k = c .before .before .before in
     let h = k .before .before .before in
     let l = h .before .loop in
     let st = h .before .before .before .before .before in
     let a = st .args in
     let b = buildIn (l .sets) (l .pointers) (l .linked) in
-    further-stop (a .n) (a .rows .now) (a .s .now) b (l .at) (st .pre) (k .take-path .ensures) (l .left) (h .loop-test .taken) (c .match .keys2) ∙ l .inv
+    further-stop (a .n) (a .rows .now) (a .s .now) b (l .at) (st .pre) (k .take-path .ensures .0) (l .left) (h .loop-test .taken) (c .match .keys2) ∙ l .inv
 
 loop-again : tie.Need-loop-again Inv-loop μ-loop
 loop-again c =
     let m = c .before in
-    let k = m .before .before .before in
+    let k = m .before .before .before .before in
     let h = k .before .before .before in
     let l = h .before .loop in
     let st = h .before .before .before .before .before in
     let a = st .args in
     let b = buildIn (l .sets) (l .pointers) (l .linked) in
-    further-go (a .n) (a .rows .now) (a .s .now) b (l .at) (st .pre) (k .take-path .ensures) (l .left) (h .loop-test .taken) (m .enum-told .given .1) ∙ l .inv
+    further-go (a .n) (a .rows .now) (a .s .now) b (l .at) (st .pre) (k .take-path .ensures .0) (l .left) (h .loop-test .taken) (m .enum-told .given .1) ∙ l .inv
 
 returns-2 : tie.Need-returns-2 Inv-loop μ-loop
 returns-2 c =

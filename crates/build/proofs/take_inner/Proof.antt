@@ -11,7 +11,7 @@ use Rattle.vertexset.proofs.Bit.{bit-of}
 use Rattle.paths.proofs.Sets.{ofWords}
 use Rattle.links.specs.Tables.{pointAlong, lastFrom, matedEnds}
 use Rattle.build.specs.Code.{innerAt}
-use Rattle.build.proofs.Inner.{value-low, innerFrom, inner-vertices, inner-begun, pointed-on, inner-on, pointed-done, inner-done, last-on, last-done, mated-done}
+use Rattle.build.proofs.Inner.{value-low, innerFrom, inner-vertices, inner-begun, pointed-on, inner-on, pointed-done, inner-done, last-on, last-done, before-begun, mated-done}
 use Rattle.build.proofs.take_inner.Statement.{statement}
 use Rattle.build.proofs.take_inner.Tie as tie
 use Rattle.paths.proofs.Reading.{valuesFrom}
@@ -73,8 +73,11 @@ returns c =
     let last = last-done (i .n) (i .s .now) (l .u) (l .v) (l .left) (l .next) done ∙ l .inv .4 in
     let along = pointed-done (i .n) (i .s .now) (l .u) (l .v) (l .left) (l .next) (l .pointers) done ∙ l .inv .2 in (
       inner-done (i .n) (i .s .now) (l .u) (l .v) (l .left) (l .next) (ofWords (l .words)) done ∙ l .inv .3,
-      mated-done (i .n) (i .s .now) (i .at) (st .pre .0) (x .read-ranged .ensures) (a .read-vertex .ensures) (b .read-vertex2 .ensures) (l .pointers) (st .pre .1) last (c .mate .ensures)
-          ∙ ap (λ (p : List ℕ). matedEnds p (innerAt (i .n) (i .s .now) (i .at))) along,
+      (
+        last ∙ before-begun (i .n) (i .s .now) (i .at) (st .pre .0) (x .read-ranged .ensures) (a .read-vertex .ensures) (b .read-vertex2 .ensures),
+        mated-done (i .n) (i .s .now) (i .at) (st .pre .0) (x .read-ranged .ensures) (a .read-vertex .ensures) (b .read-vertex2 .ensures) (l .pointers) (st .pre .1) last (c .mate .ensures)
+            ∙ ap (λ (p : List ℕ). matedEnds p (innerAt (i .n) (i .s .now) (i .at))) along,
+      ),
     )
 
 pub take-inner-spec : {M : Type 1} → statement M

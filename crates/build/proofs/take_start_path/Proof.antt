@@ -31,12 +31,13 @@ enter-requires c κs =
 
 returns-3 : tie.Need-returns-3
 returns-3 c =
-    let i = c .before .before .before in
+    let e = c .before .enter .ensures in
+    let i = c .before .before .before .before in
     let m = i .before .before .before .before .before .before in
     let k = m .before .before .before in
     let a = k .before .before .before .args in
     let T = start-takes (a .n) (a .rows .now) (a .s .now) (a .at) (a .ends) (buildIn (a .sets) (a .pointers .now) (a .linked .now)) in
-    leaves-taken T (k .read-link-path .ensures) (m .enum-told .given .1) (i .before .path-fault .ensures) (i .if1 .left) (c .enter .ensures .0) (c .enter .ensures .1)
+    leaves-taken T (k .read-link-path .ensures) (m .enum-told .given .1) (i .before .path-fault .ensures) (i .if1 .left) (e .0) (e .1 .0)
 
 pub take-start-path-spec : {M : Type 1} → statement M
 take-start-path-spec = tie.close (tie.spec

@@ -6,7 +6,7 @@ use borrow.Author.Tests.{not-true, not-false}
 use Rattle.script.proofs.Parts.{part-within}
 use Rattle.lines.proofs.Put.{put-none, lined}
 use Rattle.sessionlines.specs.Lines.{answerLine}
-use Rattle.sessionlines.proofs.Turns.{said, said-as, call-none, call-close, call-unknown, call-cut, call-part}
+use Rattle.sessionlines.proofs.Turns.{said, said-as, call-none, call-lone, call-unknown, call-cut, call-part}
 use borrow.Author.Needs.{needs}
 use Rattle.sessionlines.proofs.call.Statement.{statement}
 use Rattle.sessionlines.proofs.call.Tie as tie
@@ -18,10 +18,12 @@ returns c =
 
 returns-2 : tie.Need-returns-2
 returns-2 c =
-    let a = c .before .before .before .before .before .before .before .before .before .before .before .args in
-    let x = c .before .before .before .before .close in
-    said-as (a .out .now) (call-close (a .script .now) (a .turn .session) (a .turn .at) (c .before .before .before .before .before .before .before .if1 .left) (c .before .before .before .before .before .if2 .taken) (x .ensures))
-    (said (a .out .now) (answerLine (x .result .answer)) (a .turn .session) (a .turn .at + 1) (c .before .before .put-answer .ensures))
+    let x = c .before .before .before .before .before in
+    let k = x .before in
+    let a = k .before .before .before .before .before .before .args in
+    let y = x .step-alone in
+    said-as (a .out .now) (call-lone (a .script .now) (a .turn .session) (a .turn .at) (k .before .before .if1 .left) (k .if2 .taken) (y .ensures))
+    (said (a .out .now) (answerLine (y .result .answer)) (y .result .session) (a .turn .at + 1) (c .before .before .before .put-answer .ensures))
 
 returns-3 : tie.Need-returns-3
 returns-3 c =

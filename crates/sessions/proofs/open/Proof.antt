@@ -13,11 +13,12 @@ returns-2 c = let k = c .before .before .before .before .before in open-few _ (k
 
 returns-3 : tie.Need-returns-3
 returns-3 c =
-    let i = c .before .before in
+    let b = c .before in
+    let i = b .before .before in
     let k = i .before .before .before .before in
-    open-accepted _ (k .before .before .read-plan .ensures) (k .enum-told .given .1) (i .if1 .left) (c .bare .ensures ∙ rw (c .before .empty .ensures))
+    open-accepted _ (k .before .before .read-plan .ensures) (k .enum-told .given .1) (i .if1 .left) (b .bare .ensures ∙ rw (b .before .empty .ensures)) (c .none3 .ensures)
 
 pub open-spec : {M : Type 1} → statement M
 open-spec = tie.close (tie.spec
     (λ c κs. search needs) (λ c. search needs) (λ c κs. search needs) returns (λ c. search needs) (λ c. search needs) (λ c. search needs) (λ c κs. search needs) returns-2
-    (λ c κs. search needs) (λ c κs. search needs) returns-3)
+    (λ c κs. search needs) (λ c κs. search needs) (λ c κs. search needs) returns-3)

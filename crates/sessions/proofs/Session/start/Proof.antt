@@ -21,7 +21,7 @@ returns-2 c =
 
 returns-3 : tie.Need-returns-3
 returns-3 c =
-    let t = c .before in
+    let t = c .before .before in
     let k = t .before .before .before in
     let i = k .before .before .before .before .before .before in
     let a = i .before .before .args in

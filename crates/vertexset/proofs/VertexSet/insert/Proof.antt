@@ -1,23 +1,16 @@
 -- `VertexSet::insert` meets its contract: the word of v is changed when it is passed, and no other. Assumes nothing.
-use mathlib.Core.Path.{_≡_, refl, _∙_}
-use mathlib.Core.Bool.{Bool, true, false, cond}
-use mathlib.Core.Logic.{_≢_}
-use Prim.Native.Nat.{ℕ, _≤_, _+_, _-_, _/_}
+use mathlib.Core.Path.{_≡_, _∙_}
+use Prim.Native.Nat.{_≤_, _+_, _-_, _/_}
 use native.Mathlib.Omega.{arith}
 use lib.Dec.{ltb}
 use lib.ListN.{length}
-use lib.Seq.{set-out}
 use borrow.Author.Needs.{needs}
-use borrow.Author.Tests.{lt-ltb, le-ltb, ltb-true, ltb-false}
+use borrow.Author.Tests.{lt-ltb, le-ltb}
 use Rattle.vertexset.specs.Set.{wordCount, inserted}
-use Rattle.vertexset.specs.declared.VertexSet.{VertexSet}
 use Rattle.vertexset.proofs.Bit.{bit-of}
+use Rattle.vertexset.proofs.Passed.{passed, other, all-passed}
 use Rattle.vertexset.proofs.VertexSet.insert.Statement.{statement}
 use Rattle.vertexset.proofs.VertexSet.insert.Tie as tie
-
--- as it was up to the word of v, with v behind it
-abbrev passed : VertexSet → Bool → VertexSet → VertexSet
-passed before b after = cond b after before
 
 abbrev Inv-loop : tie.InvT-loop
 Inv-loop v self₀ k bit i₀ self i = self ≡ passed self₀ (ltb (v / 64) i) (inserted self₀ v)
@@ -36,14 +29,6 @@ loop-again c =
     let z : l .self ≡ a .t1 = l .inv ∙ rw (le-ltb (a .v / 64) (l .i) (omega arith)) in
     rw (lt-ltb (a .v / 64) (l .i + 1) (omega arith), z, e, bit-of (a .v))
 
--- another word does not matter
-other : (k i : ℕ) → i ≢ k → ltb k (i + 1) ≡ ltb k i
-other k i n = go (ltb k i) refl
-  where
-    go : (b : Bool) → ltb k i ≡ b → ltb k (i + 1) ≡ b
-    go true e = lt-ltb k (i + 1) (omega (arith, ltb-true k i e))
-    go false e = le-ltb k (i + 1) (omega (arith, ltb-false k i e))
-
 loop-again-2 : tie.Need-loop-again-2 Inv-loop μ-loop
 loop-again-2 c =
     let l = c .before .before .loop in
@@ -56,11 +41,7 @@ returns c =
     let a = c .before .before .args in
     let n : length (a .t1 .words) ≡ wordCount = search needs in
     let i : wordCount ≤ l .i = c .loop-test .left in
-    l .inv ∙ go (a .t1) (a .v) (l .i) n i (ltb (a .v / 64) (l .i)) refl
-  where
-    go : (s : VertexSet) (v i : ℕ) → length (s .words) ≡ wordCount → wordCount ≤ i → (b : Bool) → ltb (v / 64) i ≡ b → passed s b (inserted s v) ≡ inserted s v
-    go s v i n h true e = refl
-    go s v i n h false e = let l : length (s .words) ≤ v / 64 = omega (arith, ltb-false (v / 64) i e) in rw set-out
+    l .inv ∙ all-passed (a .t1) (a .v) (l .i) _ n i
 
 pub insert-spec : {M : Type 1} → statement M
 insert-spec = tie.close (tie.spec Inv-loop μ-loop
