@@ -24,8 +24,7 @@ use Rattle.paths.proofs.Told.{path-told, path-fault}
 use Rattle.links.specs.declared.End.{End}
 use Rattle.links.specs.declared.Addition.{Addition}
 use Rattle.links.specs.Ends.{additionOf, held}
-use Rattle.links.specs.declared.Split.{Split}
-use Rattle.links.specs.Tables.{splitBy, splitMatesBy, splitOf, lastFrom}
+use Rattle.links.specs.Tables.{splitBy, splitMatesBy, isInner, lastFrom}
 use Rattle.build.specs.declared.Build.{Build}
 use Rattle.build.specs.declared.Taken.{Taken}
 use Rattle.build.specs.declared.Trace.{Trace}
@@ -86,7 +85,7 @@ limit-refused {A} {B} n R Q s at {q} {p} f = go (leb n capacity)
     go true e = f e
     go false e = let y : q ≡ 9 = cc in let z : p ≡ at = cc in rw (y, z)
 
-same-trace : {a b c a′ b′ c′ : ℕ} {k l k′ l′ : Split} → a ≡ a′ → b ≡ b′ → c ≡ c′ → k ≡ k′ → l ≡ l′
+same-trace : {a b c a′ b′ c′ : ℕ} {k l k′ l′ : Bool} → a ≡ a′ → b ≡ b′ → c ≡ c′ → k ≡ k′ → l ≡ l′
     → _≡_ {A = Trace} (record { first = a; last = b; before = c; from = k; upto = l }) (record { first = a′; last = b′; before = c′; from = k′; upto = l′ })
 same-trace d e f g h = rw (d, e, f, g, h)
 
@@ -165,7 +164,7 @@ module _ {n : ℕ} {adj : ℕ → ℕ → Bool} {old : ℕ → Bool} {item : Bui
         record { end = k ∙ end ∙ sym (ap endRead read); build = m ∙ built ∙ sym (ap (onPathRead step b) read) }
 
     -- the trace that it leaves, by what the code has of it
-    pub traced : {q k : ℕ} {from upto : Split} → q ≡ T .fault x → q ≤ 0 → k ≡ beforeAt n s at → from ≡ splitOf (endOf b (x .first)) → upto ≡ splitOf (endOf b (x .last))
+    pub traced : {q k : ℕ} {from upto : Bool} → q ≡ T .fault x → q ≤ 0 → k ≡ beforeAt n s at → from ≡ isInner (endOf b (x .first)) → upto ≡ isInner (endOf b (x .last))
         → _≡_ {A = Trace} (record { first = x .first; last = x .last; before = k; from = from; upto = upto }) (traceRead b (limited n (item b) s at))
     unfolding traceRead beforeAt
     traced {k = k} {from = from} {upto = upto} g h m d u =
@@ -175,7 +174,7 @@ module _ {n : ℕ} {adj : ℕ → ℕ → Bool} {old : ℕ → Bool} {item : Bui
         let first : x .first ≡ P .s = ap (λ (y : PathRead). y .first) (told .1 .1) in
         let last : x .last ≡ P .t = ap (λ (y : PathRead). y .last) (told .1 .1) in
         let before : k ≡ lastFrom (P .s) (P .inner) = m ∙ ap (λ (r : Read Path). orKept r (λ P next. lastFrom (P .s) (P .inner)) 0) (got .1) in
-        same-trace first last before (d ∙ ap (λ (v : ℕ). splitOf (endOf b v)) first) (u ∙ ap (λ (v : ℕ). splitOf (endOf b v)) last) ∙ sym (ap (traceRead b) read)
+        same-trace first last before (d ∙ ap (λ (v : ℕ). isInner (endOf b v)) first) (u ∙ ap (λ (v : ℕ). isInner (endOf b v)) last) ∙ sym (ap (traceRead b) read)
 
 -- the code's own results for what a test asks
 pub fault-same : (along new p q h p′ q′ h′ : Bool) → p ≡ p′ → q ≡ q′ → h ≡ h′ → pathFault along (p && q) new (not h) ≡ pathFault along (p′ && q′) new (not h′)

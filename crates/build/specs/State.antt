@@ -2,7 +2,7 @@
 -- for the two outermost ones of a link each other, and which branch vertices a link joins. Each definition says what one function does to it.
 use Prim.Native.Nat.{ℕ, zero, suc}
 use mathlib.Core.List.{List}
-use mathlib.Core.Bool.{Bool, cond, _&&_, not}
+use mathlib.Core.Bool.{Bool, false, cond, _&&_, not}
 use lib.Dec.{eqb}
 use lib.ListN.{replicate}
 use Rattle.record.specs.Read.{Reader, _needs⟨_⟩_, _▸_, many, check, folded}
@@ -18,8 +18,7 @@ use Rattle.links.specs.declared.End.{End}
 use Rattle.links.specs.declared.End.the-variants.{Branch, Inner}
 use Rattle.links.specs.declared.Addition.{Addition}
 use Rattle.links.specs.Ends.{additionOf, held}
-use Rattle.links.specs.declared.Split.{Split}
-use Rattle.links.specs.Tables.{pointerCount, pointer, pointAlong, lastFrom, matedEnds, endIn, splitBy, splitMatesBy, splitOf, raises, cleared, rejoinedBy, rejoinedMatesBy}
+use Rattle.links.specs.Tables.{pointerCount, pointer, pointAlong, lastFrom, matedEnds, endIn, splitBy, splitMatesBy, isInner, cleared, linkSplit, rejoinedRows, rejoinedMates}
 use Rattle.build.specs.declared.Build.{Build}
 use Rattle.build.specs.declared.Trace.{Trace}
 
@@ -63,13 +62,13 @@ buildPath g b =
     path (g .n) 2 needs⟨ 24 ⟩ pathAlong g needs⟨ 25 ⟩ bothIn b needs⟨ 26 ⟩ pathNew (has (b .sets .built .words)) needs⟨ 27 ⟩ (λ P. not (held (pathAddition b P)))
 
 -- BACK AGAIN. "The session's record must then carry, for each path, what it split and which ends it raised to branch boxes." The trace of a path that
--- was taken in: its two ends, the vertex before the last one on it, and what it split at each end.
+-- was taken in: its two ends, the vertex before the last one on it, and which ends it raised. What it split there the pointers tell: a vertex that was raised keeps its own.
 abbrev pub traceOf : Build → Path → Trace
-traceOf b P = record { first = P .s; last = P .t; before = lastFrom (P .s) (P .inner); from = splitOf (endOf b (P .s)); upto = splitOf (endOf b (P .t)) }
+traceOf b P = record { first = P .s; last = P .t; before = lastFrom (P .s) (P .inner); from = isInner (endOf b (P .s)); upto = isInner (endOf b (P .t)) }
 
 -- no path: the trace of a path that is not in
 abbrev pub noTrace : Trace
-noTrace = record { first = 0; last = 0; before = 0; from = record { first = 0; last = 0 }; upto = record { first = 0; last = 0 } }
+noTrace = record { first = 0; last = 0; before = 0; from = false; upto = false }
 
 -- the inner vertices of a path are no longer in, from v back to its first end, at most k: each is out of the set, and points to nothing
 unfoldable pub unwound : ℕ → ℕ → ℕ → VertexSet → List ℕ → VertexSet × List ℕ
@@ -87,17 +86,17 @@ departed b t = record {
   linked = partedRows (b .linked) (t .last) (t .first);
 }
 
--- an end that the path raised is a branch vertex no more
-abbrev pub loweredAt : VertexSet → ℕ → Split → VertexSet
-loweredAt branch v s = cond (raises s) (removed branch v) branch
-
--- the same with the link whole again that was split there
-abbrev pub lowered : Build → ℕ → Split → Build
-lowered b v s = record {
-  sets = record { branch = loweredAt (b .sets .branch) v s; built = b .sets .built };
-  pointers = rejoinedMatesBy (b .pointers) v s;
-  linked = rejoinedBy (b .pointers) (b .linked) v s;
+-- the link that was split at v is whole again, and v a branch vertex no more
+abbrev pub rejoined : Build → ℕ → Build
+rejoined b v = record {
+  sets = record { branch = removed (b .sets .branch) v; built = b .sets .built };
+  pointers = rejoinedMates (b .pointers) v (linkSplit (b .pointers) (b .sets .branch) v);
+  linked = rejoinedRows (b .linked) v (linkSplit (b .pointers) (b .sets .branch) v);
 }
+
+-- .. where the path raised it
+abbrev pub lowered : Build → ℕ → Bool → Build
+lowered b v raised = cond raised (rejoined b v) b
 
 -- the path that was taken in last is taken back: in each table what was done last goes first
 abbrev pub takenBack : Build → Trace → Build

@@ -12,13 +12,12 @@ ghost use Rattle.paths.specs.Items.{itemRead, endRead, limited};
 ghost use Rattle.paths.specs.Paths.{verticesAt};
 ghost use Rattle.graph.specs.Rows.{rowsGraph};
 ghost use Rattle.links.specs.Tables.{pointAlong, matedEnds};
-ghost use Rattle.build.specs.State.{entered, raisedAt, pathTaken, buildPath, noTrace, unwound, loweredAt, takenBack, bareBuild, fourSet, startOn, startEntered, startOf, startIn, buildBody};
+ghost use Rattle.build.specs.State.{entered, raisedAt, pathTaken, buildPath, noTrace, unwound, lowered, takenBack, bareBuild, fourSet, startOn, startEntered, startOf, startIn, buildBody};
 ghost use Rattle.build.specs.Code.{pathFault, buildIn, PathAt, ToldAt, innerAt, beforeAt, traceRead, onPathRead, Leaves, towards, noFour, fourRead, fourOf, firsts, lasts, noStart, startLeft, startLoop, furtherLoop, pathEnds};
 use graph::GraphTable;
 use links::End;
 use links::Ends;
 use links::Link;
-use links::Split;
 use paths::Item;
 use paths::PathRead;
 use record::Answer;
@@ -43,13 +42,13 @@ pub struct Taken {
     pub sets: Sets,
 }
 
-// What taking a path in did to a build: the path's two ends, the vertex before the last one on it, and what it split at each end.
+// What taking a path in did to a build: the path's two ends, the vertex before the last one on it, and which of its ends it raised, where it split a link.
 pub struct Trace {
     pub first: u16,
     pub last: u16,
     pub before: u16,
-    pub from: Split,
-    pub upto: Split,
+    pub from: bool,
+    pub upto: bool,
 }
 
 // What `Taken` has, and the trace that the path leaves.
@@ -232,8 +231,8 @@ impl Trace {
             first: 0,
             last: 0,
             before: 0,
-            from: Split { first: 0, last: 0 },
-            upto: Split { first: 0, last: 0 },
+            from: false,
+            upto: false,
         }
     }
 }
@@ -291,8 +290,8 @@ pub fn take_path<'a>(
         first: x.first,
         last: x.last,
         before: e.before,
-        from: first.split(),
-        upto: last.split(),
+        from: first.is_inner(),
+        upto: last.is_inner(),
     };
     let taken = e.taken;
     Traced { taken, trace }
@@ -323,14 +322,26 @@ fn unwind<'a>(
     set
 }
 
-// An end that a path raised is a branch vertex no more.
-fn lower(branch: VertexSet, v: u16, s: Split) -> VertexSet
-    ensures { λ r. ⌜ r ≡ loweredAt branch v s ⌝ }
+// An end that a path raised is a branch vertex no more, and the link that it split there is whole again.
+fn lower<'a>(
+    sets: Sets,
+    pointers: &'a mut [u16; Link::POINTERS],
+    linked: &'a mut [u64; GraphTable::ROW_WORDS],
+    v: u16,
+    raised: bool,
+) -> Sets
+    ensures { λ r. ⌜ buildIn r (now (pointers .exit)) (now (linked .exit)) ≡ lowered (buildIn sets (now (pointers .entry)) (now (linked .entry))) v raised ⌝ }
 {
-    if VertexSet::CAPACITY <= s.first {
-        return branch;
+    if !raised {
+        return sets;
     }
-    branch.remove(v)
+    let branch = sets.branch;
+    let built = sets.built;
+    links::rejoin(linked, pointers, branch, v);
+    Sets {
+        branch: branch.remove(v),
+        built,
+    }
 }
 
 // The path that was taken in last, which left this trace, is taken back: in each table what was done last goes first.
@@ -343,11 +354,11 @@ pub fn take_back<'a>(
     ensures { λ r. ⌜ buildIn r (now (pointers .exit)) (now (linked .exit)) ≡ takenBack (buildIn sets (now (pointers .entry)) (now (linked .entry))) t ⌝ }
 {
     graph::part(linked, t.last, t.first);
+    let branch = sets.branch;
     let built = unwind(pointers, sets.built, t.first, t.before);
-    links::rejoin(linked, pointers, t.last, t.upto);
-    links::rejoin(linked, pointers, t.first, t.from);
-    let branch = lower(lower(sets.branch, t.last, t.upto), t.first, t.from);
-    Sets { branch, built }
+    let left = Sets { branch, built };
+    let once = lower(left, pointers, linked, t.last, t.upto);
+    lower(once, pointers, linked, t.first, t.from)
 }
 
 // A vertex above the one before it.

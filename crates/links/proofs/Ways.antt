@@ -1,13 +1,10 @@
--- One step of the walk both ways along a link, of a split, and of its taking back. Assumes nothing.
+-- One step of the walk both ways along a link, and of a split. Assumes nothing.
 use Prim.Native.Nat.{ℕ, zero, suc, _-_, _<_, _≤_}
 use mathlib.Core.List.{List}
-use mathlib.Core.Bool.{Bool, true, false, cond}
+use mathlib.Core.Bool.{Bool, true, false}
 use mathlib.Core.Path.{_≡_, refl, sym, ap, _∙_}
 use native.Mathlib.Omega.{arith}
-use borrow.Author.Tests.{lt-ltb, le-ltb}
-use Rattle.vertexset.specs.Set.{capacity}
-use Rattle.links.specs.Tables.{outermost, splitEach, linkAround, rejoinedEach}
-use Rattle.links.specs.declared.Split.{Split}
+use Rattle.links.specs.Tables.{outermost, splitEach}
 use Rattle.links.specs.declared.Link.{Link}
 use Rattle.links.specs.declared.Addition.{Addition}
 use Rattle.links.specs.declared.Addition.the-variants.{EdgeEdge}
@@ -40,11 +37,3 @@ module _ (back on mate : ℕ → ℕ) (branch : ℕ → Bool) where
 pub split-twice : (split : List ℕ → ℕ → Link → List ℕ) (t : List ℕ) {a : Addition} (x : ℕ) (k : Link) (y : ℕ) (l : Link) {mid out : List ℕ} → a ≡ EdgeEdge x k y l
     → mid ≡ split t x k → out ≡ split mid y l → out ≡ splitEach split t a
 split-twice split t x k y l e f g = g ∙ ap (λ m. split m y l) f ∙ ap (splitEach split t) (sym e)
-
--- what was split is whole again, and nothing changes where nothing was split
-module _ (rejoin : List ℕ → ℕ → Link → List ℕ) (p t : List ℕ) (x : ℕ) (s : Split) where
-  pub rejoined-none : capacity ≤ s .first → t ≡ rejoinedEach rejoin p t x s
-  rejoined-none h = sym (ap (λ (b : Bool). cond b (rejoin t x (linkAround p (s .first, s .last))) t) (le-ltb (s .first) capacity h))
-
-  pub rejoined-one : {l : Link} {out : List ℕ} → s .first < capacity → l ≡ linkAround p (s .first, s .last) → out ≡ rejoin t x l → out ≡ rejoinedEach rejoin p t x s
-  rejoined-one h e f = f ∙ ap (rejoin t x) e ∙ sym (ap (λ (b : Bool). cond b (rejoin t x (linkAround p (s .first, s .last))) t) (lt-ltb (s .first) capacity h))

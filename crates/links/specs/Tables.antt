@@ -2,14 +2,13 @@
 -- branch vertices a link joins.
 use Prim.Native.Nat.{ℕ, zero, suc, _+_, _*_}
 use mathlib.Core.List.{List, [], _∷_}
-use mathlib.Core.Bool.{Bool, cond}
+use mathlib.Core.Bool.{Bool, true, false, cond}
 use lib.Dec.{eqb, ltb}
 use lib.ListN.{getD, set}
 use Rattle.vertexset.specs.Set.{has, capacity}
 use Rattle.vertexset.specs.declared.VertexSet.{VertexSet}
 use Rattle.graph.specs.Rows.{joinedRows, partedRows}
 use Rattle.links.specs.declared.Link.{Link}
-use Rattle.links.specs.declared.Split.{Split}
 use Rattle.links.specs.declared.End.{End}
 use Rattle.links.specs.declared.End.the-variants.{Branch, Inner}
 use Rattle.links.specs.declared.Addition.{Addition}
@@ -99,15 +98,10 @@ splitBy = splitEach splitRows
 abbrev pub splitMatesBy : List ℕ → Addition → List ℕ
 splitMatesBy = splitEach splitMates
 
--- BACK AGAIN: what a split at a path's end is known by later on, the outermost inner vertices of the link that it split; the capacity, which is
--- no vertex, twice where the end was a branch vertex already
-abbrev pub splitOf : End → Split
-splitOf (Branch v) = record { first = capacity; last = capacity }
-splitOf (Inner v l) = record { first = l .first; last = l .last }
-
--- a link was split there: so the end is one that the path raised
-abbrev pub raises : Split → Bool
-raises s = ltb (s .first) capacity
+-- BACK AGAIN: an end inside a link: a path that ends there splits the link, and raises the end to a branch vertex
+abbrev pub isInner : End → Bool
+isInner (Branch v) = false
+isInner (Inner v l) = true
 
 -- v stands on no link: it points to nothing
 abbrev pub cleared : List ℕ → ℕ → List ℕ
@@ -125,12 +119,11 @@ unmatedAside pointers part x outer = cond (eqb x outer) pointers (pointed pointe
 abbrev pub rejoinedMates : List ℕ → ℕ → Link → List ℕ
 rejoinedMates pointers x l = mated (unmatedAside (unmatedAside pointers 0 x (l .first)) capacity x (l .last)) (l .first) (l .last)
 
--- a table with the link whole again that was split at x, where one was; the pointers tell its ends
-abbrev pub rejoinedEach : (List ℕ → ℕ → Link → List ℕ) → List ℕ → List ℕ → ℕ → Split → List ℕ
-rejoinedEach rejoin pointers t x s = cond (raises s) (rejoin t x (linkAround pointers (s .first, s .last))) t
+-- the outermost vertex, on one side of x, of the link that was split at x: the mate of x's neighbour there, which is outermost in its part;
+-- x itself where that neighbour is a branch vertex
+abbrev pub outerAside : List ℕ → VertexSet → ℕ → ℕ → ℕ
+outerAside pointers branch part x = cond (has (branch .words) (pointer pointers part x)) x (pointer pointers mates (pointer pointers part x))
 
-abbrev pub rejoinedBy : List ℕ → List ℕ → ℕ → Split → List ℕ
-rejoinedBy = rejoinedEach rejoinedRows
-
-abbrev pub rejoinedMatesBy : List ℕ → ℕ → Split → List ℕ
-rejoinedMatesBy pointers = rejoinedEach rejoinedMates pointers pointers
+-- the link that was split at x, which keeps its pointers as a branch vertex
+abbrev pub linkSplit : List ℕ → VertexSet → ℕ → Link
+linkSplit pointers branch x = linkAround pointers (outerAside pointers branch 0 x, outerAside pointers branch capacity x)

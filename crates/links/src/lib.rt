@@ -3,7 +3,7 @@ ghost use mathlib.Core.Path.{_≡_};
 ghost use Prim.Native.Nat.{_*_, _≤_};
 ghost use Rattle.vertexset.specs.Set.{capacity};
 ghost use Rattle.links.specs.Ends.{sameLink, linkEnd, additionOf, held};
-ghost use Rattle.links.specs.Tables.{pointer, pointed, pointedBoth, mated, linkAround, linkAt, endIn, matedAside, splitRows, splitMates, splitBy, splitMatesBy, splitOf, cleared, rejoinedRows, unmatedAside, rejoinedMates, rejoinedBy, rejoinedMatesBy};
+ghost use Rattle.links.specs.Tables.{pointer, pointed, pointedBoth, mated, linkAround, linkAt, endIn, matedAside, splitRows, splitMates, splitBy, splitMatesBy, isInner, cleared, rejoinedRows, unmatedAside, rejoinedMates, outerAside, linkSplit};
 use graph::GraphTable;
 use vertexset::VertexSet;
 
@@ -19,12 +19,6 @@ pub struct Link {
 pub enum End {
     Branch(u16),
     Inner(u16, Link),
-}
-
-// What a path split at one of its ends: the outermost inner vertices of a link; the capacity twice where that end was a branch vertex already.
-pub struct Split {
-    pub first: u16,
-    pub last: u16,
 }
 
 pub struct Ends {
@@ -66,19 +60,13 @@ impl Link {
 }
 
 impl End {
-    // What a path that ends here splits.
-    pub fn split(self) -> Split
-        ensures { λ r. ⌜ r ≡ splitOf self ⌝ }
+    // A path that ends here splits a link, and raises the end to a branch vertex.
+    pub fn is_inner(self) -> bool
+        ensures { λ r. ⌜ r ≡ isInner self ⌝ }
     {
         match self {
-            End::Branch(_) => Split {
-                first: VertexSet::CAPACITY,
-                last: VertexSet::CAPACITY,
-            },
-            End::Inner(_, l) => Split {
-                first: l.first,
-                last: l.last,
-            },
+            End::Branch(_) => false,
+            End::Inner(_, _) => true,
         }
     }
 }
@@ -309,19 +297,31 @@ fn rejoin_link<'a>(
     mate(pointers, l.first, l.last);
 }
 
-// The link that was split at x, where one was, is whole again.
+// The outermost vertex, on one side of x, of the link that was split at x: the mate of x's neighbour there, which is outermost in its
+// part; x itself where that neighbour is an end of the link.
+fn outer_aside(pointers: &[u16; Link::POINTERS], branch: VertexSet, part: usize, x: u16) -> u16
+    requires { ⌜ part ≤ 2 * capacity ⌝ }
+    ensures { λ r. ⌜ r ≡ outerAside (now (pointers .entry)) branch part x ⌝ }
+{
+    let next = pointer(pointers, part, x);
+    if branch.contains(next) {
+        return x;
+    }
+    pointer(pointers, Link::MATE, next)
+}
+
+// The link that was split at x is whole again. Which one it was x's own pointers tell, which it keeps as a branch vertex.
 pub fn rejoin<'a>(
     linked: &'a mut [u64; GraphTable::ROW_WORDS],
     pointers: &'a mut [u16; Link::POINTERS],
+    branch: VertexSet,
     x: u16,
-    s: Split,
 )
-    ensures { λ r. ⌜ now (linked .exit) ≡ rejoinedBy (now (pointers .entry)) (now (linked .entry)) x s ⌝ }
-    ensures { λ r. ⌜ now (pointers .exit) ≡ rejoinedMatesBy (now (pointers .entry)) x s ⌝ }
+    ensures { λ r. ⌜ now (linked .exit) ≡ rejoinedRows (now (linked .entry)) x (linkSplit (now (pointers .entry)) branch x) ⌝ }
+    ensures { λ r. ⌜ now (pointers .exit) ≡ rejoinedMates (now (pointers .entry)) x (linkSplit (now (pointers .entry)) branch x) ⌝ }
 {
-    if VertexSet::CAPACITY <= s.first {
-        return;
-    }
-    let l = link_around(pointers, s.first, s.last);
+    let first = outer_aside(pointers, branch, Link::BEFORE, x);
+    let last = outer_aside(pointers, branch, Link::AFTER, x);
+    let l = link_around(pointers, first, last);
     rejoin_link(linked, pointers, x, l);
 }

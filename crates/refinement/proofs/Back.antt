@@ -1,13 +1,12 @@
 -- TAKING A PATH BACK: the build that the code keeps is what it was before the path was taken in. Assumes nothing.
 use Prim.Native.Nat.{ℕ, zero, suc, _+_, _*_, _-_, _<_, _≤_}
-use mathlib.Core.List.{List, [], _∷_}
-use mathlib.Core.Bool.{Bool, true, false, cond}
+use mathlib.Core.List.{List, [], _∷_, _++_}
+use mathlib.Core.Bool.{Bool, true, false}
 use mathlib.Core.Path.{_≡_, refl, sym, ap, _∙_, subst}
 use mathlib.Core.Logic.{inl, inr, ⊎-elim, _≢_}
 use native.Mathlib.Omega.{arith}
-use lib.Dec.{ltb}
 use lib.ListN.{length}
-use borrow.Author.Tests.{lt-ltb, eq-eqb, ne-eqb}
+use borrow.Author.Tests.{eq-eqb, ne-eqb}
 use Rattle.record.specs.Read.{Read.Got, folded}
 use Rattle.vertexset.specs.Set.{has, inserted, removed, wordCount, capacity}
 use Rattle.vertexset.specs.declared.VertexSet.{VertexSet}
@@ -17,30 +16,37 @@ use Rattle.graph.proofs.Rows.{part-joined}
 use Rattle.connectivity.specs.Lists.{In, NoDup}
 use Rattle.connectivity.specs.Graph.{Graph, Adj}
 use Rattle.connectivity.specs.Path.{vertices, Path}
-use Rattle.connectivity.specs.Build.{IsBranch, BGPath, splitAt as splitLinks}
-use Rattle.connectivity.proofs.Lists.{at-most, in?}
-use Rattle.connectivity.proofs.Paths.{headOf, inner-in, inner-not-end, nodup-inner, ends-differ, end-s, end-t}
+use Rattle.connectivity.specs.Build.{IsBranch, BGPath, takeBefore, takeAfter, splitAt as splitLinks}
+use Rattle.connectivity.proofs.Lists.{at-most, in?, nodup-apart, nodup-right}
+use Rattle.connectivity.proofs.Paths.{inner-in, inner-not-end, nodup-inner, ends-differ, end-s, end-t}
 use Rattle.connectivity.proofs.Split.{piece-of, piece-in}
 use Rattle.certificates.specs.Records.{furtherPath}
 use Rattle.build.specs.declared.Build.{Build}
 use Rattle.links.specs.declared.Link.{Link}
-use Rattle.links.specs.declared.Split.{Split}
 use Rattle.links.specs.declared.End.{End}
 use Rattle.links.specs.declared.End.the-variants.{Branch, Inner}
 use Rattle.links.specs.declared.Addition.{Addition}
-use Rattle.links.specs.Tables.{pointerCount, pointer, pointAlong, lastFrom, linkAround, cleared, splitRows, splitMates, splitBy, splitMatesBy, splitOf, rejoinedRows, rejoinedMates}
-use Rattle.build.specs.State.{endOf, pathAddition, entered, raisedAt, raised, pathTaken, traceOf, unwound, departed, lowered, takenBack}
+use Rattle.links.specs.Tables.{pointerCount, pointer, pointAlong, lastFrom, cleared, splitRows, splitMates, splitBy, splitMatesBy, isInner, linkSplit, rejoinedRows, rejoinedMates}
+use Rattle.build.specs.State.{endOf, pathAddition, entered, raisedAt, raised, pathTaken, traceOf, unwound, departed, rejoined, lowered, takenBack}
 use Rattle.refinement.proofs.Tests.{false-of, built-tells}
 use Rattle.refinement.proofs.Pointers.{Back, along-length}
 use Rattle.refinement.proofs.Mates.{ends-length}
 use Rattle.refinement.proofs.Places.{same-pointers, clearedAll, all-cleared-length, all-cleared-other, all-cleared-none}
 use Rattle.refinement.proofs.Splits.{Joined, Sole, branch-split}
-use Rattle.refinement.proofs.Runs.{AllLow, ends, runs-more}
-use Rattle.refinement.proofs.Shows.{Shows, Listed, Placed, placed, everyEdge, not-inside, branch-shown, path-of, sole-link, end-branch, end-inner}
-use Rattle.refinement.proofs.Rejoined.{head-there, link-again, rejoined-mates, rejoined-rows}
+use Rattle.refinement.proofs.Runs.{RunsAlong, AllLow, ends, cut, parts-mated, runs-more}
+use Rattle.refinement.proofs.Shows.{Shows, Listed, Placed, placed, everyEdge, not-inside, branch-shown, path-of, sole-link, clear, end-branch, end-inner}
+use Rattle.refinement.proofs.Rejoined.{in-front, in-back, link-again, rejoined-mates, rejoined-rows}
 use Rattle.refinement.proofs.Taken.{listed-split, differ, apart, rest, rest-built, branches, last-inner, first-inner, both-inner, still-sole, raised-listed}
 use Rattle.refinement.proofs.Reading.{tests, further-path}
 use Rattle.refinement.proofs.Clean.{Clean, Neat, neat-split, shown-neat, raised-neat, enteredPointers, enter-other}
+
+-- a set with a vertex more tells of the others what it did
+module _ (set : VertexSet) (x : ℕ) (long : length (set .words) ≡ wordCount) (low : x < capacity) (w : ℕ) where
+  inserted-kept : has (set .words) w ≡ true → has (inserted set x .words) w ≡ true
+  inserted-kept e = ap (λ (t : ℕ → Bool). t w) (inserted-has set x long low) ∙ rw e
+
+  inserted-other : w ≢ x → has (set .words) w ≡ false → has (inserted set x .words) w ≡ false
+  inserted-other n e = ap (λ (t : ℕ → Bool). t w) (inserted-has set x long low) ∙ rw (e, ne-eqb w x n)
 
 -- THE INNER VERTICES GO, the last first
 abbrev removedAll : VertexSet → List ℕ → VertexSet
@@ -56,9 +62,7 @@ removed-all set (v ∷ l) long nd low new =
     ∙ removed-inserted set v long (low v (inl refl)) (new v (inl refl))
   where
     later : (w : ℕ) → In w l → has (set .words) w ≡ false → has (inserted set v .words) w ≡ false
-    later w i e =
-        let n : w ≢ v = λ k. nd .0 (subst (λ (u : ℕ). In u l) k i) in
-        ap (λ (t : ℕ → Bool). t w) (inserted-has set v long (low v (inl refl))) ∙ rw (e, ne-eqb w v n)
+    later w i e = inserted-other set v long (low v (inl refl)) w (λ k. nd .0 (subst (λ (u : ℕ). In u l) k i)) e
 
 -- .. by the pointers back to the first end
 unwound-step : (k s w v : ℕ) (set : VertexSet) (p : List ℕ) → w ≢ s → pointer p 0 w ≡ v → unwound (suc k) s w set p ≡ unwound k s v (removed set w) (cleared p w)
@@ -125,12 +129,12 @@ splitEnd c (Branch v) = c
 splitEnd c (Inner v l) = record { sets = record { branch = inserted (c .sets .branch) v; built = c .sets .built }; pointers = splitMates (c .pointers) v l; linked = splitRows (c .linked) v l }
 
 -- .. where a link was split, which the pointers tell
-lowered-inner : (c : Build) (x : ℕ) (s : Split) (l : Link) → ltb (s .first) capacity ≡ true → linkAround (c .pointers) (s .first, s .last) ≡ l
-    → lowered c x s ≡ record { sets = record { branch = removed (c .sets .branch) x; built = c .sets .built }; pointers = rejoinedMates (c .pointers) x l; linked = rejoinedRows (c .linked) x l }
-lowered-inner c x s l e f = λ i. record {
-  sets = record { branch = cond (e i) (removed (c .sets .branch) x) (c .sets .branch); built = c .sets .built };
-  pointers = cond (e i) (rejoinedMates (c .pointers) x (f i)) (c .pointers);
-  linked = cond (e i) (rejoinedRows (c .linked) x (f i)) (c .linked);
+rejoined-link : (c : Build) (x : ℕ) (l : Link) → linkSplit (c .pointers) (c .sets .branch) x ≡ l
+    → rejoined c x ≡ record { sets = record { branch = removed (c .sets .branch) x; built = c .sets .built }; pointers = rejoinedMates (c .pointers) x l; linked = rejoinedRows (c .linked) x l }
+rejoined-link c x l f = λ i. record {
+  sets = record { branch = removed (c .sets .branch) x; built = c .sets .built };
+  pointers = rejoinedMates (c .pointers) x (f i);
+  linked = rejoinedRows (c .linked) x (f i);
 }
 
 -- a build beside links of which K can be split at x
@@ -138,23 +142,45 @@ record Splits (c : Build) (ls : List Path) (x : ℕ) (K : Path) : Type 0 where
   neat : Neat (c .pointers) ls
   listed : Listed (c .linked) ls
   size : length (c .sets .branch .words) ≡ wordCount
-  flat : has (c .sets .branch .words) x ≡ false
+  from : has (c .sets .branch .words) (K .s) ≡ true
+  upto : has (c .sets .branch .words) (K .t) ≡ true
+  flat : (w : ℕ) → In w (K .inner) → has (c .sets .branch .words) w ≡ false
   alone : ¬ IsBranch x ls
   one : Sole ls x K
   nodup : NoDup (vertices K)
   low : AllLow (vertices K)
 
-lowered-split : (c : Build) (ls : List Path) (x : ℕ) (K : Path) → Splits c ls x K → lowered (splitEnd c (Inner x (ends K))) x (splitOf (Inner x (ends K))) ≡ c
+lowered-split : (c : Build) (ls : List Path) (x : ℕ) (K : Path) → Splits c ls x K → rejoined (splitEnd c (Inner x (ends K))) x ≡ c
 lowered-split c ls x K r =
-    let i = r .one .inside in
-    let low-first : headOf (K .inner) 0 < capacity = r .low (headOf (K .inner) 0) (inner-in (headOf (K .inner) 0) K (head-there x (K .inner) i)) in
-    let long = r .neat .pointing .0 in
-    let runs = r .neat .pointing .1 K (r .one .there) in
-    let s = removed-inserted (c .sets .branch) x (r .size) (r .low x (inner-in x K i)) (r .flat) in
-    let p = rejoined-mates (c .pointers) long K x i runs (r .low) (r .neat .tidy .middle K (r .one .there)) in
+    let p = rejoined-mates (c .pointers) long K x inside runs (r .low) (r .neat .tidy .middle K (r .one .there)) in
     let t = rejoined-rows (c .linked) ls (r .listed) x K (r .one) (r .nodup) (r .low) (r .alone) in
-    lowered-inner (splitEnd c (Inner x (ends K))) x (splitOf (Inner x (ends K))) (ends K) (lt-ltb (headOf (K .inner) 0) capacity low-first) (link-again (c .pointers) long K x i runs)
-    ∙ (λ j. record { sets = record { branch = s j; built = c .sets .built }; pointers = p j; linked = t j })
+    let s = removed-inserted (c .sets .branch) x (r .size) low (r .flat x inside) in
+    rejoined-link (splitEnd c (Inner x (ends K))) x (ends K) again ∙ (λ j. record { sets = record { branch = s j; built = c .sets .built }; pointers = p j; linked = t j })
+  where
+    inside : In x (K .inner)
+    inside = r .one .inside
+
+    low : x < capacity
+    low = r .low x (inner-in x K inside)
+
+    cut-nodup : NoDup (takeBefore x (K .inner) ++ (x ∷ takeAfter x (K .inner)))
+    cut-nodup = subst (λ (l : List ℕ). NoDup l) (cut K x inside) (nodup-inner K (r .nodup))
+
+    long : length (c .pointers) ≡ pointerCount
+    long = r .neat .pointing .0
+
+    runs : RunsAlong (c .pointers) K
+    runs = r .neat .pointing .1 K (r .one .there)
+
+    other : (w : ℕ) → In w (K .inner) → w ≢ x → has (inserted (c .sets .branch) x .words) w ≡ false
+    other w i n = inserted-other (c .sets .branch) x (r .size) low w n (r .flat w i)
+
+    again : linkSplit (splitMates (c .pointers) x (ends K)) (inserted (c .sets .branch) x) x ≡ ends K
+    again =
+        link-again (c .pointers) long K x inside runs (inserted (c .sets .branch) x) (inserted-kept (c .sets .branch) x (r .size) low (K .s) (r .from)) (inserted-kept (c .sets .branch) x (r .size) low (K .t) (r .upto))
+        (λ w i. other w (in-front (c .pointers) long K x inside runs w i) (λ e. nodup-apart (takeBefore x (K .inner)) (x ∷ takeAfter x (K .inner)) cut-nodup w i (inl e)))
+        (λ w i. other w (in-back (c .pointers) long K x inside runs w i) (λ e. nodup-right (takeBefore x (K .inner)) (x ∷ takeAfter x (K .inner)) cut-nodup .0 (subst (λ (u : ℕ). In u (takeAfter x (K .inner))) e i)))
+        (parts-mated (c .pointers) ls (r .neat .pointing) x K (r .one) (r .nodup) (r .low))
 
 -- the build with both ends raised, by the ends and the addition
 abbrev raisedBy : Build → End → End → Addition → Build
@@ -165,7 +191,7 @@ raisedBy b d e a = record {
 }
 
 abbrev Again : Build → Path → End → End → Addition → Type 0
-Again b P d e a = lowered (lowered (raisedBy b d e a) (P .t) (splitOf e)) (P .s) (splitOf d) ≡ b
+Again b P d e a = lowered (lowered (raisedBy b d e a) (P .t) (isInner e)) (P .s) (isInner d) ≡ b
 
 again-by : (b : Build) (P : Path) {d D e E : End} {a A : Addition} → d ≡ D → e ≡ E → a ≡ A → Again b P D E A → Again b P d e a
 again-by b P {d} {D} {e} {E} {a} {A} p q r h = subst (λ (z : End). Again b P z e a) (sym p) (subst (λ (z : End). Again b P D z a) (sym q) (subst (λ (z : Addition). Again b P D E z) (sym r) h))
@@ -198,15 +224,14 @@ module _ {b : Build} {links : List Path} (sh : Shows b links) (clean : Clean b l
     alone-inside : ¬ IsBranch x links
     alone-inside r = not-inside sh x r K h i
 
-    flat-inside : has (b .sets .branch .words) x ≡ false
-    flat-inside = false-of (λ e. alone-inside (branch-shown sh x .0 e))
-
     once : Splits b links x K
     once = record {
       neat = shown-neat sh clean P bg low;
       listed = sh .linked;
       size = sh .sizes .branch;
-      flat = flat-inside;
+      from = branch-shown sh (K .s) .1 (K, h, inl refl);
+      upto = branch-shown sh (K .t) .1 (K, h, inr refl);
+      flat = clear sh K h;
       alone = alone-inside;
       one = sole-link sh K h x i;
       nodup = path-of sh K h;
@@ -221,8 +246,10 @@ module _ {b : Build} {links : List Path} (sh : Shows b links) (clean : Clean b l
         neat = neat-split (b .pointers) links (r .neat) (P .s) K (r .one) (r .nodup) (r .low);
         listed = listed-split (b .linked) links (sh .linked) (P .s) K (r .one) (r .low);
         size = inserted-length (b .sets .branch) (P .s) (sh .sizes .branch);
-        flat = ap (λ (t : ℕ → Bool). t (P .t)) (inserted-has (b .sets .branch) (P .s) (sh .sizes .branch) (low (P .s) (end-s P)))
-            ∙ rw (flat-inside (P .t) M k j, ne-eqb (P .t) (P .s) (λ e. differ sh P bg low (sym e)));
+        from = inserted-kept (b .sets .branch) (P .s) (sh .sizes .branch) (low (P .s) (end-s P)) (M .s) (branch-shown sh (M .s) .1 (M, k, inl refl));
+        upto = inserted-kept (b .sets .branch) (P .s) (sh .sizes .branch) (low (P .s) (end-s P)) (M .t) (branch-shown sh (M .t) .1 (M, k, inr refl));
+        flat = λ w l. inserted-other (b .sets .branch) (P .s) (sh .sizes .branch) (low (P .s) (end-s P)) w
+            (λ e. apart sh P bg low (M, k, subst (λ (u : ℕ). In u (vertices M)) e (inner-in w M l), inner-in (P .t) M j)) (clear sh M k w l);
         alone = λ q. ⊎-elim (λ e. differ sh P bg low (sym e)) (alone-inside (P .t) M k j) (branch-split (P .s) links (P .t) q);
         one = still-sole sh P bg low M k j;
         nodup = path-of sh M k;
@@ -237,11 +264,11 @@ module _ {b : Build} {links : List Path} (sh : Shows b links) (clean : Clean b l
       go (inl p) (inr q) = again-by b P (end-branch sh (P .s) p) (end-inner sh (P .t) (q .0) (q .1) (q .2)) (last-inner sh P bg low p (q .0) (q .1) (q .2)) (lowered-split b links (P .t) (q .0) (once (P .t) (q .0) (q .1) (q .2)))
       go (inr p) (inl q) = again-by b P (end-inner sh (P .s) (p .0) (p .1) (p .2)) (end-branch sh (P .t) q) (first-inner sh P bg low (p .0) (p .1) (p .2) q) (lowered-split b links (P .s) (p .0) (once (P .s) (p .0) (p .1) (p .2)))
       go (inr p) (inr q) = again-by b P (end-inner sh (P .s) (p .0) (p .1) (p .2)) (end-inner sh (P .t) (q .0) (q .1) (q .2)) (both-inner sh P bg low (p .0) (q .0) (p .1) (q .1) (p .2) (q .2))
-          (ap (λ (c : Build). lowered c (P .s) (splitOf (Inner (P .s) (ends (p .0))))) (lowered-split (splitEnd b (Inner (P .s) (ends (p .0)))) (splitLinks (P .s) links) (P .t) (q .0) (twice (p .0) (q .0) (p .1) (q .1) (p .2) (q .2)))
+          (ap (λ (c : Build). rejoined c (P .s)) (lowered-split (splitEnd b (Inner (P .s) (ends (p .0)))) (splitLinks (P .s) links) (P .t) (q .0) (twice (p .0) (q .0) (p .1) (q .1) (p .2) (q .2)))
           ∙ lowered-split b links (P .s) (p .0) (once (P .s) (p .0) (p .1) (p .2)))
 
 pub taken-back : {b : Build} {links : List Path} → Shows b links → Clean b links → (P : Path) → BGPath (Adj everyEdge) links P → AllLow (vertices P) → takenBack (pathTaken b P) (traceOf b P) ≡ b
-taken-back {b} sh clean P bg low = ap (λ (c : Build). lowered (lowered c (P .t) (splitOf (endOf b (P .t)))) (P .s) (splitOf (endOf b (P .s)))) (left sh clean P bg low) ∙ lowered-raised sh clean P bg low
+taken-back {b} sh clean P bg low = ap (λ (c : Build). lowered (lowered c (P .t) (isInner (endOf b (P .t)))) (P .s) (isInner (endOf b (P .s)))) (left sh clean P bg low) ∙ lowered-raised sh clean P bg low
 
 pub back-read : (g : Graph) (links : List Path) (s : List ℕ) (at : ℕ) {P : Path} {next : ℕ} → furtherPath g links s at ≡ Got P next → g .n ≤ capacity → {b : Build} → Shows b links → Clean b links → takenBack (pathTaken b P) (traceOf b P) ≡ b
 back-read g links s at {P} e h sh clean = taken-back sh clean P (further-path g links s at e) (λ w i. let z = tests g links s at e .low w i in omega arith)

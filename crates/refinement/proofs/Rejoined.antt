@@ -1,13 +1,14 @@
 -- A link that is split at x and made whole again: the pointers and the table are what they were. Assumes nothing.
 use Prim.Native.Nat.{ℕ, _*_, _<_}
 use mathlib.Core.List.{List, [], _∷_, _++_}
-use mathlib.Core.Bool.{true, false}
+use mathlib.Core.Bool.{Bool, true, false, cond}
 use mathlib.Core.Path.{_≡_, refl, sym, ap, _∙_, subst}
 use mathlib.Core.Logic.{_⊎_, inl, inr, ⊎-elim, _≢_}
 use native.Mathlib.Omega.{arith}
 use native.Mathlib.Decide.{ℕ-discrete}
 use lib.ListN.{length}
-use Rattle.vertexset.specs.Set.{capacity}
+use Rattle.vertexset.specs.Set.{has, capacity}
+use Rattle.vertexset.specs.declared.VertexSet.{VertexSet}
 use Rattle.graph.specs.Rows.{adjacentIn, rowWords, joinedRows, partedRows}
 use Rattle.graph.proofs.Rows.{part-joined, join-parted}
 use Rattle.connectivity.specs.Lists.{In, NoDup}
@@ -15,7 +16,7 @@ use Rattle.connectivity.specs.Path.{vertices, Path}
 use Rattle.connectivity.specs.Build.{IsBranch, takeBefore, takeAfter}
 use Rattle.connectivity.proofs.Lists.{in-left, in-right, clash}
 use Rattle.connectivity.proofs.Paths.{headOf, inner-in, inner-not-end, ends-differ, end-s, end-t}
-use Rattle.links.specs.Tables.{pointerCount, pointer, mates, mated, lastFrom, linkAround, splitRows, matedAside, splitMates, unmatedAside, rejoinedRows, rejoinedMates}
+use Rattle.links.specs.Tables.{pointerCount, pointer, mates, mated, lastFrom, linkAround, splitRows, matedAside, splitMates, unmatedAside, rejoinedRows, rejoinedMates, linkSplit}
 use Rattle.refinement.proofs.Tests.{false-of}
 use Rattle.refinement.proofs.Pointers.{Back, On}
 use Rattle.refinement.proofs.Mates.{Mated, last-in, before-cut, on-rest, back-head, on-last, mated-length, pair-first, pair-last, pair-others}
@@ -46,6 +47,15 @@ last-inside u (v ∷ l) x n = last-in v l
 head-inside : (x : ℕ) (q : List ℕ) (t : ℕ) → x ≢ lastFrom x q → In (headOf q t) q
 head-inside x [] t n = absurd (n refl)
 head-inside x (y ∷ q) t n = inl refl
+
+-- the outermost vertex of a side, by its vertex next to x
+side-first : (mate : ℕ → ℕ) (branch : ℕ → Bool) (s x : ℕ) (l : List ℕ) → branch s ≡ true → ((w : ℕ) → In w l → branch w ≡ false) → Mated mate l → cond (branch (lastFrom s l)) x (mate (lastFrom s l)) ≡ headOf l x
+side-first mate branch s x [] b n m = rw b
+side-first mate branch s x (v ∷ l) b n m = let f = n (lastFrom v l) (last-in v l) in rw (f, m .1)
+
+side-last : (mate : ℕ → ℕ) (branch : ℕ → Bool) (t x : ℕ) (l : List ℕ) → branch t ≡ true → ((w : ℕ) → In w l → branch w ≡ false) → Mated mate l → cond (branch (headOf l t)) x (mate (headOf l t)) ≡ lastFrom x l
+side-last mate branch t x [] b n m = rw b
+side-last mate branch t x (v ∷ l) b n m = let f = n v (inl refl) in rw (f, m .0)
 
 -- THE POINTERS
 module _ (p : List ℕ) (long : length p ≡ pointerCount) (K : Path) (x : ℕ) (inside : In x (K .inner)) (runs : RunsAlong p K) where
@@ -117,12 +127,21 @@ module _ (p : List ℕ) (long : length p ≡ pointerCount) (K : Path) (x : ℕ) 
   pub split-away : (i w : ℕ) → ¬ In w (K .inner) → pointer apart (i * capacity) w ≡ pointer p (i * capacity) w
   split-away i w n = split-other i w (λ e. (λ k. n (rw k (head-there x (K .inner) inside)), λ k. n (rw k (last-there x (K .inner) inside)), λ k. n (left-inner w k), λ k. n (right-inner w k)))
 
-  -- the link is found again by its outermost vertices
-  pub link-again : linkAround apart (first, last) ≡ ends K
-  link-again =
+  link-around : linkAround apart (first, last) ≡ ends K
+  link-around =
       let a : pointer apart 0 first ≡ K .s = split-parts 0 first (λ e. omega arith) ∙ ap (pointer p 0) (first-cut K x inside) ∙ back-head (pointer p 0) (K .s) front x back backs in
       let b : pointer apart capacity last ≡ K .t = split-parts 1 last (λ e. omega arith) ∙ ap (pointer p capacity) (last-of-cut K x inside) ∙ on-last (pointer p capacity) front x back (K .t) ons in
       λ i. record { a = a i; b = b i; first = first; last = last }
+
+  -- the link is found again by x's own pointers, where the ends are branch vertices and no vertex inside the two parts is
+  pub link-again : (branch : VertexSet) → has (branch .words) (K .s) ≡ true → has (branch .words) (K .t) ≡ true
+      → ((w : ℕ) → In w front → has (branch .words) w ≡ false) → ((w : ℕ) → In w back → has (branch .words) w ≡ false)
+      → Mated (pointer apart mates) front × Mated (pointer apart mates) back → linkSplit apart branch x ≡ ends K
+  link-again branch s t nf nb m =
+      let aside : ℕ → ℕ = λ u. cond (has (branch .words) u) x (pointer apart mates u) in
+      let f = ap aside (split-parts 0 x (λ e. omega arith) ∙ left-is) ∙ side-first (pointer apart mates) (has (branch .words)) (K .s) x front s nf (m .0) ∙ sym (first-cut K x inside) in
+      let l = ap aside (split-parts 1 x (λ e. omega arith) ∙ right-is) ∙ side-last (pointer apart mates) (has (branch .words)) (K .t) x back t nb (m .1) ∙ sym (last-of-cut K x inside) in
+      ap (linkAround apart) (λ i. (f i, l i)) ∙ link-around
 
   module _ (low : AllLow (vertices K)) (middle : (w : ℕ) → In w (K .inner) → w ≢ first → w ≢ last → pointer p mates w ≡ 0) where
     low-inner : AllLow (K .inner)

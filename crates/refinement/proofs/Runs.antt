@@ -133,6 +133,10 @@ module _ (p : List ℕ) (links : List Path) (pointing : Pointing p links) where
     front-mated : Mated (pointer r mates) front-of
     front-mated = mated-same (pointer q mates) (pointer r mates) front-of (λ w i. second .others 2 w (λ e j. nodup-apart front-of (x ∷ back-of) cut-nodup w i (inr j))) (first .set)
 
+    -- what x leaves on each side has mates of its own
+    pub parts-mated : Mated (pointer (splitMates p x (ends K)) mates) front-of × Mated (pointer (splitMates p x (ends K)) mates) back-of
+    parts-mated = rw (first-cut K x (one .inside), last-of-cut K x (one .inside)) (front-mated, second .set)
+
     pieces : (M L : Path) → In L links → Piece x L M → RunsAlong r M
     pieces M L i (whole n e) = rw e (runs-same p r L (λ part w j. kept part w (λ z k. n (rw (one .only L i w k j) (one .inside)))) (h L i))
     pieces M L i (front k e) = rw (e, one .only L i x (one .inside) k) (backs .0, ons .0, front-mated)

@@ -68,7 +68,7 @@ module _ {b : Build} {links : List Path} (sh : Shows b links) where
   pub not-inside : (v : ℕ) → IsBranch v links → (L : Path) → In L links → ¬ In v (L .inner)
   not-inside v r L h i = inner-not-end L (path-of L h) v i (rw (sh .tally .inner-once L (r .0) h (r .1) v i (end-vertex v (r .0) (r .2))) (r .2))
 
-  clear : (L : Path) → In L links → (w : ℕ) → In w (L .inner) → has (b .sets .branch .words) w ≡ false
+  pub clear : (L : Path) → In L links → (w : ℕ) → In w (L .inner) → has (b .sets .branch .words) w ≡ false
   clear L h w i = false-of (λ e. not-inside w (branch-shown w .0 e) L h i)
 
   inner-length : (L : Path) → In L links → length (L .inner) ≤ capacity

@@ -123,7 +123,8 @@ impl Session {
         self.started & ((self.taken < count) & ((self.taken as usize) < Session::PATHS))
     }
 
-    // One further path; 31 before reading where none is due. Each call of a function with a session, and each return, may copy it, so this is one function.
+    // One further path; 31 before reading where none is due. Each call of a function with a session, and each return, may copy it, so this is one
+    // function; and of the two tables the larger one is lent where it lies, for one more copy less (two fields of a struct can't be lent at once).
     pub fn path(mut self, part: &[u8]) -> Stepped
         ensures { λ x. ⌜ x ≡ pathStep self (now (part .entry)) ⌝ }
     {
@@ -132,17 +133,17 @@ impl Session {
             return self.refused(31, 0);
         }
         let graph = self.graph;
-        let b = self.build;
+        let mut b = self.build;
+        let sets = b.sets;
         let mut pointers = b.pointers;
-        let mut linked = b.linked;
         let y = build::take_path(
             part,
             &graph.rows,
             graph.n,
             0,
-            b.sets,
+            sets,
             &mut pointers,
-            &mut linked,
+            &mut b.linked,
         );
         let x = y.taken;
         let end = x.end;
@@ -154,13 +155,10 @@ impl Session {
         let trace = y.trace;
         self.traces[i] = trace;
         self.taken += 1;
-        let sets = x.sets;
-        let build = Build {
-            sets,
-            pointers,
-            linked,
-        };
-        self.build = build;
+        let grown = x.sets;
+        b.sets = grown;
+        b.pointers = pointers;
+        self.build = b;
         Stepped {
             session: self,
             answer: Answer::Accepted,

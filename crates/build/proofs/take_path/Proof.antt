@@ -3,7 +3,7 @@ use mathlib.Core.Path.{refl, ap, _∙_}
 use borrow.Author.Needs.{needs}
 use Rattle.certificates.specs.Records.{path}
 use Rattle.links.specs.Ends.{held}
-use Rattle.links.specs.Tables.{splitBy, splitMatesBy, splitOf}
+use Rattle.links.specs.Tables.{splitBy, splitMatesBy, isInner}
 use Rattle.build.specs.declared.Build.{Build}
 use Rattle.build.specs.State.{entered, endOf}
 use Rattle.build.specs.Code.{buildIn, onPathRead}
@@ -76,7 +76,7 @@ returns-3 c =
       leaves-taken T (k .read-link-path .ensures) (m .enum-told .given .1) fault (g .if1 .left) (e .0)
           (e .1 .0 ∙ ap (λ (b : Build). onPathRead entered b (path (a .n) 2 (a .s .now) (a .at))) (same-build (same-sets branch refl) mates linked)),
       traced T (k .read-link-path .ensures) (m .enum-told .given .1) fault (g .if1 .left) (e .1 .1)
-          (c .before .before .split .ensures ∙ ap splitOf first) (c .before .split2 .ensures ∙ ap splitOf last),
+          (c .before .before .is-inner .ensures ∙ ap isInner first) (c .before .is-inner2 .ensures ∙ ap isInner last),
     )
 
 pub take-path-spec : {M : Type 1} → statement M
