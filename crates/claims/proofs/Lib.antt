@@ -3,6 +3,7 @@ pub mod Maker
 pub mod Demands
 pub mod Demand1
 pub mod Back
+pub mod Before
 pub mod Answers
 pub mod Lengths
 pub mod Walks

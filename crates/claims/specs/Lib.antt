@@ -7,6 +7,7 @@ pub mod Exports
 pub mod Printed
 pub mod Demands
 pub mod Back
+pub mod Before
 pub mod Lengths
 pub mod Walks
 pub mod Doubles

@@ -14,15 +14,13 @@ use Rattle.connectivity.specs.Lists.{In, NoDup}
 use Rattle.connectivity.specs.Graph.{Graph, Adj}
 use Rattle.connectivity.specs.Path.{vertices, Path}
 use Rattle.connectivity.specs.Build.{InBuild, BGPath, Starts, taken, takeBefore, takeAfter, frontPart, backPart, splitAt as splitLinks}
-use Rattle.connectivity.proofs.Lists.{nodup-apart, nodup-right, clash}
+use Rattle.connectivity.proofs.Lists.{nodup-apart, nodup-right}
 use Rattle.connectivity.proofs.Paths.{headOf, inner-in, nodup-inner}
 use Rattle.connectivity.proofs.Split.{Piece, Piece.whole, Piece.front, Piece.back, piece-of, split-kept}
-use Rattle.certificates.specs.Tests.{inBuild}
 use Rattle.certificates.specs.Records.{branchFour, startPaths, furtherPath}
 use Rattle.build.specs.declared.Build.{Build}
 use Rattle.links.specs.Tables.{pointerCount, pointer, pointed, mates, pointAlong, lastFrom, matedEnds, splitMates, splitMatesBy}
 use Rattle.build.specs.State.{BuildStart, startEntered, startedBuild, barePointers, pathAddition, pathTaken}
-use Rattle.refinement.proofs.Tests.{false-of, built-tells}
 use Rattle.refinement.proofs.Pointers.{along-length, along-other}
 use Rattle.refinement.proofs.Mates.{last-in, ends-length, remated-ends}
 use Rattle.refinement.proofs.Places.{pointed-other, along-mates}
@@ -34,26 +32,18 @@ use Rattle.refinement.proofs.Taken.{rest, rest-built, raised-rest}
 use Rattle.refinement.proofs.Reading.{tests, further-path}
 use Rattle.refinement.proofs.Start.{Four, fourOf, Ascends, pair-got, four-read, bareStart, onto, within-more, all, there, back as started}
 
--- what the tables hold beside the links: a vertex that is not in points to nothing, and of a link's inner vertices only the outermost have mates
-pub record Clean (b : Build) (links : List Path) : Type 0 where
-  pub outside : (w : ℕ) → inBuild links w ≡ false → (i : ℕ) → pointer (b .pointers) (i * capacity) w ≡ 0
-  pub middle : (L : Path) → In L links → (w : ℕ) → In w (L .inner) → w ≢ headOf (L .inner) 0 → w ≢ lastFrom 0 (L .inner) → pointer (b .pointers) mates w ≡ 0
-
 -- no mates inside a link
 abbrev pub Middle : List ℕ → List Path → Type 0
 Middle p links = (L : Path) → In L links → (w : ℕ) → In w (L .inner) → w ≢ headOf (L .inner) 0 → w ≢ lastFrom 0 (L .inner) → pointer p mates w ≡ 0
 
--- the same of a table alone
+-- what a table holds beside the links: a vertex that is not in points to nothing, and of a link's inner vertices only the outermost have mates
 pub record Tidy (p : List ℕ) (links : List Path) : Type 0 where
   pub outside : (w : ℕ) → ¬ InBuild w links → (i : ℕ) → pointer p (i * capacity) w ≡ 0
   pub middle : Middle p links
 
-module _ {b : Build} {links : List Path} where
-  pub clean-tidy : Clean b links → Tidy (b .pointers) links
-  clean-tidy c = record { outside = λ w n. c .outside w (false-of (λ e. n (built-tells links w .0 e))); middle = c .middle }
-
-  pub tidy-clean : Tidy (b .pointers) links → Clean b links
-  tidy-clean t = record { outside = λ w e. t .outside w (λ r. clash (built-tells links w .1 r) e); middle = t .middle }
+-- .. and so a build's
+abbrev pub Clean : Build → List Path → Type 0
+Clean b links = Tidy (b .pointers) links
 
 -- the outermost of a list that is not empty, whatever stands for them where it is
 head-any : (w : ℕ) (l : List ℕ) → In w l → (a b : ℕ) → headOf l a ≡ headOf l b
@@ -156,7 +146,7 @@ neat-split p links n x K one nd low = record { pointing = pointing-split p links
 -- A PATH THAT IS TAKEN IN
 module _ {b : Build} {links : List Path} (sh : Shows b links) (clean : Clean b links) (P : Path) (bg : BGPath (Adj everyEdge) links P) (low : AllLow (vertices P)) where
   pub shown-neat : Neat (b .pointers) links
-  shown-neat = record { pointing = (sh .sizes .pointers, sh .runs); tidy = clean-tidy clean }
+  shown-neat = record { pointing = (sh .sizes .pointers, sh .runs); tidy = clean }
 
   pub raised-neat : Neat (splitMatesBy (b .pointers) (pathAddition b P)) (rest sh P bg low)
   raised-neat = raised-rest sh P bg low splitMates Neat neat-split (b .pointers) shown-neat
@@ -164,7 +154,7 @@ module _ {b : Build} {links : List Path} (sh : Shows b links) (clean : Clean b l
 pub clean-taken : {b : Build} {links : List Path} → Shows b links → Clean b links → (P : Path) → BGPath (Adj everyEdge) links P → AllLow (vertices P) → Clean (pathTaken b P) (taken links P)
 clean-taken {b} sh clean P bg low =
     let n = raised-neat sh clean P bg low in
-    tidy-clean (tidy-more (splitMatesBy (b .pointers) (pathAddition b P)) (n .pointing .0) P low (rest sh P bg low) (n .tidy) (λ w i r. bg .new w i (rest-built sh P bg low w r)))
+    tidy-more (splitMatesBy (b .pointers) (pathAddition b P)) (n .pointing .0) P low (rest sh P bg low) (n .tidy) (λ w i r. bg .new w i (rest-built sh P bg low w r))
 
 pub clean-read : (g : Graph) (links : List Path) (s : List ℕ) (at : ℕ) {P : Path} {next : ℕ} → furtherPath g links s at ≡ Got P next → g .n ≤ capacity → {b : Build} → Shows b links → Clean b links → Clean (pathTaken b P) (taken links P)
 clean-read g links s at {P} e h sh clean = clean-taken sh clean P (further-path g links s at e) (λ w i. let z = tests g links s at e .low w i in omega arith)
@@ -206,7 +196,7 @@ module _ (g : Graph) (h : g .n ≤ capacity) (b : Four) (asc : Ascends (g .n) b)
 
   started-clean : Clean (startedBuild (b, start)) start
   started-clean = record {
-    outside = λ w k. started-fresh .outside w (λ L m i. clash (built-tells start w .1 (L, started g h b asc s at start e L m, inner-in w L i)) k);
+    outside = λ w k. started-fresh .outside w (λ L m i. k (L, started g h b asc s at start e L m, inner-in w L i));
     middle = λ L m. started-fresh .middle L (there g h b asc s at start e L m);
   }
 
