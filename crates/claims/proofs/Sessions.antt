@@ -1,13 +1,13 @@
 -- SESSIONS: what any list of calls gives from an opening, and that a closing that is accepted answers the plan's connectivity.
 -- Assumes nothing.
-use Prim.Native.Nat.{ℕ, zero, suc, _+_, _-_, _<_, _≤_}
+use Prim.Native.Nat.{ℕ, _+_, _-_, _<_, _≤_}
 use mathlib.Core.List.{List, [], _∷_, _++_}
 use mathlib.Core.Bool.{Bool, true, false, cond, _&&_}
 use mathlib.Core.Path.{_≡_, refl, sym, ap, _∙_, subst, fun-ext}
 use native.Mathlib.Decide.{ℕ-discrete}
 use native.Mathlib.Omega.{arith}
 use lib.Dec.{ltb, eqb}
-use lib.ListN.{length, getD, set, replicate, length-append, length-set, length-replicate}
+use lib.ListN.{length, getD, set, length-append, length-set, length-replicate}
 use lib.Seq.{getD-set-same, getD-set-other, ext-getD}
 use borrow.Author.Tests.{lt-ltb, ltb-true, ltb-false, eqb-true, le-leb}
 use Rattle.record.specs.Read.{Read, Read.Got, Read.Refused, Reader, Bytes, ended}
@@ -49,6 +49,7 @@ use Rattle.claims.specs.Certified.{HasFigure}
 use Rattle.claims.specs.Session.{pairCount, due}
 use Rattle.claims.specs.Calls.{Call, Call.start, Call.path, Call.back, Call.close, called, sessionAfter, CallBytes}
 use Rattle.claims.proofs.Checking.{plan-simple, plan-few}
+use Rattle.vertexset.proofs.Laws.{repeated-at}
 use Rattle.vertexset.specs.Set.{capacity}
 
 -- EVERY SESSION VALUE: closing leaves it as it is, and so does a call that is refused, which reads nothing.
@@ -138,12 +139,6 @@ pub data Given (Ok : List ℕ → Type 0) (p : Plan) (s : Session) : Type 0 wher
   waiting : s ≡ openedOn (graphOf p) → Given Ok p s
   begun : {links : List Path} {earlier : List (List Path)} → Begun Ok p s links earlier → Given Ok p s
 
--- no trace anywhere
-none-traced : (n i : ℕ) → getD (replicate n noTrace) i noTrace ≡ noTrace
-none-traced zero i = refl
-none-traced (suc n) zero = refl
-none-traced (suc n) (suc i) = none-traced n i
-
 -- a trace that is put where there was none, and taken out again
 traces-again : (l : List Trace) (i : ℕ) (t : Trace) → i < length l → getD l i noTrace ≡ noTrace → set (set l i t) i noTrace ≡ l
 traces-again l i t h e = ext-getD noTrace (set (set l i t) i noTrace) l (length-set (set l i t) i noTrace ∙ length-set l i t) (λ j k. at j)
@@ -186,7 +181,7 @@ module _ (p : Plan) (al : Allowed p) where
     shows = shows-start (planGraph p) (omega (arith, al .most)) part 0 e;
     clean = clean-start (planGraph p) (omega (arith, al .most)) part 0 e;
     long = length-replicate traceRoom noTrace;
-    blank = λ i h. none-traced traceRoom i;
+    blank = λ i h. repeated-at noTrace traceRoom i;
   }
 
   -- 31: a path or taking back before the start, and a second start

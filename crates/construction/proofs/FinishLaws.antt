@@ -8,6 +8,7 @@ use native.Mathlib.Omega.{arith}
 use lib.Dec.{lit<}
 use lib.ListN.{length, take, length-append}
 use lib.Seq.{take-append-le}
+use Rattle.vertexset.proofs.Laws.{zeros-at}
 use Rattle.vertexset.specs.Set.{has, capacity}
 use Rattle.vertexset.specs.declared.VertexSet.{VertexSet}
 use Rattle.graph.specs.Limits.{maxEdges}
@@ -26,7 +27,7 @@ use Rattle.construction.specs.Sets.{stop, minus, membersFrom}
 use Rattle.construction.specs.Ears.{pathSpace, addPath}
 use Rattle.construction.specs.Steps.{addEdges, addRows, finish}
 use Rattle.construction.proofs.Basics.{Drawn, Sized, On, flatten}
-use Rattle.construction.proofs.SetLaws.{zeros-at, sized-row, sized-minus, minus-on, on-minus, row-on, on-row, members-from-in, in-members-from, nodup-up, added-room, flatten-append}
+use Rattle.construction.proofs.SetLaws.{sized-row, sized-minus, minus-on, on-minus, row-on, on-row, members-from-in, in-members-from, nodup-up, added-room, flatten-append}
 use Rattle.construction.proofs.Flat.{newestFirst, newest-snoc, newest-in, in-newest, flat-most}
 use Rattle.construction.proofs.Table.{tableOf, table-used, used-table, marked-words}
 

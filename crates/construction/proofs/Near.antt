@@ -12,7 +12,7 @@ use Rattle.record.specs.Read.{folded}
 use Rattle.vertexset.specs.Set.{Words, emptySet, wordCount, capacity}
 use Rattle.vertexset.specs.declared.VertexSet.{VertexSet}
 use Rattle.vertexset.proofs.Bit.{on, on-zero}
-use Rattle.vertexset.proofs.Laws.{on-union, same-words, wordwise-length}
+use Rattle.vertexset.proofs.Laws.{on-union, same-words, wordwise-length, zeros-at}
 use Rattle.graph.specs.Rows.{rowOf, wordsFrom, adjacentIn}
 use Rattle.graph.proofs.Rows.{length-words}
 use Rattle.connectivity.specs.Lists.{In}
@@ -20,7 +20,7 @@ use Rattle.connectivity.proofs.Lists.{clash, or-true}
 use Rattle.construction.specs.Sets.{plus, withAll, setOf, members}
 use Rattle.construction.specs.Ears.{nearAll, near}
 use Rattle.construction.proofs.Basics.{Sized, On}
-use Rattle.construction.proofs.SetLaws.{zeros-at, sized-empty, sized-all, sized-plus, sized-row, or-on, empty-on, all-on, on-all, row-on, on-row, members-in, in-members}
+use Rattle.construction.proofs.SetLaws.{sized-empty, sized-all, sized-plus, sized-row, or-on, empty-on, all-on, on-all, row-on, on-row, members-in, in-members}
 
 -- two tests, each of which holds where the other does
 pub same-test : (a b : Bool) → (a ≡ true → b ≡ true) → (b ≡ true → a ≡ true) → a ≡ b

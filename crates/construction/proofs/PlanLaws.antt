@@ -6,6 +6,7 @@ use native.Mathlib.Omega.{arith}
 use lib.Dec.{lit<}
 use lib.ListN.{length, length-set, length-replicate}
 use Rattle.record.specs.Read.{folded}
+use Rattle.vertexset.proofs.Laws.{zeros-at}
 use Rattle.vertexset.specs.Set.{Words, withBit, capacity}
 use Rattle.connectivity.specs.Graph.{edgeCount}
 use Rattle.reading.specs.Plan.{Plan, Allowed}
@@ -14,7 +15,6 @@ use Rattle.graph.specs.Rows.{rowWords, joined, bareRows, rowsGraph}
 use Rattle.reading.specs.Code.{graphOf}
 use Rattle.reading.proofs.Adjacency.{graph-simple, graph-count, graph-few}
 use Rattle.construction.proofs.Basics.{Drawn}
-use Rattle.construction.proofs.SetLaws.{zeros-at}
 use Rattle.construction.proofs.Table.{words-bit}
 
 joined-size : (es : List (ℕ × ℕ)) (rows : List ℕ) → length rows ≡ rowWords → length (folded joined rows es) ≡ rowWords

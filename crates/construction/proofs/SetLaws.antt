@@ -10,10 +10,11 @@ use native.Mathlib.Decide.{ℕ-discrete}
 use lib.Dec.{eqb, ltb, lit<}
 use lib.Pow.{pow-lt}
 use lib.Bits.{bitOr, or-lt, xor-lt, and-lt}
-use lib.ListN.{length, getD, set, replicate}
+use lib.ListN.{length, set}
 use lib.Seq.{set-out}
 use borrow.Author.Tests.{eqb-true, eq-eqb, ltb-true, lt-ltb, le-leb}
 use Rattle.record.specs.Read.{folded}
+use Rattle.vertexset.proofs.Laws.{zeros-at}
 use Rattle.vertexset.specs.Set.{Words, has, wordCount, emptySet, inserted, zip, less, next, count, capacity}
 use Rattle.vertexset.specs.declared.VertexSet.{VertexSet}
 use Rattle.vertexset.proofs.Laws as laws
@@ -29,11 +30,6 @@ use Rattle.certificates.specs.Tests.{with}
 use Rattle.vertexset.proofs.Bit.{tally}
 
 -- ---- sets of full size
-
-pub zeros-at : (n i : ℕ) → _≡_ {A = ℕ} (getD (replicate n 0) i 0) 0
-zeros-at zero i = refl
-zeros-at (suc n) zero = refl
-zeros-at (suc n) (suc i) = zeros-at n i
 
 pub set-words : (ws : List ℕ) (i w : ℕ) → Words ws → w < 2 ^ 64 → Words (set ws i w)
 set-words [] i w h k j = h j

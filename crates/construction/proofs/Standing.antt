@@ -12,7 +12,7 @@ use borrow.Author.Tests.{ltb-true, ltb-false, eqb-true}
 use Rattle.record.specs.Read.{folded}
 use Rattle.vertexset.specs.Set.{Words, has, emptySet, inserted, firstFrom, next, count, capacity}
 use Rattle.vertexset.specs.declared.VertexSet.{VertexSet}
-use Rattle.vertexset.proofs.Laws.{empty-has, inserted-has, has-empty}
+use Rattle.vertexset.proofs.Laws.{empty-has, inserted-has, has-empty, zeros-at}
 use Rattle.graph.specs.Limits.{maxEdges}
 use Rattle.graph.specs.Rows.{adjacentIn, rowOf, rowWords, bareRows, joined, joinedRows}
 use Rattle.graph.proofs.Rows.{row-adjacent}
@@ -26,7 +26,7 @@ use Rattle.construction.specs.Start.{marked, nextAfter}
 use Rattle.construction.specs.Construction as plain
 use Rattle.construction.specs.Construction.{Bounds}
 use Rattle.construction.proofs.Basics.{Sized, On}
-use Rattle.construction.proofs.SetLaws.{sized-empty, sized-inserted, sized-plus, sized-minus, sized-row, has-plus, has-minus, on-low, members-count, empty-none, empty-some, zeros-at}
+use Rattle.construction.proofs.SetLaws.{sized-empty, sized-inserted, sized-plus, sized-minus, sized-row, has-plus, has-minus, on-low, members-count, empty-none, empty-some}
 use Rattle.construction.proofs.Near.{same-test, sized-near, near-on, on-near}
 use Rattle.construction.proofs.Table.{marked-size, marked-words}
 

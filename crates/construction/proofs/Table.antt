@@ -12,7 +12,7 @@ use lib.Bits.{or-lt}
 use lib.ListN.{length, length-set, length-replicate}
 use borrow.Author.Tests.{eqb-true, eq-eqb, ltb-true, ltb-false, lt-ltb}
 use Rattle.vertexset.specs.Set.{Words, has, withBit, capacity}
-use Rattle.vertexset.proofs.Laws.{has-empty}
+use Rattle.vertexset.proofs.Laws.{has-empty, zeros-at}
 use Rattle.graph.specs.Rows.{adjacentIn, rowWords, bareRows, joined, joinedRows}
 use Rattle.reading.proofs.Adjacency.{has-both, same-bit}
 use Rattle.connectivity.specs.Lists.{In}
@@ -22,7 +22,7 @@ use Rattle.connectivity.proofs.Lists.{clash, or-true, true-or, and-true, in-app
 use Rattle.connectivity.proofs.Paths.{SamePair, edge-same, edge-comm}
 use Rattle.construction.specs.Start.{marked}
 use Rattle.construction.proofs.Basics.{Drawn, flatten}
-use Rattle.construction.proofs.SetLaws.{set-words, zeros-at}
+use Rattle.construction.proofs.SetLaws.{set-words}
 
 -- u stands right before v in the list
 abbrev pub Beside : List ℕ → ℕ → ℕ → Type 0

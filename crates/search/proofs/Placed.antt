@@ -4,10 +4,11 @@ use mathlib.Core.List.{List, [], _∷_, _++_}
 use mathlib.Core.Bool.{Bool, true, false, cond}
 use mathlib.Core.Path.{_≡_, refl, sym, _∙_}
 use native.Mathlib.Omega.{arith}
-use lib.ListN.{length, getD, take, drop, set, replicate, length-append, length-replicate, getD-replicate, List·getD-eq-default, List·getD-append}
+use lib.ListN.{length, getD, take, drop, set, replicate, length-append, length-replicate, List·getD-eq-default, List·getD-append}
 use lib.Seq.{take-append-seam, drop-append-add, append-snoc, set-at, getD-append-add}
 use lib.Dec.{ltb, leb}
 use borrow.Author.Tests.{leb-true, ltb-true, ltb-false}
+use Rattle.vertexset.proofs.Laws.{zeros-at}
 use Rattle.record.specs.Write.{hasRoom, overwritten}
 use Rattle.record.proofs.Write.{overwritten-length}
 use Rattle.construction.specs.Sets.{added}
@@ -27,14 +28,6 @@ pub drop-zeros : (k n : ℕ) → drop k (zeros n) ≡ zeros (n - k)
 drop-zeros zero n = let z : n - 0 ≡ n = omega arith in rw z
 drop-zeros (suc k) zero = let z : 0 - suc k ≡ 0 = omega arith in rw z
 drop-zeros (suc k) (suc n) = let z : suc n - suc k ≡ n - k = omega arith in rw z (drop-zeros k n)
-
--- past the end of zeros the default is zero too
-pub zeros-at : (n i : ℕ) → _≡_ {A = ℕ} (getD (zeros n) i 0) 0
-zeros-at n i = go (ltb i n) refl
-  where
-    go : (b : Bool) → ltb i n ≡ b → _≡_ {A = ℕ} (getD (zeros n) i 0) 0
-    go true e = getD-replicate n i 0 0 (ltb-true _ _ e)
-    go false e = List·getD-eq-default (zeros n) 0 (let r : n ≤ i = ltb-false _ _ e in let z : length (zeros n) ≤ i = omega (arith, length-replicate {A = ℕ} n 0) in z)
 
 pub padded-length : (size : ℕ) (l : List ℕ) → length l ≤ size → length (padded size l) ≡ size
 padded-length size l h = omega (arith, length-append l (zeros (size - length l)), length-replicate {A = ℕ} (size - length l) 0)

@@ -24,10 +24,14 @@ has-past ws x h =
     let l : length ws ≤ x / 64 = omega arith in
     rw (List·getD-eq-default ws 0 l, zero-div)
 
+-- one value over and over, and past the end the same
+pub repeated-at : {A : Type 0} (a : A) (n i : ℕ) → getD (replicate n a) i a ≡ a
+repeated-at a zero i = refl
+repeated-at a (suc n) zero = refl
+repeated-at a (suc n) (suc i) = repeated-at a n i
+
 pub zeros-at : (n i : ℕ) → _≡_ {A = ℕ} (getD (replicate n 0) i 0) 0
-zeros-at zero i = refl
-zeros-at (suc n) zero = refl
-zeros-at (suc n) (suc i) = zeros-at n i
+zeros-at = repeated-at 0
 
 pub has-empty : (n x : ℕ) → has (replicate n 0) x ≡ false
 has-empty n x = rw zeros-at (on-zero (x % 64))
