@@ -62,7 +62,8 @@ buildPath g b =
     path (g .n) 2 needs⟨ 24 ⟩ pathAlong g needs⟨ 25 ⟩ bothIn b needs⟨ 26 ⟩ pathNew (has (b .sets .built .words)) needs⟨ 27 ⟩ (λ P. not (held (pathAddition b P)))
 
 -- BACK AGAIN. "The session's record must then carry, for each path, what it split and which ends it raised to branch boxes." The trace of a path that
--- was taken in: its two ends, the vertex before the last one on it, and which ends it raised. What it split there the pointers tell: a vertex that was raised keeps its own.
+-- was taken in: its two ends, the vertex before the last one on it, and which ends it raised. What it split there the pointers tell once the
+-- later paths are taken back: a vertex that was raised keeps its own.
 abbrev pub traceOf : Build → Path → Trace
 traceOf b P = record { first = P .s; last = P .t; before = lastFrom (P .s) (P .inner); from = isInner (endOf b (P .s)); upto = isInner (endOf b (P .t)) }
 

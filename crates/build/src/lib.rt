@@ -42,7 +42,8 @@ pub struct Taken {
     pub sets: Sets,
 }
 
-// What taking a path in did to a build: the path's two ends, the vertex before the last one on it, and which of its ends it raised, where it split a link.
+// What taking a path in did to a build: the path's two ends, the vertex before the last one on it, and which of its ends it raised,
+// where it split a link.
 pub struct Trace {
     pub first: u16,
     pub last: u16,

@@ -1,5 +1,5 @@
 -- REQUEST 4 AND THE OTHER CALLS: edition 3's session, which counted the paths that had come after the start; every list of calls without taking back is
--- answered as there.
+-- answered as there. The readers, and `pairCount`, `due` and `closingAnswer`, are today's: none of them has moved since edition 3.
 use Prim.Native.Nat.{ℕ, suc, _+_}
 use mathlib.Core.List.{List, [], _∷_}
 use mathlib.Core.Bool.{cond}

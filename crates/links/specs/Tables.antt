@@ -98,7 +98,7 @@ splitBy = splitEach splitRows
 abbrev pub splitMatesBy : List ℕ → Addition → List ℕ
 splitMatesBy = splitEach splitMates
 
--- BACK AGAIN: an end inside a link: a path that ends there splits the link, and raises the end to a branch vertex
+-- BACK AGAIN. An end inside a link: a path that ends there splits the link, and raises the end to a branch vertex
 abbrev pub isInner : End → Bool
 isInner (Branch v) = false
 isInner (Inner v l) = true

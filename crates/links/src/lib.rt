@@ -298,7 +298,7 @@ fn rejoin_link<'a>(
 }
 
 // The outermost vertex, on one side of x, of the link that was split at x: the mate of x's neighbour there, which is outermost in its
-// part; x itself where that neighbour is an end of the link.
+// part; x itself where that neighbour is a branch vertex.
 fn outer_aside(pointers: &[u16; Link::POINTERS], branch: VertexSet, part: usize, x: u16) -> u16
     requires { ⌜ part ≤ 2 * capacity ⌝ }
     ensures { λ r. ⌜ r ≡ outerAside (now (pointers .entry)) branch part x ⌝ }
@@ -310,7 +310,8 @@ fn outer_aside(pointers: &[u16; Link::POINTERS], branch: VertexSet, part: usize,
     pointer(pointers, Link::MATE, next)
 }
 
-// The link that was split at x is whole again. Which one it was x's own pointers tell, which it keeps as a branch vertex.
+// The link that was split at x is whole again. Which one it was is told by x's own pointers, which it keeps as a branch vertex, and by the
+// mates of its neighbours.
 pub fn rejoin<'a>(
     linked: &'a mut [u64; GraphTable::ROW_WORDS],
     pointers: &'a mut [u16; Link::POINTERS],

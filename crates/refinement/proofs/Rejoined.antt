@@ -1,4 +1,4 @@
--- A link that is split at x and made whole again: the pointers and the table are what they were. Assumes nothing.
+-- A link that is split at x and made whole again: it is found from x, and the pointers and the table are what they were. Assumes nothing.
 use Prim.Native.Nat.{ℕ, _*_, _<_}
 use mathlib.Core.List.{List, [], _∷_, _++_}
 use mathlib.Core.Bool.{Bool, true, false, cond}
@@ -27,11 +27,11 @@ use Rattle.refinement.proofs.Runs.{RunsAlong, AllLow, ends, cut, first-
 use Rattle.refinement.proofs.Shows.{Listed}
 
 -- the outermost vertices of a list that is not empty
-pub head-there : (x : ℕ) (l : List ℕ) → In x l → In (headOf l 0) l
+head-there : (x : ℕ) (l : List ℕ) → In x l → In (headOf l 0) l
 head-there x [] h = absurd h
 head-there x (v ∷ l) h = inl refl
 
-pub last-there : (x : ℕ) (l : List ℕ) → In x l → In (lastFrom 0 l) l
+last-there : (x : ℕ) (l : List ℕ) → In x l → In (lastFrom 0 l) l
 last-there x [] h = absurd h
 last-there x (v ∷ l) h = last-in v l
 
@@ -133,7 +133,7 @@ module _ (p : List ℕ) (long : length p ≡ pointerCount) (K : Path) (x : ℕ) 
       let b : pointer apart capacity last ≡ K .t = split-parts 1 last (λ e. omega arith) ∙ ap (pointer p capacity) (last-of-cut K x inside) ∙ on-last (pointer p capacity) front x back (K .t) ons in
       λ i. record { a = a i; b = b i; first = first; last = last }
 
-  -- the link is found again by x's own pointers, where the ends are branch vertices and no vertex inside the two parts is
+  -- the link is found again by x's own pointers and the mates of its neighbours, where the ends are branch vertices and no vertex inside the two parts is
   pub link-again : (branch : VertexSet) → has (branch .words) (K .s) ≡ true → has (branch .words) (K .t) ≡ true
       → ((w : ℕ) → In w front → has (branch .words) w ≡ false) → ((w : ℕ) → In w back → has (branch .words) w ≡ false)
       → Mated (pointer apart mates) front × Mated (pointer apart mates) back → linkSplit apart branch x ≡ ends K

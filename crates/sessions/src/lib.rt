@@ -124,7 +124,7 @@ impl Session {
     }
 
     // One further path; 31 before reading where none is due. Each call of a function with a session, and each return, may copy it, so this is one
-    // function; and of the two tables the larger one is lent where it lies, for one more copy less (two fields of a struct can't be lent at once).
+    // function; and the larger of the two tables is lent inside its copy of the build, which spares a copy (the kit lends one field of a struct at a time).
     pub fn path(mut self, part: &[u8]) -> Stepped
         ensures { λ x. ⌜ x ≡ pathStep self (now (part .entry)) ⌝ }
     {
