@@ -87,10 +87,16 @@ static inline uint64_t fikzarn_answer(const uint8_t *out, size_t i) {
     return word;
 }
 
+/* How many ways of cabling `size` numbered boxes, with one cable or none between each two, give that grade: the count itself, not an
+ * answer's word. It is 0 for any size but 4, 5 and 6 and for any grade above 3. The four counts of a size add up to all its plans, 2 to
+ * the number of its pairs of boxes. Each call counts anew, for 6 boxes in some hundredths of a second. */
+uint64_t fikzarn_count(uint64_t size, uint64_t grade);
+
 /* Which edition of the records this library reads, and its limits. Since edition 1 a cable of a plan may equal the one before it;
  * since edition 2 a buffer is refused, by 30, only where it is shorter than the certificate. Edition 3 reads and answers as
- * edition 2 does. Since edition 4 a script may have the call 'b', which was an unknown call before. */
-uint64_t fikzarn_edition(void);          /* 4 */
+ * edition 2 does. Since edition 4 a script may have the call 'b', which was an unknown call before. Edition 5 reads and answers as
+ * edition 4 does, and has fikzarn_count. */
+uint64_t fikzarn_edition(void);          /* 5 */
 uint64_t fikzarn_min_boxes(void);        /* 4 */
 uint64_t fikzarn_max_boxes(void);        /* 128 */
 uint64_t fikzarn_max_cables(void);       /* 512, each cable of a double counted */

@@ -6,11 +6,13 @@
 //   compare certify COUNT SEED            certificates that the library makes, for every small plan, COUNT larger ones and COUNT plan
 //                                         records of any kind, in buffers that are shorter, as long and longer
 //   compare doubles COUNT SEED            plans with doubles beside the same plans with each double written once
+//   compare counts PROGRAM                plans by grade: all that the program prints, and the library's count of many sizes and grades
 //   compare known FILE PROGRAM            known answers, by the library and by the checking program
 // Exit status 1 on any difference, or where a refusal or a grade never occurred, with doubles in the plan or at all, or a kind of
 // taking back.
 #![allow(dead_code)]
 mod certify;
+mod counts;
 mod doubles;
 mod generate;
 mod known;
@@ -21,8 +23,9 @@ mod reference;
 use generate::{shapes, Generator, Script};
 use library::Lent;
 use reference::{Answer, End, Plan, Random};
-use std::collections::BTreeMap;
+use std::collections::{BTreeMap, BTreeSet};
 use std::io::Write;
+use std::ops::RangeInclusive;
 use std::process::{exit, Command, Stdio};
 
 fn main() {
@@ -35,9 +38,11 @@ fn main() {
         ["sessions", count, seed, program] => sessions(number(count), number(seed), program),
         ["certify", count, seed] => certify::certify(number(count), number(seed)),
         ["doubles", count, seed] => doubles::doubles(number(count), number(seed)),
+        ["counts", program] => grade_counts(program),
         ["known", file, program] => known_answers(file, program),
         _ => {
-            eprintln!("compare plans|certificates|certify|doubles COUNT SEED, sessions COUNT SEED PROGRAM, known FILE PROGRAM");
+            eprintln!("compare plans|certificates|certify|doubles COUNT SEED, sessions COUNT SEED PROGRAM, counts PROGRAM,");
+            eprintln!("known FILE PROGRAM");
             false
         }
     };
@@ -312,6 +317,53 @@ fn output(program: &str, input: &[u8]) -> String {
     let _ = child.stdin.take().expect("a pipe").write_all(input);
     let output = child.wait_with_output().expect("its output");
     String::from_utf8_lossy(&output.stdout).into_owned()
+}
+
+// ---------------------------------------------------------------- counts
+
+/// Each pair of a size and a grade is asked once: where there are plans to count, the library goes through all of them.
+fn grade_counts(program: &str) -> bool {
+    let table = counts::table();
+    let right = lines_printed(program, &counts::lines(&table));
+    let (mut compared, mut above_zero, mut differ) = (0, 0, 0);
+    let grades = with_far(0..=300);
+    for size in with_far(0..=200) {
+        let counts = table.iter().find(|(n, _)| *n as u64 == size).map_or([0; 4], |(_, counts)| *counts);
+        for &grade in &grades {
+            let expected = if grade < 4 { counts[grade as usize] as u64 } else { 0 };
+            let given = library::count(size, grade);
+            compared += 1;
+            above_zero += (expected > 0) as u64;
+            differ += (given != expected) as u64;
+            if given != expected && differ == 1 {
+                println!("DIFFERENT: size {size}, grade {grade}: expected {expected}, the library gave {given}");
+            }
+        }
+    }
+    println!("{compared} compared, {above_zero} of them above 0, {differ} differ");
+    right && above_zero > 0 && differ == 0
+}
+
+/// Whether the program, given nothing to read, prints just these lines and ends well.
+fn lines_printed(program: &str, lines: &str) -> bool {
+    let run = Command::new(program).stdin(Stdio::null()).output().expect("the program");
+    let right = run.status.success() && run.stdout == lines.as_bytes() && run.stderr.is_empty();
+    match right {
+        true => println!("{} lines, {} bytes printed as expected", lines.lines().count(), lines.len()),
+        false => println!("DIFFERENT: expected {lines:?}, the program gave {run:?}"),
+    }
+    right
+}
+
+/// Also numbers that pass for a small one where only some of their bits are looked at: next to each power of two, and with a small
+/// number as their lowest 8, 16 or 32 bits.
+fn with_far(near: RangeInclusive<u64>) -> BTreeSet<u64> {
+    let mut numbers: BTreeSet<u64> = near.chain([u64::MAX]).collect();
+    numbers.extend((0..64).flat_map(|k| (0..8).map(move |more| (1 << k) - 1 + more)));
+    for high in [u64::MAX, u64::MAX / 3, 0x0123_4567_89ab_cdef, 3] {
+        numbers.extend([8, 16, 32].into_iter().flat_map(|bits| (0..7).map(move |low| (high << bits) + low)));
+    }
+    numbers
 }
 
 // ---------------------------------------------------------------- known answers

@@ -8,6 +8,7 @@ mod foreign {
         pub fn fikzarn_certify(plan: *const u8, plan_len: usize, out: *mut u8, out_len: usize) -> u64;
         pub fn fikzarn_certificate_length(plan: *const u8, plan_len: usize) -> u64;
         pub fn fikzarn_session(script: *const u8, script_len: usize, out: *mut u8, out_len: usize) -> u64;
+        pub fn fikzarn_count(size: u64, grade: u64) -> u64;
     }
 }
 
@@ -42,6 +43,11 @@ fn parted(word: u64) -> (u64, usize) {
 pub fn session(script: &[u8], out: &mut [u8]) -> (u64, usize) {
     let word = unsafe { foreign::fikzarn_session(script.as_ptr(), script.len(), out.as_mut_ptr(), out.len()) };
     (word % 65536, (word >> 16) as usize)
+}
+
+/// How many plans of that size have that grade: a number, no answer's word.
+pub fn count(size: u64, grade: u64) -> u64 {
+    unsafe { foreign::fikzarn_count(size, grade) }
 }
 
 /// The word for an answer: case + 256 * number + 65536 * place.

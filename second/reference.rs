@@ -1,5 +1,5 @@
 // The second implementation: plans, certificates, building sessions and a certifier, written from document 01 and requests 1, 2 and 4
-// of document 02 alone (request 3 changes no answer).
+// of document 02 alone (request 3 changes no answer, request 5 is in counts.rs).
 // A box is a vertex here, a cable an edge, a lost box a removed vertex, a further path a BG-path.
 // Nothing is tuned: sets are vectors, and each test stands beside the sentence that asks for it.
 

@@ -2,19 +2,21 @@
 //   selftest vectors PROGRAM SESSIONS   recorded answers of the checking program and of sessions
 //   selftest known FILE                 known answers, a call a line
 //   selftest barns                      the cases that document 01 names, as request 1 leaves them, and some with doubles
+//   selftest counts                     the plans on 4, 5 and 6 vertices, counted by grade: as document 02 says
 //   selftest figures [7]                every plan on 4, 5 and 6 vertices (or 7): certify, check and connectivity agree
 //   selftest certify COUNT SEED         the same for plans of every family, certificates chosen at random
 //   selftest outcomes COUNT SEED        generated cases; every refusal, every grade and every kind of taking back must occur
 #![allow(dead_code)]
+mod counts;
 mod generate;
 mod known;
 mod met;
 mod reference;
 
-use generate::{any_plan, every_plan, Call, Generator, Script, FIGURES};
+use generate::{any_plan, Call, Generator, Script, FIGURES};
 use known::bytes_of;
 use reference::*;
-use std::collections::BTreeMap;
+use std::collections::{BTreeMap, BTreeSet};
 use std::process::exit;
 
 fn main() {
@@ -25,12 +27,13 @@ fn main() {
         ["vectors", program, sessions] => program_vectors(program) & session_vectors(sessions),
         ["known", file] => known::compare(file, known_answer),
         ["barns"] => barns(),
+        ["counts"] => grade_counts(),
         ["figures"] => figures(6),
         ["figures", "7"] => figures(7),
         ["certify", count, seed] => certify_all(number(count), number(seed)),
         ["outcomes", count, seed] => outcomes(number(count), number(seed)),
         _ => {
-            eprintln!("selftest vectors PROGRAM SESSIONS, known FILE, barns, figures [7], or certify|outcomes COUNT SEED");
+            eprintln!("selftest vectors PROGRAM SESSIONS, known FILE, barns, counts, figures [7], or certify|outcomes COUNT SEED");
             false
         }
     };
@@ -207,6 +210,28 @@ fn barns() -> bool {
     right
 }
 
+// ---------------------------------------------------------------- counts
+
+/// "a line's counts add up to all plans of its size": as many as there are sets of pairs, no two alike.
+fn grade_counts() -> bool {
+    let (mut right, mut all) = (true, 0);
+    for n in counts::SIZES {
+        let mut plans = BTreeSet::new();
+        let counts = counts::counted(n, |plan, _| right &= plans.insert(plan.edges));
+        let (sum, due) = (counts.iter().sum::<usize>(), 1 << (n * (n - 1) / 2));
+        right &= sum == due;
+        print!("{n} vertices: {counts:?}, {sum} plans, {due} due");
+        if let Some((_, said)) = counts::SAID.iter().find(|(size, _)| *size == n) {
+            right &= counts == *said;
+            print!("; document 02 says {said:?}");
+        }
+        println!();
+        all += sum;
+    }
+    println!("{all} plans counted, {}", if right { "all agree" } else { "DIFFERENT" });
+    right
+}
+
 // ---------------------------------------------------------------- certify, check, connectivity
 
 /// Every plan on 4 to `most` vertices, counted by connectivity.
@@ -214,13 +239,10 @@ fn figures(most: usize) -> bool {
     let mut right = true;
     for n in 4..=most {
         let expected = FIGURES[n - 4];
-        let mut counts = [0; 4];
-        for plan in every_plan(n) {
-            let figure = connectivity(&plan);
-            counts[figure as usize] += 1;
+        let counts = counts::counted(n, |plan, figure| {
             right &= figure == connectivity_by_low_points(&plan);
             right &= check(&encode_plan(&plan), &certify(&plan)) == Answer::Grade(figure);
-        }
+        });
         right &= counts == expected;
         println!("{n} vertices: {counts:?}, expected {expected:?}");
     }

@@ -49,7 +49,7 @@ static const uint8_t TWICE[] = {4, 2, 0, 1, 0, 1};
 static const uint8_t UNSORTED[] = {4, 2, 0, 2, 0, 1};
 
 static void limits(void) {
-    IS(fikzarn_edition(), 4);
+    IS(fikzarn_edition(), 5);
     IS(fikzarn_min_boxes(), 4);
     IS(fikzarn_max_boxes(), 128);
     IS(fikzarn_max_cables(), 512);
@@ -240,6 +240,27 @@ static void sessions(void) {
     IS(fikzarn_session(script, 1, out, 0), FIKZARN_CUT);
 }
 
+/* Document 02's counts of four and five boxes; six boxes have 15 pairs. */
+static void counts(void) {
+    const uint64_t four[] = {26, 28, 9, 1}, five[] = {296, 490, 212, 26};
+    uint64_t six = 0;
+    for (uint64_t grade = 0; grade < 4; grade++) {
+        IS(fikzarn_count(4, grade), four[grade]);
+        IS(fikzarn_count(5, grade), five[grade]);
+        six += fikzarn_count(6, grade);
+    }
+    IS(six, 1 << 15);
+    /* Some of these have a size, or a grade, in their lowest bits. */
+    const uint64_t sizes[] = {0, 3, 7, 128, 256 + 4, 65536 + 5, (1ull << 32) + 6, UINT64_MAX};
+    const uint64_t grades[] = {4, 5, 256, 65536 + 1, 1ull << 32, (1ull << 63) + 3, UINT64_MAX};
+    for (size_t i = 0; i < sizeof sizes / sizeof *sizes; i++)
+        for (uint64_t grade = 0; grade < 5; grade++)
+            IS(fikzarn_count(sizes[i], grade), 0);
+    for (size_t i = 0; i < sizeof grades / sizeof *grades; i++)
+        for (uint64_t size = 3; size < 8; size++)
+            IS(fikzarn_count(size, grades[i]), 0);
+}
+
 int main(void) {
     limits();
     checks();
@@ -248,6 +269,7 @@ int main(void) {
     certificates();
     sessions();
     taken_back();
+    counts();
     printf("C: %u compared, %u differ\n", tested, failed);
     return failed != 0;
 }

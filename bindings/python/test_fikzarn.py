@@ -33,7 +33,7 @@ def script(plan=FIVE):
 class Calls(unittest.TestCase):
     def test_limits(self):
         limits = [fikzarn.edition(), fikzarn.min_boxes(), fikzarn.max_boxes(), fikzarn.max_cables(), fikzarn.certificate_room()]
-        self.assertEqual(limits, [4, 4, 128, 512, 1536])
+        self.assertEqual(limits, [5, 4, 128, 512, 1536])
 
     def test_check(self):
         self.assertEqual(fikzarn.check(FIVE, FIVE_BUILD), Answer(Case.GRADE, 3, 0))
@@ -98,6 +98,16 @@ class Calls(unittest.TestCase):
         answers = [ACCEPTED, none, ACCEPTED, none, *5 * [ACCEPTED], Answer(Case.GRADE, 3, 0), ACCEPTED, none, *2 * [ACCEPTED], none, held]
         self.assertEqual(fikzarn.session(counted(FIVE) + calls), (End.REPLAYED, [*answers, ACCEPTED, ACCEPTED]))
         self.assertEqual(fikzarn.session(counted(FIVE) + calls, room=71), (End.NO_ROOM, answers[:8]))
+
+    def test_count(self):
+        """Document 02's counts of four and five boxes; six boxes have 15 pairs. Some of the others have a size, or a grade, in their
+        lowest bits."""
+        four, five, six = ([fikzarn.count(size, grade) for grade in range(4)] for size in (4, 5, 6))
+        self.assertEqual((four, five, sum(six)), ([26, 28, 9, 1], [296, 490, 212, 26], 2**15))
+        for size in (0, 3, 7, 128, 2**8 + 4, 2**16 + 5, 2**32 + 6, 2**64 - 1, 2**64 + 4, -1, 4 - 2**64):
+            self.assertEqual([fikzarn.count(size, grade) for grade in range(5)], 5 * [0])
+        for grade in (4, 5, 2**8, 2**16 + 1, 2**32, 2**63 + 3, 2**64 - 1, 2**64, -1, 3 - 2**64):
+            self.assertEqual([fikzarn.count(size, grade) for size in range(3, 8)], 5 * [0])
 
 
 def load_tests(loader, tests, pattern):

@@ -27,6 +27,7 @@ mod foreign {
         pub fn fikzarn_certify(plan: *const u8, plan_len: usize, out: *mut u8, out_len: usize) -> u64;
         pub fn fikzarn_certificate_length(plan: *const u8, plan_len: usize) -> u64;
         pub fn fikzarn_session(script: *const u8, script_len: usize, out: *mut u8, out_len: usize) -> u64;
+        pub fn fikzarn_count(size: u64, grade: u64) -> u64;
         pub fn fikzarn_edition() -> u64;
         pub fn fikzarn_min_boxes() -> u64;
         pub fn fikzarn_max_boxes() -> u64;
@@ -232,6 +233,19 @@ pub fn session<'a>(script: &[u8], out: &'a mut [u8]) -> Replay<'a> {
         _ => unreachable!("{word} is no end of a replay"),
     };
     Replay { end, words: &out[..8 * (word >> 16) as usize] }
+}
+
+/// How many ways of cabling `size` numbered boxes, with one cable or none between each two, give that grade; 0 for any size but 4, 5 and 6
+/// and for any grade above 3. Each call counts anew, for 6 boxes in some hundredths of a second.
+///
+/// ```
+/// use fikzarn::count;
+///
+/// assert_eq!([0, 1, 2, 3].map(|grade| count(4, grade)), [26, 28, 9, 1]);
+/// assert_eq!(count(4, 4), 0);
+/// ```
+pub fn count(size: u64, grade: u64) -> u64 {
+    unsafe { foreign::fikzarn_count(size, grade) }
 }
 
 /// Which edition of the records the library reads.

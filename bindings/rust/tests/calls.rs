@@ -27,7 +27,7 @@ fn script(plan: &[u8]) -> Vec<u8> {
 
 #[test]
 fn limits() {
-    assert_eq!((edition(), min_boxes(), max_boxes(), max_cables()), (4, 4, 128, 512));
+    assert_eq!((edition(), min_boxes(), max_boxes(), max_cables()), (5, 4, 128, 512));
     assert_eq!(certificate_room(), CERTIFICATE_ROOM as u64);
 }
 
@@ -145,4 +145,18 @@ fn taken_back() {
     assert_eq!(out[144..], [170; 16]);
     let replay = session(&script, &mut out[..71]);
     assert_eq!((replay.end, replay.answers().len()), (End::NoRoom, 8));
+}
+
+/// Document 02's counts of four and five boxes; six boxes have 15 pairs. Some of the others have a size, or a grade, in their lowest bits.
+#[test]
+fn counts() {
+    let of = |size| [0, 1, 2, 3].map(|grade| count(size, grade));
+    assert_eq!((of(4), of(5)), ([26, 28, 9, 1], [296, 490, 212, 26]));
+    assert_eq!(of(6).iter().sum::<u64>(), 1 << 15);
+    for size in [0, 3, 7, 128, 256 + 4, 65536 + 5, (1 << 32) + 6, u64::MAX] {
+        assert_eq!(of(size), [0; 4]);
+    }
+    for grade in [4, 5, 256, 65536 + 1, 1 << 32, (1 << 63) + 3, u64::MAX] {
+        assert_eq!([3, 4, 5, 6, 7].map(|size| count(size, grade)), [0; 5]);
+    }
 }

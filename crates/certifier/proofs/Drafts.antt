@@ -49,6 +49,10 @@ module _ (s : List ℕ) {h : PlanHead} (e : h ≡ headOf (wholePlan s)) where
       go (PlanFault n p) g i = refl
       go (CertificateFault n p) g i = refl
 
+-- the first number of an array that has the numbers
+pub first-number : (l : List ℕ) {c : Numbers} → c ≡ numbersOf l → getD (c .items) 0 0 ≡ getD l 0 0
+first-number l e = ap (λ (y : Numbers). getD (y .items) 0 0) e ∙ padded-at numberRoom l 0
+
 -- an accepted plan
 module _ (s : List ℕ) (bytes : Bytes s) {h : PlanHead} (e : h ≡ headOf (wholePlan s)) (f : h .answer ≡ Accepted) where
   abbrev numbers : List ℕ
@@ -68,7 +72,7 @@ module _ (s : List ℕ) (bytes : Bytes s) {h : PlanHead} (e : h ≡ headOf (whol
     made-numbers = k ∙ (λ i. numbersOf (certificateNumbers ((left ∙ whole-arrays s whole .1) i) (e i .n)))
 
     first : getD (c .items) 0 0 ≡ getD numbers 0 0
-    first = ap (λ (y : Numbers). getD (y .items) 0 0) made-numbers ∙ padded-at numberRoom numbers 0
+    first = first-number numbers made-numbers
 
     pub draft-grade : getD (c .items) 0 0 ≤ 3
     draft-grade = let w = read-certified in omega (arith, first, w .grade, kind-low (w .certificate))

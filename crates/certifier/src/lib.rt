@@ -13,7 +13,7 @@ ghost use Rattle.construction.specs.Ears.{noCut, pathSpace, eared};
 ghost use Rattle.construction.specs.Certificate.{lengthened, certificateNumbers};
 ghost use Rattle.detours.specs.Code.{earsOf};
 ghost use Rattle.certifier.specs.Code.{numberRoom, numbersOf, treeIn, evidenceIn, cutNumbersIn, cutCertificateIn, startCertificateIn, Small};
-ghost use Rattle.certifier.specs.Made.{lengthFrom, madeFrom, filledFrom, draftOf, draftFrom};
+ghost use Rattle.certifier.specs.Made.{gradeIn, lengthFrom, madeFrom, filledFrom, draftOf, draftFrom};
 use detours::Cut;
 use detours::Ears;
 use graph::GraphTable;
@@ -244,6 +244,15 @@ fn certificate(rows: &[u64; GraphTable::ROW_WORDS], n: u16) -> Numbers
         return cut_certificate(rows, &mut space, full, c);
     }
     build_certificate(rows, &mut space, n, full, s)
+}
+
+// The grade of a graph: the kind of its certificate, which is not written.
+pub fn grade(rows: &[u64; GraphTable::ROW_WORDS], n: u16) -> u16
+    ensures { λ r. ⌜ r ≡ gradeIn (now (rows .entry)) n ⌝ }
+{
+    let c = certificate(rows, n);
+    let numbers = c.items;
+    numbers[0]
 }
 
 // How many bytes these numbers take. The sum has 16 bits as the numbers have, so that the compiler adds eight at once.

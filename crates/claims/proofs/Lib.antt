@@ -1,6 +1,7 @@
 pub mod Starred
 pub mod Maker
 pub mod Demands
+pub mod Counts
 pub mod Demand1
 pub mod Back
 pub mod Before

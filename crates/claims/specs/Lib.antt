@@ -6,6 +6,7 @@ pub mod Answers
 pub mod Exports
 pub mod Printed
 pub mod Demands
+pub mod Counts
 pub mod Back
 pub mod Before
 pub mod Lengths

@@ -130,7 +130,7 @@ before-trans a b c (inl h) (inr k) = inl (omega arith)
 before-trans a b c (inr h) (inl k) = inl (omega arith)
 before-trans a b c (inr h) (inr k) = inr (omega arith, omega arith)
 
-ascending-after : (e : ℕ × ℕ) (es : List (ℕ × ℕ)) → AscendingEdges (e ∷ es) → (f : ℕ × ℕ) → In f es → EdgeBefore e f
+pub ascending-after : (e : ℕ × ℕ) (es : List (ℕ × ℕ)) → AscendingEdges (e ∷ es) → (f : ℕ × ℕ) → In f es → EdgeBefore e f
 ascending-after e [] s f h = absurd h
 ascending-after e (d ∷ es) s f (inl i) = rw i (s .0)
 ascending-after e (d ∷ es) s f (inr h) = before-trans e d f (s .0) (ascending-after d es (s .1) f h)

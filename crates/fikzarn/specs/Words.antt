@@ -34,4 +34,4 @@ replayWord r = word (r .status) 0 (r .count)
 
 -- the edition of the format
 abbrev pub edition : ℕ
-edition = 4
+edition = 5

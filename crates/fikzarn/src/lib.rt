@@ -4,6 +4,7 @@ ghost use Rattle.graph.specs.Limits.{minVertices, maxVertices, maxEdges};
 ghost use Rattle.reading.specs.Code.{wholePlan};
 ghost use Rattle.checker.specs.Check.{checkOf};
 ghost use Rattle.certifier.specs.Made.{certificateRoom, lengthFrom, madeFrom, filledFrom};
+ghost use Rattle.counting.specs.Counts.{countOf};
 ghost use Rattle.script.specs.Replay.{answerWord, replayOf};
 ghost use Rattle.fikzarn.specs.Words.{planRewritten, madeWord, replayWord, edition};
 use certifier::Made;
@@ -82,12 +83,20 @@ pub extern "C" fn fikzarn_session(script: &[u8], out: &mut [u8]) -> u64
     replayed.status as u64 + 65536 * (replayed.count as u64 % 281474976710656)
 }
 
+// How many plans of 4, 5 or 6 boxes, no two cables alike, have that grade; 0 for any other size or grade.
+#[no_mangle]
+pub extern "C" fn fikzarn_count(size: u64, grade: u64) -> u64
+    ensures { λ r. ⌜ r ≡ countOf size grade ⌝ }
+{
+    counting::count(size, grade)
+}
+
 // The edition of the format.
 #[no_mangle]
 pub extern "C" fn fikzarn_edition() -> u64
     ensures { λ r. ⌜ r ≡ edition ⌝ }
 {
-    4
+    5
 }
 
 #[no_mangle]

@@ -93,7 +93,7 @@ once-most before (e ∷ es) = go (isPair before (e .0) (e .1)) (once-most e es)
     go true later = omega (arith, later)
     go false later = omega (arith, later)
 
-ascends-on : (e : ℕ × ℕ) (es : List (ℕ × ℕ)) → AscendingEdges (e ∷ es) → AscendingEdges es
+pub ascends-on : (e : ℕ × ℕ) (es : List (ℕ × ℕ)) → AscendingEdges (e ∷ es) → AscendingEdges es
 ascends-on e [] h = tt
 ascends-on e (f ∷ es) h = h .1
 
@@ -145,12 +145,12 @@ before-follows : (d e : ℕ × ℕ) → EdgeBefore d e → follows d e ≡ true
 before-follows d e (inl h) = rw (lt-ltb _ _ h)
 before-follows d e (inr h) = let l : d .1 ≤ e .1 = omega (arith, h .1) in rw (eq-eqb _ _ (h .0), le-leb _ _ l) (or-true (ltb (d .0) (e .0)))
 
-ascends-each : (before : ℕ × ℕ) (es : List (ℕ × ℕ)) → AscendingEdges (before ∷ es) → Each EdgeBefore (λ d e. e) before es
+pub ascends-each : (before : ℕ × ℕ) (es : List (ℕ × ℕ)) → AscendingEdges (before ∷ es) → Each EdgeBefore (λ d e. e) before es
 unfolding Each
 ascends-each before [] h = tt
 ascends-each before (e ∷ es) h = (h .0, ascends-each e es (h .1))
 
-each-both : (n : ℕ) (before : ℕ × ℕ) (es : List (ℕ × ℕ)) → Each EdgeBefore (λ d e. e) before es → Proper n es → Each (EdgeAllowed n) (λ d e. e) before es
+pub each-both : (n : ℕ) (before : ℕ × ℕ) (es : List (ℕ × ℕ)) → Each EdgeBefore (λ d e. e) before es → Proper n es → Each (EdgeAllowed n) (λ d e. e) before es
 unfolding Each
 each-both n before [] h p = tt
 each-both n before (e ∷ es) h p =

@@ -1,0 +1,61 @@
+-- REQUEST 5 of document 02, how rare each grade is: the plans of a size are all there, each once, and the counts are theirs.
+use Prim.Native.Nat.{ℕ, _+_, _-_, _*_, _/_, _^_, _≤_, _<_}
+use mathlib.Core.List.{List, [], _∷_, map}
+use mathlib.Core.Path.{_≡_}
+use mathlib.Core.Logic.{_⊎_, _↔_}
+use lib.ListN.{length}
+use Rattle.connectivity.specs.Lists.{In, NoDup}
+use Rattle.reading.specs.Plan.{Plan, planBytes}
+use Rattle.counting.specs.Counts.{plansOf, leastSize, mostSize, countOf, countsOf}
+use Rattle.countlines.specs.Text.{countLine}
+use Rattle.claims.specs.Certified.{IsPlan, HasFigure}
+use Rattle.claims.specs.Demands.{AcceptedGrade}
+
+-- P is the record of a plan of n boxes in which no two cables are alike
+pub record IsSimplePlan (n : ℕ) (P : List ℕ) : Type 0 where
+  pub plan : Plan
+  pub is-plan : IsPlan P plan
+  pub boxes : plan .n ≡ n
+  pub no-doubles : NoDup (plan .edges)
+
+-- the list has just the records of which K holds, each once
+pub record Lists (K : List ℕ → Type 0) (l : List (List ℕ)) : Type 0 where
+  pub each-once : NoDup l
+  pub just : (P : List ℕ) → In P l ↔ K P
+
+abbrev pub IsSize : ℕ → Type 0
+IsSize n = (leastSize ≤ n) × (n ≤ mostSize)
+
+-- `plansOf`, by which a count is defined, are all plans of the size and each once: their records are just the records that are accepted for n boxes
+-- without doubles.
+abbrev pub PlansListed : Type 0
+PlansListed = (n : ℕ) → IsSize n → Lists (IsSimplePlan n) (map planBytes (plansOf n))
+
+-- "Each count is the number of plans with that loss figure": there is a list of their records, and every such list is as long as the count says. To have
+-- the figure k is to be given the grade k by whom it may be.
+pub record Counted (n k : ℕ) : Type 0 where
+  pub records : List (List ℕ)
+  pub listed : Lists (λ P. IsSimplePlan n P × HasFigure P k) records
+  pub count : (l : List (List ℕ)) → Lists (λ P. IsSimplePlan n P × HasFigure P k) l → countOf n k ≡ length l
+  pub graded : (P : List ℕ) → In P records → AcceptedGrade P k
+
+abbrev pub CountsTrue : Type 0
+CountsTrue = (n : ℕ) → IsSize n → (k : ℕ) → Counted n k
+
+-- "a line's counts add up to all plans of its size": to 2 to the number of pairs.
+pub record AddsUp (n : ℕ) : Type 0 where
+  pub all : countOf n 0 + (countOf n 1 + (countOf n 2 + countOf n 3)) ≡ length (plansOf n)
+  pub power : length (plansOf n) ≡ 2 ^ (n * (n - 1) / 2)
+
+abbrev pub CountsAddUp : Type 0
+CountsAddUp = (n : ℕ) → IsSize n → AddsUp n
+
+-- No other size and no other grade has a count.
+abbrev pub NothingElse : Type 0
+NothingElse = (n k : ℕ) → ((n < leastSize) ⊎ ((mostSize < n) ⊎ (3 < k))) → countOf n k ≡ 0
+
+-- "Four boxes give 26, 28, 9 and 1. Five give 296, 490, 212 and 26.", by computing the definition; and the line of four
+pub record LinesComputed : Type 0 where
+  pub of-four : countsOf 4 .of ≡ 26 ∷ 28 ∷ 9 ∷ 1 ∷ []
+  pub of-five : countsOf 5 .of ≡ 296 ∷ 490 ∷ 212 ∷ 26 ∷ []
+  pub line : countLine 4 ≡ 52 ∷ 32 ∷ 50 ∷ 54 ∷ 32 ∷ 50 ∷ 56 ∷ 32 ∷ 57 ∷ 32 ∷ 49 ∷ 10 ∷ []

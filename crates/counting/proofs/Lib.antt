@@ -1,0 +1,7 @@
+pub mod Sets
+pub mod Pairs
+pub mod Plans
+pub mod Tally
+pub mod Drawing
+pub mod Figures
+pub mod Counting

@@ -1,0 +1,59 @@
+-- HOW RARE EACH GRADE IS (request 5 of document 02): all plans of a size, "doubled cables left aside", and how many of them have each figure.
+use Prim.Native.Nat.{ℕ}
+use mathlib.Core.List.{List, [], _∷_, _++_, map}
+use mathlib.Core.Bool.{cond, _&&_}
+use lib.Dec.{leb, eqb}
+use lib.ListN.{length}
+use Rattle.connectivity.specs.Lists.{below}
+use Rattle.connectivity.specs.Graph.{fromEdges}
+use Rattle.connectivity.specs.Connectivity.{connectivity}
+use Rattle.reading.specs.Plan.{Plan}
+use Rattle.counting.specs.declared.Counts.{Counts}
+
+-- one vertex with each of a list
+unfoldable pub withLower : ℕ → List ℕ → List (ℕ × ℕ)
+withLower u [] = []
+withLower u (v ∷ l) = (u, v) ∷ withLower u l
+
+-- each vertex of a list with every later one
+unfoldable pub pairsAmong : List ℕ → List (ℕ × ℕ)
+pairsAmong [] = []
+pairsAmong (u ∷ l) = withLower u l ++ pairsAmong l
+
+-- the pairs of n numbered vertices, in cable order
+abbrev pub pairsOf : ℕ → List (ℕ × ℕ)
+pairsOf n = pairsAmong (below n)
+
+-- every set of them: those without the first pair, then those with it
+unfoldable pub setsOf : List (ℕ × ℕ) → List (List (ℕ × ℕ))
+setsOf [] = [] ∷ []
+setsOf (e ∷ es) = setsOf es ++ map (λ s. e ∷ s) (setsOf es)
+
+-- ALL PLANS of n boxes without doubles: one for each set of pairs
+abbrev pub planWith : ℕ → List (ℕ × ℕ) → Plan
+planWith n es = record { n = n; edges = es }
+
+abbrev pub plansOf : ℕ → List Plan
+plansOf n = map (planWith n) (setsOf (pairsOf n))
+
+-- those of them with the figure k
+abbrev pub figureOf : Plan → ℕ
+figureOf p = connectivity (fromEdges (p .n) (p .edges))
+
+unfoldable pub withFigure : ℕ → List Plan → List Plan
+withFigure k [] = []
+withFigure k (p ∷ ps) = cond (eqb (figureOf p) k) (p ∷ withFigure k ps) (withFigure k ps)
+
+-- "how many ways of cabling four, five or six numbered boxes give each grade"; no other size is counted
+abbrev pub leastSize : ℕ
+leastSize = 4
+
+abbrev pub mostSize : ℕ
+mostSize = 6
+
+unfoldable pub countOf : ℕ → ℕ → ℕ
+countOf n k = cond (leb leastSize n && leb n mostSize) (length (withFigure k (plansOf n))) 0
+
+-- the counts of a size, for grades 0 to 3
+abbrev pub countsOf : ℕ → Counts
+countsOf n = record { of = countOf n 0 ∷ countOf n 1 ∷ countOf n 2 ∷ countOf n 3 ∷ [] }
