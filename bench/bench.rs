@@ -2,6 +2,7 @@
 #![allow(dead_code)]
 mod cases;
 mod climb;
+mod counts;
 mod families;
 #[path = "../second/generate.rs"]
 mod generate;
@@ -48,6 +49,7 @@ fn every_family() {
     rows("hostile certificate", &SIZES, |n| hostile::case(n, 4 * n, random));
     rows("hostile, few edges", &SIZES, |n| hostile::case(n, hostile::least_edges(n), random));
     table::lengths(&largest);
+    counts::counts();
 }
 
 /// The family's name and its cases of the last size.

@@ -26,7 +26,7 @@ use Rattle.counting.proofs.Counting.{of-size, none-below, none-above, no-grade}
 use Rattle.countlines.specs.Text.{countLine}
 use Rattle.claims.specs.Certified.{IsPlan, HasFigure}
 use Rattle.claims.specs.Demands.{AcceptedGrade, AcceptedGrade.measured}
-use Rattle.claims.specs.Counts.{IsSimplePlan, Lists, IsSize, PlansListed, Counted, CountsTrue, CountsAddUp, NothingElse, LinesComputed}
+use Rattle.claims.specs.Counts.{IsSimplePlan, Lists, IsSize, PlansListed, Counted, CountsTrue, RowsGraded, CountsAddUp, NothingElse, LinesComputed}
 use Rattle.claims.proofs.Checking.{plan-simple}
 use Rattle.claims.proofs.Maker.{length-at}
 
@@ -107,6 +107,9 @@ plans-listed = all-listed
 
 pub counts-true : CountsTrue
 counts-true = counted
+
+pub rows-graded : RowsGraded
+rows-graded p a = connectivity-exactly (planGraph p) (plan-simple p a) _ .1 (grade-figure p a)
 
 half : (m p : ℕ) → 2 * m ≡ p → m ≡ p / 2
 half m p e = omega arith

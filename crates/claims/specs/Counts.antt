@@ -5,7 +5,11 @@ use mathlib.Core.Path.{_≡_}
 use mathlib.Core.Logic.{_⊎_, _↔_}
 use lib.ListN.{length}
 use Rattle.connectivity.specs.Lists.{In, NoDup}
-use Rattle.reading.specs.Plan.{Plan, planBytes}
+use Rattle.connectivity.specs.Graph.{HasConnectivity}
+use Rattle.reading.specs.Plan.{Plan, Allowed, planBytes}
+use Rattle.reading.specs.Code.{graphOf}
+use Rattle.checker.specs.Check.{planGraph}
+use Rattle.certifier.specs.Made.{gradeIn}
 use Rattle.counting.specs.Counts.{plansOf, leastSize, mostSize, countOf, countsOf}
 use Rattle.countlines.specs.Text.{countLine}
 use Rattle.claims.specs.Certified.{IsPlan, HasFigure}
@@ -41,6 +45,11 @@ pub record Counted (n k : ℕ) : Type 0 where
 
 abbrev pub CountsTrue : Type 0
 CountsTrue = (n : ℕ) → IsSize n → (k : ℕ) → Counted n k
+
+-- Each plan gets its figure from `certifier::grade`, which answers `gradeIn`: for the rows and the n of every plan that Records allows, counted or not, that is
+-- its figure.
+abbrev pub RowsGraded : Type 0
+RowsGraded = (p : Plan) → Allowed p → HasConnectivity (planGraph p) (gradeIn (graphOf p .rows) (graphOf p .n))
 
 -- "a line's counts add up to all plans of its size": to 2 to the number of pairs.
 pub record AddsUp (n : ℕ) : Type 0 where

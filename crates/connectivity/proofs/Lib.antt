@@ -19,7 +19,6 @@ pub mod FirstLinks
 pub mod RecordedSteps
 pub mod Completeness
 pub mod Main
-pub mod Counts
 pub mod TopologicalGraph
 pub mod Additions
 pub mod Sequence

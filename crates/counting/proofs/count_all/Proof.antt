@@ -42,14 +42,14 @@ loop-holds c = count-start _
 figure-requires : tie.Need-figure-requires Inv-loop μ-loop
 figure-requires c κs =
     let m = c .before .before in
-    (m .before .before .if1 .left, m .before .if2 .left, up-to-last _ (m .set-count .ensures) (c .loop-test .taken))
+    (m .before .before .if1 .left, m .before .if2 .left, up-to-last _ (m .set-count .ensures) (omega (arith, c .loop-test .taken)))
 
 -- the place where the figure of the next plan is known
 abbrev Known : Type 0
 Known = lts.After-figure (set-count-reads.Asked, set-count-reads.Learnt, figure-reads.Asked, figure-reads.Learnt) reads.Pre reads.Post Inv-loop μ-loop
 
 number-low : (c : Known) → c .before .before .loop .number < length (setsOf (pairsOf (c .before .before .before .before .before .before .args .size)))
-number-low c = up-to-last _ (c .before .before .before .set-count .ensures) (c .before .loop-test .taken)
+number-low c = up-to-last _ (c .before .before .before .set-count .ensures) (omega (arith, c .before .loop-test .taken))
 
 few : (c : Known) → length (setsOf (pairsOf (c .before .before .before .before .before .before .args .size))) ≤ 32768
 few c = let m = c .before .before .before in sets-most _ (m .before .before .if1 .left) (m .before .if2 .left)
