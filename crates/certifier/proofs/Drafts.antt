@@ -20,7 +20,8 @@ use Rattle.reading.specs.declared.PlanHead.{PlanHead}
 use Rattle.reading.proofs.Plans.{accepted, accepted-graph, whole-arrays}
 use Rattle.certificates.proofs.Accepted.{kind-low}
 use Rattle.construction.specs.Certificate.{certificateNumbers}
-use Rattle.construction.proofs.CertificateLaws.{Constructed, certified}
+use Rattle.construction.proofs.CertificateLaws.{Constructed}
+use Rattle.construction.proofs.PlanCertificates.{plan-certified}
 use Rattle.construction.proofs.PlanLaws.{plan-drawn, plan-edges}
 use Rattle.search.proofs.Placed.{padded-at}
 use Rattle.detours.proofs.Filled.{Filled, filled-length, filled-take}
@@ -64,8 +65,7 @@ module _ (s : List ℕ) (bytes : Bytes s) {h : PlanHead} (e : h ≡ headOf (whol
   read-certified : Constructed (wholePlan s .plan .graph .rows) (wholePlan s .plan .graph .n)
   read-certified =
       let p = accepted s bytes whole in
-      let d = plan-drawn (p .0) (p .1) in
-      subst (λ (g : GraphTable). Constructed (g .rows) (g .n)) (sym (accepted-graph s (p .0) (p .3))) (certified _ _ d (plan-edges (p .0) (p .1)))
+      subst (λ (g : GraphTable). Constructed (g .rows) (g .n)) (sym (accepted-graph s (p .0) (p .3))) (plan-certified (p .0) (p .1))
 
   module _ {rows : List ℕ} {c : Numbers} (left : rows ≡ rowsLeft bareRows s) (k : c ≡ numbersOf (certificateNumbers rows (h .n))) where
     made-numbers : c ≡ numbersOf numbers

@@ -20,11 +20,11 @@ use Rattle.certifier.specs.Code.{numberRoom}
 abbrev pub certificateOf : GraphTable → List ℕ
 certificateOf g = certificateRecord (g .rows) (g .n)
 
-abbrev pub gradeIn : List ℕ → ℕ → ℕ
-gradeIn rows n = getD (certificateNumbers rows n) 0 0
+abbrev pub kindIn : List ℕ → ℕ → ℕ
+kindIn rows n = getD (certificateNumbers rows n) 0 0
 
 abbrev pub gradeMade : GraphTable → ℕ
-gradeMade g = gradeIn (g .rows) (g .n)
+gradeMade g = kindIn (g .rows) (g .n)
 
 abbrev pub made : Answer → ℕ → Made
 made answer length = record { answer = answer; length = length }

@@ -13,7 +13,7 @@ ghost use Rattle.construction.specs.Ears.{noCut, pathSpace, eared};
 ghost use Rattle.construction.specs.Certificate.{lengthened, certificateNumbers};
 ghost use Rattle.detours.specs.Code.{earsOf};
 ghost use Rattle.certifier.specs.Code.{numberRoom, numbersOf, treeIn, evidenceIn, cutNumbersIn, cutCertificateIn, startCertificateIn, Small};
-ghost use Rattle.certifier.specs.Made.{gradeIn, lengthFrom, madeFrom, filledFrom, draftOf, draftFrom};
+ghost use Rattle.certifier.specs.Made.{kindIn, lengthFrom, madeFrom, filledFrom, draftOf, draftFrom};
 use detours::Cut;
 use detours::Ears;
 use graph::GraphTable;
@@ -246,9 +246,9 @@ fn certificate(rows: &[u64; GraphTable::ROW_WORDS], n: u16) -> Numbers
     build_certificate(rows, &mut space, n, full, s)
 }
 
-// The grade of a graph: the kind of its certificate, which is not written.
-pub fn grade(rows: &[u64; GraphTable::ROW_WORDS], n: u16) -> u16
-    ensures { λ r. ⌜ r ≡ gradeIn (now (rows .entry)) n ⌝ }
+// The kind of a graph's certificate, which is not written.
+pub fn kind(rows: &[u64; GraphTable::ROW_WORDS], n: u16) -> u16
+    ensures { λ r. ⌜ r ≡ kindIn (now (rows .entry)) n ⌝ }
 {
     let c = certificate(rows, n);
     let numbers = c.items;

@@ -1,33 +1,29 @@
 -- Request 5: the plans of a size are all listed, each once, and each count is the number of those with that figure. Assumes nothing.
-use Prim.Native.Nat.{ℕ, _-_, _*_, _/_, _^_, _≤_}
+use Prim.Native.Nat.{ℕ, _-_, _*_, _/_, _^_}
 use mathlib.Core.List.{List, map}
 use mathlib.Core.Path.{_≡_, refl, sym, ap, subst, _∙_}
-use mathlib.Core.Logic.{_⊎_, inl, inr}
+use mathlib.Core.Logic.{inl, inr}
 use native.Mathlib.Omega.{arith}
 use lib.ListN.{length, length-map}
 use Rattle.record.specs.declared.Answer.the-variants.{Grade}
-use Rattle.connectivity.specs.Lists.{In, NoDup}
+use Rattle.connectivity.specs.Lists.{In}
 use Rattle.connectivity.proofs.Lists.{fewer}
-use Rattle.connectivity.proofs.Main.{connectivity-exactly}
-use Rattle.reading.specs.Plan.{Plan, Allowed, planBytes}
-use Rattle.reading.specs.Code.{graphOf}
+use Rattle.reading.specs.Plan.{Plan, planBytes}
 use Rattle.reading.proofs.Plans.{injective}
-use Rattle.checker.specs.Check.{planGraph}
 use Rattle.certifier.specs.declared.Made.{Made}
 use Rattle.certifier.specs.Made.{lengthFrom}
 use Rattle.lines.specs.Lines.{digitsIn}
-use Rattle.counting.specs.Counts.{withLower, pairsAmong, pairsOf, setsOf, plansOf, figureOf, withFigure, countOf}
+use Rattle.counting.specs.Counts.{withLower, pairsAmong, pairsOf, setsOf, plansOf, connectivityOf, withConnectivity, countOf}
 use Rattle.counting.proofs.Sets.{in-map, map-in, nodup-map}
 use Rattle.counting.proofs.Pairs.{pairs-twice}
 use Rattle.counting.proofs.Plans.{listed-allowed, allowed-listed, plans-nodup, plans-count}
 use Rattle.counting.proofs.Tally.{with-in, in-with, with-nodup, with-sum}
-use Rattle.counting.proofs.Figures.{grade-figure, pairs-fit, size-allowed}
+use Rattle.counting.proofs.Grading.{kind-connectivity, pairs-fit, size-allowed}
 use Rattle.counting.proofs.Counting.{of-size, none-below, none-above, no-grade}
 use Rattle.countlines.specs.Text.{countLine}
-use Rattle.claims.specs.Certified.{IsPlan, HasFigure}
-use Rattle.claims.specs.Demands.{AcceptedGrade, AcceptedGrade.measured}
+use Rattle.claims.specs.Certified.{HasFigure}
 use Rattle.claims.specs.Counts.{IsSimplePlan, Lists, IsSize, PlansListed, Counted, CountsTrue, RowsGraded, CountsAddUp, NothingElse, LinesComputed}
-use Rattle.claims.proofs.Checking.{plan-simple}
+use Rattle.claims.proofs.Demands.{figure-computed}
 use Rattle.claims.proofs.Maker.{length-at}
 
 module _ (n : ℕ) (s : IsSize n) where
@@ -54,14 +50,14 @@ module _ (n : ℕ) (s : IsSize n) where
 
   module _ (k : ℕ) where
     abbrev theirs : List (List ℕ)
-    theirs = map planBytes (withFigure k (plansOf n))
+    theirs = map planBytes (withConnectivity k (plansOf n))
 
     abbrev Has : List ℕ → Type 0
     Has P = IsSimplePlan n P × HasFigure P k
 
-    found : (P : List ℕ) → In P theirs → (p : Plan) × In p (plansOf n) × (figureOf p ≡ k) × (P ≡ planBytes p)
+    found : (P : List ℕ) → In P theirs → (p : Plan) × In p (plansOf n) × (connectivityOf p ≡ k) × (P ≡ planBytes p)
     found P h =
-        let p = in-map planBytes P (withFigure k (plansOf n)) h in
+        let p = in-map planBytes P (withConnectivity k (plansOf n)) h in
         let w = with-in k (p .0) (plansOf n) (p .1) in
         (p .0, w .0, w .1, p .2)
 
@@ -70,19 +66,19 @@ module _ (n : ℕ) (s : IsSize n) where
     has-figure P h =
         let p = found P h in
         let x = simple P (p .0) (p .1) (p .3) in
-        (x, record { plan = p .0; is-plan = x .is-plan; figure = connectivity-exactly (planGraph (p .0)) (plan-simple (p .0) (x .is-plan .allowed)) k .1 (sym (p .2)) })
+        (x, record { plan = p .0; is-plan = x .is-plan; figure = figure-computed (p .0) (x .is-plan .allowed) k .1 (sym (p .2)) })
 
     figured : (P : List ℕ) → Has P → In P theirs
     figured P (x, f) =
         let a = f .is-plan .allowed in
-        let e : k ≡ figureOf (f .plan) = connectivity-exactly (planGraph (f .plan)) (plan-simple (f .plan) a) k .0 (f .figure) in
+        let e : k ≡ connectivityOf (f .plan) = figure-computed (f .plan) a k .0 (f .figure) in
         let q : x .plan ≡ f .plan = injective (x .plan) (f .plan) (x .is-plan .allowed) a (sym (x .is-plan .bytes) ∙ f .is-plan .bytes) in
-        let i = in-with k (x .plan) (plansOf n) (listed x) (ap figureOf q ∙ sym e) in
-        subst (λ (Q : List ℕ). In Q theirs) (sym (x .is-plan .bytes)) (map-in planBytes (x .plan) (withFigure k (plansOf n)) i)
+        let i = in-with k (x .plan) (plansOf n) (listed x) (ap connectivityOf q ∙ sym e) in
+        subst (λ (Q : List ℕ). In Q theirs) (sym (x .is-plan .bytes)) (map-in planBytes (x .plan) (withConnectivity k (plansOf n)) i)
 
     theirs-listed : Lists Has theirs
     theirs-listed = record {
-      each-once = nodup-map planBytes (withFigure k (plansOf n)) (λ p q h j. one-plan p q (with-in k p (plansOf n) h .0) (with-in k q (plansOf n) j .0)) (with-nodup k (plansOf n) (plans-nodup n));
+      each-once = nodup-map planBytes (withConnectivity k (plansOf n)) (λ p q h j. one-plan p q (with-in k p (plansOf n) h .0) (with-in k q (plansOf n) j .0)) (with-nodup k (plansOf n) (plans-nodup n));
       just = λ P. (has-figure P, figured P);
     }
 
@@ -91,13 +87,13 @@ module _ (n : ℕ) (s : IsSize n) where
     as-long l x =
         let a = fewer theirs l (theirs-listed .each-once) (λ P h. x .just P .1 (has-figure P h)) in
         let b = fewer l theirs (x .each-once) (λ P h. figured P (x .just P .0 h)) in
-        omega (arith, of-size n (s .0) (s .1) k, length-map (withFigure k (plansOf n)) planBytes)
+        omega (arith, of-size n (s .0) (s .1) k, length-map (withConnectivity k (plansOf n)) planBytes)
 
-    graded : (P : List ℕ) → In P theirs → AcceptedGrade P k
+    graded : (P : List ℕ) → In P theirs → lengthFrom P .answer ≡ Grade k
     graded P h =
         let p = found P h in
         let a = size-allowed n (s .0) (s .1) (p .0) (p .1) in
-        measured (ap (λ (Q : List ℕ). lengthFrom Q .answer) (p .3) ∙ ap (λ (m : Made). m .answer) (length-at (p .0) a) ∙ ap Grade (grade-figure (p .0) a ∙ p .2))
+        ap (λ (Q : List ℕ). lengthFrom Q .answer) (p .3) ∙ ap (λ (m : Made). m .answer) (length-at (p .0) a) ∙ ap Grade (kind-connectivity (p .0) a ∙ p .2)
 
     pub counted : Counted n k
     counted = record { records = theirs; listed = theirs-listed; count = as-long; graded = graded }
@@ -109,7 +105,7 @@ pub counts-true : CountsTrue
 counts-true = counted
 
 pub rows-graded : RowsGraded
-rows-graded p a = connectivity-exactly (planGraph p) (plan-simple p a) _ .1 (grade-figure p a)
+rows-graded p a = figure-computed p a _ .1 (kind-connectivity p a)
 
 half : (m p : ℕ) → 2 * m ≡ p → m ≡ p / 2
 half m p e = omega arith
@@ -126,5 +122,5 @@ nothing-else n k (inr (inl h)) = none-above n h k
 nothing-else n k (inr (inr h)) = no-grade n k h
 
 pub lines-computed : LinesComputed
-unfolding countOf withFigure setsOf pairsAmong withLower countLine digitsIn
+unfolding countOf withConnectivity setsOf pairsAmong withLower countLine digitsIn
 lines-computed = record { of-four = refl; of-five = refl; line = refl }

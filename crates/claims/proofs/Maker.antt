@@ -10,18 +10,13 @@ use Rattle.record.specs.Number.{numberBytes, listBytes}
 use Rattle.record.specs.Write.{overwritten}
 use Rattle.record.specs.declared.Answer.the-variants.{Accepted, Grade, PlanFault}
 use Rattle.record.proofs.Laws.{ended-there}
-use Rattle.connectivity.specs.Graph.{Graph}
-use Rattle.connectivity.specs.Certificate.{Rules}
 use Rattle.reading.specs.Plan.{Plan, Allowed, plan, planBytes}
 use Rattle.reading.specs.Code.{graphOf, tableOf, wholePlan, planRead}
 use Rattle.reading.specs.declared.PlanRead.{PlanRead}
 use Rattle.reading.proofs.Plans.{plan-law, accepted, accepted-graph, accepts}
-use Rattle.reading.proofs.Adjacency.{graph-listed}
-use Rattle.construction.proofs.PlanLaws.{plan-drawn, plan-edges}
-use Rattle.construction.proofs.CertificateLaws as construction
-use Rattle.construction.proofs.CertificateLaws.{certified}
+use Rattle.construction.proofs.PlanCertificates.{plan-certified, plan-rules}
 use Rattle.construction.proofs.AnyWords.{plan-any-steps}
-use Rattle.checker.specs.Check.{planGraph, checkOf}
+use Rattle.checker.specs.Check.{checkOf}
 use Rattle.certifier.specs.declared.Made.{Made}
 use Rattle.certifier.specs.Made.{made, lengthBy, lengthFrom, recordBy, recordFrom, madeFrom, filledFrom, certificateOf, gradeMade}
 use Rattle.certifier.proofs.Room.{same-length, made-room, made-none, by-room, made-graded}
@@ -63,15 +58,9 @@ record-on P e = (λ i. recordBy (answer-on P e i) (graph-on P e i))
 
 -- THE CERTIFICATE of an allowed plan keeps every rule, so the checker accepts it.
 module _ (p : Plan) (a : Allowed p) where
-  its : construction.Constructed (graphOf p .rows) (graphOf p .n)
-  its = certified (graphOf p .rows) (graphOf p .n) (plan-drawn p a) (plan-edges p a)
-
-  its-rules : Rules (planGraph p) (its .certificate)
-  its-rules = subst (λ (g : Graph). Rules g (its .certificate)) (graph-listed p a) (its .rules)
-
   pub made-certified : Certified (planBytes p) (certificateOf (graphOf p)) (gradeMade (graphOf p))
   made-certified =
-      record { plan = p; is-plan = record { allowed = a; bytes = refl }; certificate = its .certificate; bytes = its .bytes; same-kind = sym (its .grade); rules = its-rules }
+      record { plan = p; is-plan = record { allowed = a; bytes = refl }; certificate = plan-certified p a .certificate; bytes = plan-certified p a .bytes; same-kind = sym (plan-certified p a .grade); rules = plan-rules p a }
 
   pub made-accepted : checkOf (planBytes p) (certificateOf (graphOf p)) ≡ Grade (gradeMade (graphOf p))
   made-accepted = certified-grade (planBytes p) (certificateOf (graphOf p)) (gradeMade (graphOf p)) made-certified
@@ -91,7 +80,7 @@ module _ (p : Plan) (a : Allowed p) where
     answer = made-room (planBytes p) buffer h .0 ∙ length-at;
     measured = length-at;
     begins = filled-room (planBytes p) buffer h ∙ (λ i. record-at i ++ drop (length-at i .length) buffer);
-    short = its .short;
+    short = plan-certified p a .short;
     accepted = made-accepted;
   }
 

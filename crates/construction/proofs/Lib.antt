@@ -26,6 +26,7 @@ pub mod CutRecords
 pub mod BuildRecords
 pub mod CertificateLaws
 pub mod PlanLaws
+pub mod PlanCertificates
 pub mod Examples
 pub mod Standing
 pub mod SameAnswers

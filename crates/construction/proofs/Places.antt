@@ -10,10 +10,13 @@ use Rattle.connectivity.specs.Lists.{In, NoDup}
 use Rattle.connectivity.proofs.Lists.{rev}
 use Rattle.construction.specs.Steps.{segment}
 
+pub at-in : {A : Type 0} (l : List A) (i : ℕ) (d : A) → i < length l → In (getD l i d) l
+at-in [] i d h = absurd (omega arith)
+at-in (a ∷ l) zero d h = inl refl
+at-in (a ∷ l) (suc i) d h = inr (at-in l i d (omega arith))
+
 pub place-in : (l : List ℕ) (i : ℕ) → i < length l → In (getD l i 0) l
-place-in [] i h = absurd (omega arith)
-place-in (a ∷ l) zero h = inl refl
-place-in (a ∷ l) (suc i) h = inr (place-in l i (omega arith))
+place-in l i h = at-in l i 0 h
 
 pub in-place : (w : ℕ) (l : List ℕ) → In w l → (i : ℕ) × (i < length l) × (getD l i 0 ≡ w)
 in-place w [] m = absurd m

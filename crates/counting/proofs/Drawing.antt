@@ -2,31 +2,30 @@
 use Prim.Native.Nat.{ℕ, zero, suc, _+_, _-_, _*_, _/_, _%_, _^_, _≤_, _<_}
 use mathlib.Core.List.{List, [], _∷_, _++_, map}
 use mathlib.Core.Path.{_≡_, refl, sym, ap, subst, _∙_}
-use mathlib.Core.Bool.{Bool, true, false}
 use native.Mathlib.Omega.{arith}
-use lib.Dec.{ltb, lit<}
-use lib.ListN.{length, getD, length-append, length-map, List·getD-append}
+use lib.Dec.{lit<}
+use lib.ListN.{length, getD, List·getD-append}
 use lib.Seq.{getD-append-add}
 use borrow.Author.Tests.{lt-ltb}
 use Rattle.record.specs.Read.{folded}
 use Rattle.vertexset.specs.Set.{capacity}
 use Rattle.graph.specs.Rows.{joined, joinedRows}
 use Rattle.connectivity.specs.Lists.{upFrom}
-use Rattle.counting.specs.Counts.{withLower, pairsAmong, pairsOf, setsOf, leastSize, mostSize}
-use Rattle.counting.proofs.Sets.{sets-count}
+use Rattle.counting.specs.Counts.{withLower, pairsAmong, pairsOf, setsOf, minSize, maxSize}
+use Rattle.counting.proofs.Sets.{sets-twice, sets-count}
 
 -- what holds at each of the three sizes holds at all
-pub at-size : (P : ℕ → Type 0) (n : ℕ) → leastSize ≤ n → n ≤ mostSize → P 4 → P 5 → P 6 → P n
-at-size P n a b p q r = go (n - leastSize) (omega arith)
+pub at-size : (P : ℕ → Type 0) (n : ℕ) → minSize ≤ n → n ≤ maxSize → P 4 → P 5 → P 6 → P n
+at-size P n a b p q r = go (n - minSize) (omega arith)
   where
-    go : (k : ℕ) → n ≡ leastSize + k → P n
+    go : (k : ℕ) → n ≡ minSize + k → P n
     go zero e = subst P (sym e) p
     go (suc zero) e = subst P (sym e) q
     go (suc (suc zero)) e = subst P (sym e) r
     go (suc (suc (suc k))) e = absurd (omega arith)
 
 -- so the products and powers of a size are known
-module _ (n : ℕ) (least : leastSize ≤ n) (most : n ≤ mostSize) where
+module _ (n : ℕ) (least : minSize ≤ n) (most : n ≤ maxSize) where
   pub pairs-twice-low : n * (n - 1) < 2 ^ 16
   pairs-twice-low = at-size (λ k. k * (k - 1) < 2 ^ 16) n least most (lit< tt) (lit< tt) (lit< tt)
 
@@ -46,7 +45,7 @@ unfoldable pub pairsFrom : ℕ → ℕ → ℕ → List (ℕ × ℕ)
 pairsFrom n u v = withLower u (upFrom v (n - v)) ++ pairsAmong (upFrom (suc u) (n - suc u))
 
 -- all pairs from (0, 1) on
-pub pairs-start : (n : ℕ) → leastSize ≤ n → pairsFrom n 0 1 ≡ pairsOf n
+pub pairs-start : (n : ℕ) → minSize ≤ n → pairsFrom n 0 1 ≡ pairsOf n
 unfolding pairsFrom pairsAmong
 pairs-start zero h = absurd (omega arith)
 pairs-start (suc m) h = let e : suc m - 1 ≡ m = omega arith in ap (λ (k : ℕ). withLower 0 (upFrom 1 k) ++ pairsAmong (upFrom 1 k)) e
@@ -97,10 +96,6 @@ at-map f (x ∷ l) zero a b h = refl
 at-map f (x ∷ l) (suc i) a b h = at-map f l i a b (omega arith)
 
 module _ (e : ℕ × ℕ) (es : List (ℕ × ℕ)) where
-  pub sets-twice : length (setsOf (e ∷ es)) ≡ length (setsOf es) + length (setsOf es)
-  unfolding setsOf
-  sets-twice = length-append (setsOf es) (map (λ s. e ∷ s) (setsOf es)) ∙ ap (λ (k : ℕ). length (setsOf es) + k) (length-map (setsOf es) (λ s. e ∷ s))
-
   pub set-without : (i : ℕ) → i < length (setsOf es) → getD (setsOf (e ∷ es)) i [] ≡ getD (setsOf es) i []
   unfolding setsOf
   set-without i h = List·getD-append (setsOf es) (map (λ s. e ∷ s) (setsOf es)) [] i h
@@ -109,7 +104,7 @@ module _ (e : ℕ × ℕ) (es : List (ℕ × ℕ)) where
   unfolding setsOf
   set-with i h l =
       let j : i ≡ length (setsOf es) + (i - length (setsOf es)) = omega arith in
-      let low : i - length (setsOf es) < length (setsOf es) = omega (arith, sets-twice) in
+      let low : i - length (setsOf es) < length (setsOf es) = omega (arith, sets-twice e es) in
       ap (λ (k : ℕ). getD (setsOf (e ∷ es)) k []) j ∙ getD-append-add (setsOf es) (map (λ s. e ∷ s) (setsOf es)) (i - length (setsOf es)) []
       ∙ at-map (λ s. e ∷ s) (setsOf es) (i - length (setsOf es)) [] [] low
 
@@ -122,7 +117,7 @@ pub record Drawing (n : ℕ) (done : List ℕ) (rows : List ℕ) (sets rest u v 
   pub within : u ≤ n
   pub beside : v ≤ n + 1
 
-module _ (n : ℕ) {rows : List ℕ} {sets number : ℕ} (least : leastSize ≤ n) (count : sets ≡ length (setsOf (pairsOf n))) (low : number < length (setsOf (pairsOf n))) where
+module _ (n : ℕ) {rows : List ℕ} {sets number : ℕ} (least : minSize ≤ n) (count : sets ≡ length (setsOf (pairsOf n))) (low : number < length (setsOf (pairsOf n))) where
   pub draw-start : Drawing n (folded joined rows (getD (setsOf (pairsOf n)) number [])) rows sets number 0 1
   draw-start =
       let s = pairs-start n least in
@@ -168,7 +163,7 @@ module _ {n : ℕ} {done rows : List ℕ} {sets rest u v : ℕ} (d : Drawing n d
       beside = omega arith;
     }
 
-    pub draw-with : u < n → n ≤ mostSize → sets / 2 ≤ rest → {rows′ : List ℕ} → rows′ ≡ joinedRows rows u v → Drawing n done rows′ (sets / 2) (rest - sets / 2) u (v + 1)
+    pub draw-with : u < n → n ≤ maxSize → sets / 2 ≤ rest → {rows′ : List ℕ} → rows′ ≡ joinedRows rows u v → Drawing n done rows′ (sets / 2) (rest - sets / 2) u (v + 1)
     unfolding folded
     draw-with k m l {rows′} r = record {
       count = halved;

@@ -3,5 +3,5 @@ pub mod Pairs
 pub mod Plans
 pub mod Tally
 pub mod Drawing
-pub mod Figures
+pub mod Grading
 pub mod Counting

@@ -87,9 +87,6 @@ pairs-proper n e h = let r = among-in 0 n e h in let l : e .1 < n = omega arith 
 pub low-pairs : (n : ℕ) (e : ℕ × ℕ) → (e .0 < e .1) × (e .1 < n) → In e (pairsOf n)
 low-pairs n e h = in-among 0 n e (omega arith) (h .0) (omega arith)
 
-pub proper-pairs : (n : ℕ) (e : ℕ × ℕ) → proper n e ≡ true → In e (pairsOf n)
-proper-pairs n e h = low-pairs n e (proper-true n e h)
-
 pub pairs-ascend : (n : ℕ) → AscendingEdges (pairsOf n)
 pairs-ascend n = among-ascends 0 n
 

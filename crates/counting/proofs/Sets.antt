@@ -1,6 +1,6 @@
 -- Every set of pairs is listed, and each once. Assumes nothing.
-use Prim.Native.Nat.{ℕ, _-_, _^_, _≤_, _<_}
-use mathlib.Core.Path.{_≡_, refl, ap}
+use Prim.Native.Nat.{ℕ, _+_, _-_, _^_, _≤_, _<_}
+use mathlib.Core.Path.{_≡_, refl, ap, _∙_}
 use mathlib.Core.Logic.{_⊎_, inl, inr, ⊎-elim, ⊎-map}
 use mathlib.Core.List.{List, [], _∷_, map}
 use native.Mathlib.Nat.{pow-suc, one-le-pow}
@@ -31,10 +31,14 @@ nodup-map f (a ∷ l) one nd = (first, nodup-map f l (λ b c h k. one b c (inr h
     first h = let r = in-map f (f a) l h in nd .0 (rw (one a (r .0) (inl refl) (inr (r .1)) (r .2)) (r .1))
 
 -- THERE ARE TWICE AS MANY SETS FOR EACH PAIR MORE.
+pub sets-twice : (e : ℕ × ℕ) (es : List (ℕ × ℕ)) → length (setsOf (e ∷ es)) ≡ length (setsOf es) + length (setsOf es)
+unfolding setsOf
+sets-twice e es = length-append (setsOf es) (map (λ s. e ∷ s) (setsOf es)) ∙ ap (λ (k : ℕ). length (setsOf es) + k) (length-map (setsOf es) (λ s. e ∷ s))
+
 pub sets-count : (ps : List (ℕ × ℕ)) → length (setsOf ps) ≡ 2 ^ length ps
 unfolding setsOf
 sets-count [] = refl
-sets-count (e ∷ es) = simp (length-append, length-map) (omega (arith, sets-count es, pow-suc 2 (length es)))
+sets-count (e ∷ es) = omega (arith, sets-twice e es, sets-count es, pow-suc 2 (length es))
 
 module _ (ps : List (ℕ × ℕ)) {sets : ℕ} (e : sets ≡ length (setsOf ps)) where
   pub sets-some : 1 ≤ sets

@@ -29,30 +29,30 @@ unfoldable pub setsOf : List (ℕ × ℕ) → List (List (ℕ × ℕ))
 setsOf [] = [] ∷ []
 setsOf (e ∷ es) = setsOf es ++ map (λ s. e ∷ s) (setsOf es)
 
--- ALL PLANS of n boxes without doubles: one for each set of pairs
 abbrev pub planWith : ℕ → List (ℕ × ℕ) → Plan
 planWith n es = record { n = n; edges = es }
 
+-- ALL PLANS of n boxes without doubles: one for each set of pairs
 abbrev pub plansOf : ℕ → List Plan
 plansOf n = map (planWith n) (setsOf (pairsOf n))
 
--- those of them with the figure k
-abbrev pub figureOf : Plan → ℕ
-figureOf p = connectivity (fromEdges (p .n) (p .edges))
+abbrev pub connectivityOf : Plan → ℕ
+connectivityOf p = connectivity (fromEdges (p .n) (p .edges))
 
-unfoldable pub withFigure : ℕ → List Plan → List Plan
-withFigure k [] = []
-withFigure k (p ∷ ps) = cond (eqb (figureOf p) k) (p ∷ withFigure k ps) (withFigure k ps)
+-- the plans of a list with the figure k
+unfoldable pub withConnectivity : ℕ → List Plan → List Plan
+withConnectivity k [] = []
+withConnectivity k (p ∷ ps) = cond (eqb (connectivityOf p) k) (p ∷ withConnectivity k ps) (withConnectivity k ps)
 
 -- "how many ways of cabling four, five or six numbered boxes give each grade"; no other size is counted
-abbrev pub leastSize : ℕ
-leastSize = 4
+abbrev pub minSize : ℕ
+minSize = 4
 
-abbrev pub mostSize : ℕ
-mostSize = 6
+abbrev pub maxSize : ℕ
+maxSize = 6
 
 unfoldable pub countOf : ℕ → ℕ → ℕ
-countOf n k = cond (leb leastSize n && leb n mostSize) (length (withFigure k (plansOf n))) 0
+countOf n k = cond (leb minSize n && leb n maxSize) (length (withConnectivity k (plansOf n))) 0
 
 -- the counts of a size, for grades 0 to 3
 abbrev pub countsOf : ℕ → Counts

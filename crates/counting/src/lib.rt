@@ -5,7 +5,7 @@ ghost use Prim.Native.Nat.{_≤_, _<_};
 ghost use lib.ListN.{length, getD};
 ghost use Rattle.record.specs.Read.{folded};
 ghost use Rattle.graph.specs.Rows.{joined};
-ghost use Rattle.counting.specs.Counts.{pairsOf, setsOf, planWith, figureOf, leastSize, mostSize, countOf, countsOf};
+ghost use Rattle.counting.specs.Counts.{pairsOf, setsOf, planWith, connectivityOf, minSize, maxSize, countOf, countsOf};
 use graph::GraphTable;
 
 // How many plans of a size have grade 0, 1, 2 and 3.
@@ -16,22 +16,22 @@ pub struct Counts {
 impl Counts {
     pub const GRADES: usize = 4;
 
-    pub const LEAST: u64 = 4;
+    pub const MIN_SIZE: u64 = 4;
 
-    pub const MOST: u64 = 6;
+    pub const MAX_SIZE: u64 = 6;
 }
 
 // How many sets of pairs there are.
 fn set_count(n: u16) -> u16
-    requires { ⌜ (leastSize ≤ n) × (n ≤ mostSize) ⌝ }
+    requires { ⌜ (minSize ≤ n) × (n ≤ maxSize) ⌝ }
     ensures { λ r. ⌜ r ≡ length (setsOf (pairsOf n)) ⌝ }
 {
     1u16 << (n * (n - 1) / 2)
 }
 
-// The set of pairs with a number is joined in the rows. The sets without the next pair come first, and there are as many as with it.
+// Joins the pairs of the set with this number. The sets without the next pair are the first half of those that are left, in the order of setsOf.
 fn draw(rows: &mut [u64; GraphTable::ROW_WORDS], n: u16, number: u16)
-    requires { ⌜ (leastSize ≤ n) × (n ≤ mostSize) × (number < length (setsOf (pairsOf n))) ⌝ }
+    requires { ⌜ (minSize ≤ n) × (n ≤ maxSize) × (number < length (setsOf (pairsOf n))) ⌝ }
     ensures { λ r. ⌜ now (rows .exit) ≡ folded joined (now (rows .entry)) (getD (setsOf (pairsOf n)) number []) ⌝ }
 {
     let mut sets = set_count(n);
@@ -56,39 +56,39 @@ fn draw(rows: &mut [u64; GraphTable::ROW_WORDS], n: u16, number: u16)
     }
 }
 
-// The figure of the plan with a number, by the certifier's own decision.
-fn figure(n: u16, number: u16) -> u16
-    requires { ⌜ (leastSize ≤ n) × (n ≤ mostSize) × (number < length (setsOf (pairsOf n))) ⌝ }
-    ensures { λ r. ⌜ r ≡ figureOf (planWith n (getD (setsOf (pairsOf n)) number [])) ⌝ }
+// The connectivity of the plan with this number, by the certifier's own decision.
+fn connectivity_of(n: u16, number: u16) -> u16
+    requires { ⌜ (minSize ≤ n) × (n ≤ maxSize) × (number < length (setsOf (pairsOf n))) ⌝ }
+    ensures { λ r. ⌜ r ≡ connectivityOf (planWith n (getD (setsOf (pairsOf n)) number [])) ⌝ }
 {
     let mut rows = [0u64; GraphTable::ROW_WORDS];
     draw(&mut rows, n, number);
-    certifier::grade(&rows, n)
+    certifier::kind(&rows, n)
 }
 
-// The counts of a size: each plan counts where its figure stands. Every size but four, five and six has none.
+// The counts of a size: each plan counts for its connectivity. Every size but four, five and six has counts of 0.
 pub fn count_all(size: u64) -> Counts
     ensures { λ r. ⌜ r ≡ countsOf size ⌝ }
 {
     let mut of = [0u16; Counts::GRADES];
-    if size < Counts::LEAST {
+    if size < Counts::MIN_SIZE {
         return Counts { of };
     }
-    if Counts::MOST < size {
+    if Counts::MAX_SIZE < size {
         return Counts { of };
     }
     let n = size as u16;
     let last = set_count(n) - 1;
     let mut number = 0u16;
     while number <= last {
-        let k = figure(n, number) as usize;
+        let k = connectivity_of(n, number) as usize;
         of[k] += 1;
         number += 1;
     }
     Counts { of }
 }
 
-// One of them; there is no grade above 3.
+// The count of one grade; no grade is above 3.
 pub fn count(size: u64, grade: u64) -> u64
     ensures { λ r. ⌜ r ≡ countOf size grade ⌝ }
 {

@@ -5,7 +5,7 @@ use mathlib.Core.Path.{_≡_, ap, subst}
 use native.Mathlib.Omega.{arith}
 use lib.ListN.{length, getD, length-append}
 use Rattle.counting.specs.declared.Counts.{Counts}
-use Rattle.counting.specs.Counts.{mostSize, countOf, countsOf}
+use Rattle.counting.specs.Counts.{maxSize, countOf, countsOf}
 use Rattle.counting.proofs.Counting.{count-most, one-count}
 use Rattle.lines.specs.Lines.{decimal, newline, longest}
 use Rattle.lines.proofs.Digits.{decimal-short}
@@ -24,7 +24,7 @@ counted-line n e = ap (lineOf n) e
 digits : (n k : ℕ) → length (decimal (countOf n k)) ≤ 5
 digits n k = decimal-short 4 (countOf n k) (omega (arith, count-most n k))
 
-pub line-short : (n : ℕ) → n ≤ mostSize → length (countLine n) ≤ longest
+pub line-short : (n : ℕ) → n ≤ maxSize → length (countLine n) ≤ longest
 unfolding countLine
 line-short n h =
     let a : length (decimal n) ≤ 1 = decimal-short 0 n (omega arith) in

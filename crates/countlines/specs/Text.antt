@@ -14,6 +14,6 @@ countLine n = decimal n ++ blank ++ decimal (countOf n 0) ++ blank ++ decimal (c
 unfoldable pub countText : List ℕ
 countText = countLine 4 ++ countLine 5 ++ countLine 6
 
--- a buffer that has room for the text
+-- the text has room in so many bytes
 abbrev pub textRoom : ℕ
 textRoom = 3 * longest

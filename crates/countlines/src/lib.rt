@@ -2,20 +2,19 @@
 ghost use mathlib.Core.Path.{_≡_};
 ghost use Prim.Native.Nat.{_≤_};
 ghost use lib.ListN.{length};
-ghost use Rattle.lines.specs.Lines.{placeAfter, written, longest};
-ghost use Rattle.counting.specs.Counts.{mostSize};
+ghost use Rattle.lines.specs.Lines.{placeAfter, written};
+ghost use Rattle.counting.specs.Counts.{maxSize};
 ghost use Rattle.countlines.specs.Text.{countLine, countText, textRoom};
 use counting::Counts;
 
 // The text has room in so many bytes.
 pub const ROOM: usize = 3 * lines::LONGEST;
 
-// The line of a size, by way of a line of its own: the buffer changes only where the whole line has room.
+// The line of a size, by way of a buffer of its own: the lent one changes only where the whole line has room.
 fn put_line(out: &mut [u8], at: usize, size: u64) -> usize
-    requires { ⌜ size ≤ mostSize ⌝ }
+    requires { ⌜ size ≤ maxSize ⌝ }
     ensures { λ r. ⌜ r ≡ placeAfter (now (out .entry)) at (countLine size) ⌝ }
     ensures { λ r. ⌜ now (out .exit) ≡ written (now (out .entry)) at (countLine size) ⌝ }
-    ensures { λ r. ⌜ length (countLine size) ≤ longest ⌝ }
 {
     let counts = counting::count_all(size);
     let of = counts.of;
@@ -36,8 +35,8 @@ pub fn text(out: &mut [u8]) -> usize
     ensures { λ r. ⌜ length countText ≤ textRoom ⌝ }
 {
     let mut all = [0u8; ROOM];
-    let a = put_line(&mut all, 0, Counts::LEAST);
-    let b = put_line(&mut all, a, Counts::LEAST + 1);
-    let end = put_line(&mut all, b, Counts::MOST);
+    let a = put_line(&mut all, 0, Counts::MIN_SIZE);
+    let b = put_line(&mut all, a, Counts::MIN_SIZE + 1);
+    let end = put_line(&mut all, b, Counts::MAX_SIZE);
     lines::put_bytes(out, 0, &all[..end])
 }

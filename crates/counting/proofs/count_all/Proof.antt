@@ -1,10 +1,9 @@
 -- `counting::count_all` meets its contract: what is counted and what is still to come are all plans of the size. Assumes nothing.
-use Prim.Native.Nat.{ℕ, _+_, _-_, _<_, _≤_}
-use mathlib.Core.Path.{_≡_}
+use Prim.Native.Nat.{_+_, _-_, _<_, _≤_}
 use native.Mathlib.Omega.{arith}
 use lib.ListN.{length, getD}
 use borrow.Author.Needs.{needs}
-use Rattle.counting.specs.Counts.{pairsOf, setsOf, leastSize, mostSize}
+use Rattle.counting.specs.Counts.{pairsOf, setsOf}
 use Rattle.counting.proofs.Sets.{sets-some, up-to-last}
 use Rattle.counting.proofs.Drawing.{sets-most}
 use Rattle.counting.proofs.Counting.{Counting, count-start, count-low, count-room, count-next, none-below, none-above, all-zero, all-counted}
@@ -12,7 +11,7 @@ use Rattle.counting.proofs.count_all.Statement.{statement}
 use Rattle.counting.proofs.count_all.Tie as tie
 use Rattle.counting.proofs.count_all.Reads as reads
 use Rattle.counting.proofs.count_all.Lts as lts
-use Rattle.counting.proofs.figure.Reads as figure-reads
+use Rattle.counting.proofs.connectivity_of.Reads as connectivity-of-reads
 use Rattle.counting.proofs.set_count.Reads as set-count-reads
 
 abbrev Inv-loop : tie.InvT-loop
@@ -39,14 +38,14 @@ sub-last c = sets-some _ (c .set-count .ensures)
 loop-holds : tie.Need-loop-holds Inv-loop μ-loop
 loop-holds c = count-start _
 
-figure-requires : tie.Need-figure-requires Inv-loop μ-loop
-figure-requires c κs =
+connectivity-of-requires : tie.Need-connectivity-of-requires Inv-loop μ-loop
+connectivity-of-requires c κs =
     let m = c .before .before in
     (m .before .before .if1 .left, m .before .if2 .left, up-to-last _ (m .set-count .ensures) (omega (arith, c .loop-test .taken)))
 
--- the place where the figure of the next plan is known
+-- the place where the connectivity of the next plan is known
 abbrev Known : Type 0
-Known = lts.After-figure (set-count-reads.Asked, set-count-reads.Learnt, figure-reads.Asked, figure-reads.Learnt) reads.Pre reads.Post Inv-loop μ-loop
+Known = lts.After-connectivity-of (set-count-reads.Asked, set-count-reads.Learnt, connectivity-of-reads.Asked, connectivity-of-reads.Learnt) reads.Pre reads.Post Inv-loop μ-loop
 
 number-low : (c : Known) → c .before .before .loop .number < length (setsOf (pairsOf (c .before .before .before .before .before .before .args .size)))
 number-low c = up-to-last _ (c .before .before .before .set-count .ensures) (omega (arith, c .before .loop-test .taken))
@@ -54,11 +53,11 @@ number-low c = up-to-last _ (c .before .before .before .set-count .ensures) (ome
 few : (c : Known) → length (setsOf (pairsOf (c .before .before .before .before .before .before .args .size))) ≤ 32768
 few c = let m = c .before .before .before in sets-most _ (m .before .before .if1 .left) (m .before .if2 .left)
 
-figure-low : (c : Known) → c .figure .result < 4
-figure-low c = count-low (c .before .before .loop .inv) (number-low c) (c .figure .ensures)
+figure-low : (c : Known) → c .connectivity-of .result < 4
+figure-low c = count-low (c .before .before .loop .inv) (number-low c) (c .connectivity-of .ensures)
 
-room : (c : Known) → getD (c .before .before .loop .of) (c .figure .result) 0 + 1 ≤ 32768
-room c = count-room (c .before .before .loop .inv) (number-low c) (c .figure .ensures) (few c)
+room : (c : Known) → getD (c .before .before .loop .of) (c .connectivity-of .result) 0 + 1 ≤ 32768
+room c = count-room (c .before .before .loop .inv) (number-low c) (c .connectivity-of .ensures) (few c)
 
 cast-k : tie.Need-cast-k Inv-loop μ-loop
 cast-k c = search needs
@@ -82,7 +81,7 @@ loop-less : tie.Need-loop-less Inv-loop μ-loop
 loop-less c = omega (arith, c .before .loop-test .taken)
 
 loop-again : tie.Need-loop-again Inv-loop μ-loop
-loop-again c = count-next (c .before .before .loop .inv) (number-low c) (c .figure .ensures)
+loop-again c = count-next (c .before .before .loop .inv) (number-low c) (c .connectivity-of .ensures)
 
 returns-3 : tie.Need-returns-3 Inv-loop μ-loop
 returns-3 c =
@@ -91,5 +90,5 @@ returns-3 c =
 
 pub count-all-spec : {M : Type 1} → statement M
 count-all-spec = tie.close (tie.spec
-    Inv-loop μ-loop returns returns-2 cast-n set-count-requires sub-last loop-holds figure-requires cast-k mul-of array-read-of add-of array-write-of add-number loop-less loop-again
+    Inv-loop μ-loop returns returns-2 cast-n set-count-requires sub-last loop-holds connectivity-of-requires cast-k mul-of array-read-of add-of array-write-of add-number loop-less loop-again
     returns-3)

@@ -1,5 +1,5 @@
 -- `counting::draw` meets its contract: the rows, with what is left of the set joined, stay the same. Assumes nothing.
-use Prim.Native.Nat.{ℕ, _+_, _-_, _*_}
+use Prim.Native.Nat.{_+_, _-_, _*_}
 use mathlib.Core.List.{[]}
 use native.Mathlib.Omega.{arith}
 use lib.ListN.{getD}
@@ -14,7 +14,7 @@ use Rattle.counting.proofs.draw.Tie as tie
 abbrev Inv-loop : tie.InvT-loop
 Inv-loop rows₀ n number sets₀ rest₀ u₀ v₀ rows sets rest u v = Drawing n (folded joined rows₀ (getD (setsOf (pairsOf n)) number [])) rows sets rest u v
 
--- a row of pairs counts more than the pairs of a row
+-- 8 is more than n - v can grow by
 abbrev μ-loop : tie.MeasureT-loop
 μ-loop rows₀ n number sets₀ rest₀ u₀ v₀ rows sets rest u v = (n - u) * 8 + (n - v)
 

@@ -1,10 +1,9 @@
 -- `countlines::put_line` meets its contract. Assumes nothing.
-use mathlib.Core.Path.{_≡_}
 use native.Mathlib.Omega.{arith}
 use lib.ListN.{replicate, getD}
 use borrow.Author.Needs.{needs}
 use Rattle.lines.specs.Lines.{decimal, newline}
-use Rattle.lines.proofs.Put.{Puts.none, Puts.more, Begins, more-both, lined}
+use Rattle.lines.proofs.Put.{Puts.none, Puts.more, Begins, more-both}
 use Rattle.countlines.specs.Text.{blank, countLine}
 use Rattle.countlines.proofs.Lines.{counted-line, line-short, count-fits, begins-as}
 use Rattle.countlines.proofs.put_line.Statement.{statement}
@@ -57,11 +56,7 @@ slice-aggregate-put-bytes-3 : tie.Need-slice-aggregate-put-bytes-3
 slice-aggregate-put-bytes-3 c = line (c .before) .long
 
 returns : tie.Need-returns
-returns c =
-    let r = c .before .before .before .before in
-    let s = r .before .before .before .before .before .before .before .before .before .before .before .before .before .before .before .before .before .before .before .before .before .before .before .before .before .before .before in
-    let a = s .args in
-    lined (a .out .now) (a .at) (countLine (a .size)) (rw (line r .front) at (c .before .before .put-bytes2 .ensures)) (line-short (a .size) (s .pre))
+returns c = rw (line (c .before .before .before .before) .front) at (c .before .before .put-bytes2 .ensures)
 
 pub put-line-spec : {M : Type 1} → statement M
 put-line-spec = tie.close (tie.spec

@@ -22,9 +22,9 @@ whole c =
     let l = c .before .before in
     let k = l .before .before .before in
     let j = k .before .before .before in
-    let p = more none (countLine 4) (j .put-line .ensures .0, j .put-line .ensures .1 .0) in
-    let q = more p (countLine 5) (k .put-line2 .ensures .0, k .put-line2 .ensures .1 .0) in
-    begins-as {buffer = replicate 144 0} refl text-short (more q (countLine 6) (l .put-line3 .ensures .0, l .put-line3 .ensures .1 .0))
+    let p = more none (countLine 4) (j .put-line .ensures) in
+    let q = more p (countLine 5) (k .put-line2 .ensures) in
+    begins-as {buffer = replicate 144 0} refl text-short (more q (countLine 6) (l .put-line3 .ensures))
 
 array-share-prefix-all : tie.Need-array-share-prefix-all
 array-share-prefix-all c = whole c .within
