@@ -2,7 +2,7 @@
 //   selftest vectors PROGRAM SESSIONS   recorded answers of the checking program and of sessions
 //   selftest known FILE                 known answers, a call a line
 //   selftest barns                      the cases that document 01 names, as request 1 leaves them, and some with doubles
-//   selftest counts                     the plans on 4, 5 and 6 vertices, counted by grade: as document 02 says
+//   selftest counts                     the plans on 4, 5 and 6 vertices, counted by grade: 4 and 5 as document 02 says, and each adds up
 //   selftest figures [7]                every plan on 4, 5 and 6 vertices (or 7): certify, check and connectivity agree
 //   selftest certify COUNT SEED         the same for plans of every family, certificates chosen at random
 //   selftest outcomes COUNT SEED        generated cases; every refusal, every grade and every kind of taking back must occur

@@ -22,7 +22,6 @@ use Rattle.certificates.proofs.Accepted.{kind-low}
 use Rattle.construction.specs.Certificate.{certificateNumbers}
 use Rattle.construction.proofs.CertificateLaws.{Constructed}
 use Rattle.construction.proofs.PlanCertificates.{plan-certified}
-use Rattle.construction.proofs.PlanLaws.{plan-drawn, plan-edges}
 use Rattle.search.proofs.Placed.{padded-at}
 use Rattle.detours.proofs.Filled.{Filled, filled-length, filled-take}
 use Rattle.certifier.specs.declared.Draft.{Draft}

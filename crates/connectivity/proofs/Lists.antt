@@ -275,7 +275,7 @@ pub all-false : (p : ℕ → Bool) (l : List ℕ) → all p l ≡ false → (a :
 all-false p [] e = absurd (clash refl e)
 all-false p (b ∷ l) e = ⊎-elim (λ k. (b, inl refl, k)) (λ k. let r = all-false p l k in (r .0, inr (r .1), r .2)) (and-false (p b) (all p l) e)
 
-pub select-in : (p : ℕ → Bool) (l : List ℕ) (w : ℕ) → In w (select p l) → In w l × (p w ≡ true)
+pub select-in : {A : Type 0} (p : A → Bool) (l : List A) (w : A) → In w (select p l) → In w l × (p w ≡ true)
 select-in p [] w h = absurd h
 select-in p (a ∷ l) w h = go (p a) refl h (λ k. let r = select-in p l w k in (inr (r .0), r .1))
   where
@@ -284,7 +284,7 @@ select-in p (a ∷ l) w h = go (p a) refl h (λ k. let r = select-in p l w k in 
     go true e (inr k) old = old k
     go false e k old = old k
 
-pub in-select : (p : ℕ → Bool) (l : List ℕ) (w : ℕ) → In w l → p w ≡ true → In w (select p l)
+pub in-select : {A : Type 0} (p : A → Bool) (l : List A) (w : A) → In w l → p w ≡ true → In w (select p l)
 in-select p [] w h e = h
 in-select p (a ∷ l) w (inl j) e = rw (ap p (sym j) ∙ e) (inl j)
 in-select p (a ∷ l) w (inr j) e = go (p a) (in-select p l w j e)
@@ -293,7 +293,7 @@ in-select p (a ∷ l) w (inr j) e = go (p a) (in-select p l w j e)
     go true k = inr k
     go false k = k
 
-pub select-nodup : (p : ℕ → Bool) (l : List ℕ) → NoDup l → NoDup (select p l)
+pub select-nodup : {A : Type 0} (p : A → Bool) (l : List A) → NoDup l → NoDup (select p l)
 select-nodup p [] nd = tt
 select-nodup p (a ∷ l) nd = go (p a) (select-nodup p l (nd .1))
   where

@@ -43,6 +43,7 @@ abbrev pub all : (ℕ → Bool) → List ℕ → Bool
 all p [] = true
 all p (a ∷ l) = p a && all p l
 
-abbrev pub select : (ℕ → Bool) → List ℕ → List ℕ
+-- those of a list that pass a test
+abbrev pub select : {A : Type 0} → (A → Bool) → List A → List A
 select p [] = []
 select p (a ∷ l) = cond (p a) (a ∷ select p l) (select p l)

@@ -88,9 +88,9 @@ module _ (n : ℕ) where
 
   pub no-grade : (k : ℕ) → 3 < k → countOf n k ≡ 0
   unfolding countOf
-  no-grade k h = ap (λ (l : List Plan). cond (leb minSize n && leb n maxSize) (length l) 0) (with-none k (plansOf n) h) ∙ both (leb minSize n && leb n maxSize)
+  no-grade k h = ap (λ (m : ℕ). cond (leb minSize n && leb n maxSize) m 0) (with-none k (plansOf n) h) ∙ both (leb minSize n && leb n maxSize)
     where
-      both : (b : Bool) → cond b (length {A = Plan} []) 0 ≡ 0
+      both : (b : Bool) → _≡_ {A = ℕ} (cond b 0 0) 0
       both true = refl
       both false = refl
 

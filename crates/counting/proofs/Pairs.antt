@@ -12,7 +12,6 @@ use Rattle.connectivity.specs.Lists.{In, upFrom}
 use Rattle.connectivity.proofs.Lists.{in-left, in-right, in-append, either}
 use Rattle.connectivity.proofs.Edges.{EdgeBefore, AscendingEdges, ascending-after}
 use Rattle.reading.specs.Plan.{proper}
-use Rattle.reading.proofs.EdgeTests.{proper-true}
 use Rattle.reading.proofs.Doubles.{ascends-on}
 use Rattle.counting.specs.Counts.{withLower, pairsAmong, pairsOf}
 use Rattle.counting.proofs.Sets.{ascends-cons}

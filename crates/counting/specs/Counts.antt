@@ -4,7 +4,7 @@ use mathlib.Core.List.{List, [], _∷_, _++_, map}
 use mathlib.Core.Bool.{cond, _&&_}
 use lib.Dec.{leb, eqb}
 use lib.ListN.{length}
-use Rattle.connectivity.specs.Lists.{below}
+use Rattle.connectivity.specs.Lists.{below, select}
 use Rattle.connectivity.specs.Graph.{fromEdges}
 use Rattle.connectivity.specs.Connectivity.{connectivity}
 use Rattle.reading.specs.Plan.{Plan}
@@ -41,8 +41,7 @@ connectivityOf p = connectivity (fromEdges (p .n) (p .edges))
 
 -- the plans of a list with the figure k
 unfoldable pub withConnectivity : ℕ → List Plan → List Plan
-withConnectivity k [] = []
-withConnectivity k (p ∷ ps) = cond (eqb (connectivityOf p) k) (p ∷ withConnectivity k ps) (withConnectivity k ps)
+withConnectivity k ps = select (λ p. eqb (connectivityOf p) k) ps
 
 -- "how many ways of cabling four, five or six numbered boxes give each grade"; no other size is counted
 abbrev pub minSize : ℕ
