@@ -7,6 +7,9 @@ mod families;
 #[path = "../second/generate.rs"]
 mod generate;
 mod hostile;
+mod mend;
+#[path = "../second/mend.rs"]
+mod mending;
 #[path = "../second/reference.rs"]
 mod reference;
 mod table;
@@ -25,9 +28,10 @@ fn main() {
     let words: Vec<String> = args().skip(1).collect();
     match words.first().map(String::as_str) {
         None => every_family(),
+        Some("mend") if words.len() == 1 => mend::rows(),
         Some("climb") => climb::climb(number(words.get(1), SEED), number(words.get(2), climb::STEPS)),
         Some("plan") if words.len() == 2 => one_plan(&words[1]),
-        _ => timing::demand(false, "the arguments are none, climb [SEED] [STEPS], or plan FILE"),
+        _ => timing::demand(false, "the arguments are none, mend, climb [SEED] [STEPS], or plan FILE"),
     }
 }
 
@@ -50,6 +54,7 @@ fn every_family() {
     rows("hostile, few edges", &SIZES, |n| hostile::case(n, hostile::least_edges(n), random));
     table::lengths(&largest);
     counts::counts();
+    mend::rows();
 }
 
 /// The family's name and its cases of the last size.

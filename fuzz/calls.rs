@@ -1,14 +1,23 @@
 //! One input, one call of the library, compared with the second implementation: the answer, and every byte of the buffer. `certify` is
-//! called with the largest buffer, with the one that the input asks for, and without any, for the length.
-//! The first byte of an input says which call it is and how much room its buffer has; the others are the call's records.
+//! called with the largest buffer, with the one that the input asks for, and without any, for the length. Around each buffer that
+//! `mend` is lent there are bytes that it may not touch.
+//! The first byte of an input says which call it is, the second how much room its buffers have; the others are the call's records.
 use crate::reference::{self, Answer};
 use fikzarn::End;
 
-pub const CALLS: [&str; 4] = ["plan", "check", "certify", "session"];
+#[path = "../second/mend.rs"]
+mod mend;
 
-/// The first byte for a call with one of 64 rooms.
-pub fn first_byte(call: usize, room: usize) -> u8 {
-    (call + 4 * room) as u8
+pub const CALLS: [&str; 5] = ["plan", "check", "certify", "session", "mend"];
+/// How many rooms there are.
+const ROOMS: usize = 64;
+/// How many bytes stand before the records.
+pub const HEAD: usize = 2;
+
+/// The bytes before the records of a call. The room's lowest six bits count as one of the rooms, the others change only what buffers
+/// are filled with.
+pub fn head(call: usize, room: usize) -> [u8; HEAD] {
+    [call as u8, room as u8]
 }
 
 /// Which call it was, whether its plan is accepted and has doubles, the answers that both gave, and those of them to taking back.
@@ -21,17 +30,18 @@ pub struct Compared {
 
 /// One call, or how the two differ.
 pub fn compare(input: &[u8]) -> Result<Compared, String> {
-    let (&first, bytes) = input.split_first().unwrap_or((&0, &[]));
-    let (call, room) = (first as usize % 4, first as usize / 4);
+    let (&[first, second], bytes) = input.split_first_chunk::<HEAD>().unwrap_or((&[0; HEAD], &[]));
+    let (call, room, fill) = (first as usize % CALLS.len(), second as usize % ROOMS, first ^ second);
     let mut backs = Vec::new();
     let (answers, doubles) = match call {
-        0 => (vec![plan(bytes, room, first)?], has_doubles(bytes)),
+        0 => (vec![plan(bytes, room, fill)?], has_doubles(bytes)),
         1 => {
             let (plan, certificate) = bytes.split_at(plan_end(bytes, room));
             (vec![check(plan, certificate)?], has_doubles(plan))
         }
-        2 => (certify(bytes, room, first)?, has_doubles(bytes)),
-        _ => (session(bytes, room, first, &mut backs)?, reference::next_part(&mut &*bytes).is_some_and(has_doubles)),
+        2 => (certify(bytes, room, fill)?, has_doubles(bytes)),
+        3 => (session(bytes, room, fill, &mut backs)?, reference::next_part(&mut &*bytes).is_some_and(has_doubles)),
+        _ => (vec![mended(bytes, room, fill)?], has_doubles(bytes)),
     };
     Ok(Compared { call, doubles, answers, backs })
 }
@@ -152,6 +162,66 @@ fn certified(bytes: &[u8], size: usize, fill: u8) -> (Made, Vec<u8>) {
     let mut out = vec![fill; size];
     let made = fikzarn::certify(bytes, &mut out).map(|made| (made.grade, made.certificate.len()));
     (made, out)
+}
+
+extern "C" {
+    fn fikzarn_mend(
+        plan: *const u8,
+        plan_len: usize,
+        list: *mut u8,
+        list_len: usize,
+        mended: *mut u8,
+        mended_len: usize,
+        certificate: *mut u8,
+        certificate_len: usize,
+    ) -> u64;
+}
+
+/// The whole word, and every byte in the three buffers and around them. The certificate is the one that `certify` writes for the mended
+/// plan, and the second implementation has to accept it.
+fn mended(bytes: &[u8], room: usize, fill: u8) -> Result<Answer, String> {
+    let made = mend::mend(bytes, |mended| {
+        let (made, out) = certified(mended, fikzarn::CERTIFICATE_ROOM, fill);
+        out[..made.map_or(0, |(_, length)| length)].to_vec()
+    });
+    if let Ok([_, mended, certificate]) = &made {
+        same("the mended plan's certificate", reference::check(mended, certificate), Answer::Grade(3))?;
+    }
+    let exact = made.as_ref().map_or([4; 3], |records| records.each_ref().map(Vec::len));
+    let rooms = [0, 1, 2].map(|i| mend_room(exact[i], room >> (2 * i) & 3, fill));
+    let due = mend::lent(rooms, &made);
+    let mut buffers = rooms.map(|room| guarded(&[], room, fill));
+    same("mend", mend_word(bytes, &mut buffers), mend::word(due))?;
+    for i in 0..3 {
+        let begin = due.map_or(&[][..], |records| &records[i]);
+        same("mend's buffer", &buffers[i], &guarded(begin, rooms[i], fill))?;
+    }
+    Ok(due.map_or_else(|(number, place)| Answer::PlanFault(number, place), |_| Answer::Grade(3)))
+}
+
+/// Shorter by one byte or by more; exact; longer by a few bytes; longer than any record.
+fn mend_room(exact: usize, choice: usize, fill: u8) -> usize {
+    match choice {
+        0 if fill < 128 => exact - 1,
+        0 => exact * (fill as usize - 128) / 128,
+        1 => exact,
+        2 => exact + 1 + fill as usize % 8,
+        _ => fikzarn::CERTIFICATE_ROOM + fill as usize,
+    }
+}
+
+const GUARD: usize = 16;
+
+/// A buffer that begins so, with other bytes before it and behind it.
+fn guarded(begin: &[u8], size: usize, fill: u8) -> Vec<u8> {
+    [&[!fill; GUARD], begin, &vec![fill; size - begin.len()], &[!fill; GUARD]].concat()
+}
+
+/// The archive's own word, with three lengths; each buffer lies between its guards.
+fn mend_word(plan: &[u8], buffers: &mut [Vec<u8>; 3]) -> u64 {
+    let lengths = buffers.each_ref().map(|buffer| buffer.len() - 2 * GUARD);
+    let [list, mended, certificate] = buffers.each_mut().map(|buffer| buffer[GUARD..].as_mut_ptr());
+    unsafe { fikzarn_mend(plan.as_ptr(), plan.len(), list, lengths[0], mended, lengths[1], certificate, lengths[2]) }
 }
 
 fn session(bytes: &[u8], room: usize, fill: u8, backs: &mut Vec<Answer>) -> Result<Vec<Answer>, String> {

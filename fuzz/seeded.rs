@@ -30,9 +30,9 @@ fn main() {
 }
 
 fn input(generator: &mut Generator, random: &mut Random) -> Vec<u8> {
-    let (call, room) = (random.below(calls::CALLS.len()), random.below(64));
+    let (call, room) = (random.below(calls::CALLS.len()), random.below(256));
     let records = match call {
-        0 | 2 => generator.plan_record(),
+        0 | 2 | 4 => generator.plan_record(),
         1 => {
             let (plan, certificate) = generator.case();
             [plan, certificate].concat()
@@ -41,13 +41,13 @@ fn input(generator: &mut Generator, random: &mut Random) -> Vec<u8> {
         _ if random.chance(4) => generator.entered().encode(usize::MAX),
         _ => generator.script().encode(usize::MAX),
     };
-    [vec![calls::first_byte(call, room)], records].concat()
+    [&calls::head(call, room)[..], &records].concat()
 }
 
 /// A few bytes set, put in, taken out, or cut off.
 fn damage(mut bytes: Vec<u8>, random: &mut Random) -> Vec<u8> {
     for _ in 0..random.within(1, 3) {
-        let at = random.within(1, bytes.len());
+        let at = random.within(calls::HEAD, bytes.len());
         let byte = match random.below(8) {
             0 => *random.pick(b"spbc"),
             1..=4 => random.below(8) as u8,
@@ -112,11 +112,12 @@ fn outcome(answer: Answer) -> (char, u8) {
 /// For each call, with doubles in the plan and without: what has to occur. A refused plan counts as one without.
 fn due() -> Vec<(usize, bool, (char, u8))> {
     let mut accepted = vec![(0, ('a', 0)), (2, ('p', 30)), (3, ('a', 0)), (3, ('g', 3)), (3, ('p', 29))];
+    accepted.extend([('g', 3), ('p', 30), ('p', 32)].map(|outcome| (4, outcome)));
     accepted.extend((0..4).flat_map(|grade| [1, 2].map(|call| (call, ('g', grade)))));
     accepted.extend([1, 2, 7, 8, 9].into_iter().chain(20..30).map(|number| (1, ('c', number))));
     accepted.extend([1, 2, 9, 20].into_iter().chain(24..29).chain([31]).map(|number| (3, ('c', number))));
     let both = |(call, outcome)| [false, true].map(|doubles| (call, doubles, outcome));
     let mut due: Vec<_> = accepted.into_iter().flat_map(both).collect();
-    due.extend((0..4).flat_map(|call| (1..8).map(move |number| (call, false, ('p', number)))));
+    due.extend((0..calls::CALLS.len()).flat_map(|call| (1..8).map(move |number| (call, false, ('p', number)))));
     due
 }

@@ -6,7 +6,7 @@ mod reference;
 
 use std::sync::atomic::{AtomicU64, Ordering};
 
-static MADE: [AtomicU64; 4] = [const { AtomicU64::new(0) }; 4];
+static MADE: [AtomicU64; calls::CALLS.len()] = [const { AtomicU64::new(0) }; calls::CALLS.len()];
 
 extern "C" {
     fn atexit(at_end: extern "C" fn()) -> i32;

@@ -4,12 +4,12 @@
  * the like, which C compilers call by themselves.
  *
  * For all bytes and all lengths each call ends, and does exactly what is said at it; that is proved. In turn the caller sees to this:
- *  - A pointer is not null, beside a length of 0 either, and as many bytes as its length says may be read there (at `out` also
- *    written) until the call returns. No length is above PTRDIFF_MAX.
- *  - The bytes at `out` are none of the bytes of another argument. Arguments that are only read may overlap.
+ *  - A pointer is not null, beside a length of 0 either, and as many bytes as its length says may be read there (in a buffer, where the
+ *    pointer is not to const, also written) until the call returns. No length is above PTRDIFF_MAX.
+ *  - The bytes of a buffer are none of the bytes of another argument. Arguments that are only read may overlap.
  *
  * The library has no state. A call keeps no pointer, takes no memory but stack (docs/LIMITS.md says how much) and writes nothing but
- * the bytes at `out`. Any number of threads may call at once, as long as the bytes at an `out` are used by one of them alone.
+ * the bytes of its buffers. Any number of threads may call at once, as long as the bytes of a buffer are used by one of them alone.
  */
 #ifndef FIKZARN_H
 #define FIKZARN_H
@@ -62,6 +62,26 @@ uint64_t fikzarn_certify(const uint8_t *plan, size_t plan_len, uint8_t *out, siz
  * is never 30. Writes nothing. */
 uint64_t fikzarn_certificate_length(const uint8_t *plan, size_t plan_len);
 
+/* No plan record is longer: a buffer of this many bytes has room for any plan, and for any list of fikzarn_mend. */
+#define FIKZARN_PLAN_ROOM 1028
+
+/* Which cables to lay so that a plan gets grade 3. Every two boxes with no cable between them are proposed; from the last of these
+ * pairs to the first, one is struck out where the grade is still 3 without it and those struck out before; what remains is the list.
+ * So with all of it the grade is 3, and with any one left out below 3. The list of a plan of grade 3 is empty.
+ * Three buffers are lent. `list` begins with the list, written like a plan record; `mended` with the record of the plan with its own
+ * cables, doubles too, and those of the list; `certificate` with the certificate that fikzarn_certify makes of that record. Every byte
+ * behind them keeps its value. The answer is grade 3, with the three lengths in the place: fikzarn_length reads them.
+ * Else the answer is a plan fault, and no byte changes: the plan's own; for an accepted plan 32 at 0 where plan and list together have
+ * more than 512 cables, each cable of a double counted; else 30 at 0 where a buffer is shorter than what would be written there. The
+ * same plan gets the same three records in all buffers that are as long as they or longer. */
+uint64_t fikzarn_mend(const uint8_t *plan, size_t plan_len, uint8_t *list, size_t list_len, uint8_t *mended, size_t mended_len,
+                      uint8_t *certificate, size_t certificate_len);
+
+/* Length number i, 0 to 2, in the answer of fikzarn_mend beside a grade: of the list, the mended plan, its certificate. */
+static inline size_t fikzarn_length(uint64_t word, unsigned i) {
+    return (size_t)(word >> (16 * (i + 1)) & 65535);
+}
+
 /* How the replay of a script ended. */
 enum {
     FIKZARN_REPLAYED = 0,      /* every call was made */
@@ -95,8 +115,8 @@ uint64_t fikzarn_count(uint64_t size, uint64_t grade);
 /* Which edition of the records this library reads, and its limits. Since edition 1 a cable of a plan may equal the one before it;
  * since edition 2 a buffer is refused, by 30, only where it is shorter than the certificate. Edition 3 reads and answers as
  * edition 2 does. Since edition 4 a script may have the call 'b', which was an unknown call before. Edition 5 reads and answers as
- * edition 4 does, and has fikzarn_count. */
-uint64_t fikzarn_edition(void);          /* 5 */
+ * edition 4 does, and has fikzarn_count; edition 6 the same, and has fikzarn_mend. */
+uint64_t fikzarn_edition(void);          /* 6 */
 uint64_t fikzarn_min_boxes(void);        /* 4 */
 uint64_t fikzarn_max_boxes(void);        /* 128 */
 uint64_t fikzarn_max_cables(void);       /* 512, each cable of a double counted */

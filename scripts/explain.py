@@ -30,8 +30,9 @@ REFUSALS = {
     27: "one link holds both ends",
     28: "a box is not in after the last ear, or is no branch box after the last path",
     29: "grade 3 needs at least two cabled pairs more than boxes",
-    30: "the buffer is shorter than this plan's certificate",
+    30: "a buffer is shorter than the record that is to be written there",
     31: "the session does not take this call now, or no path is there to take back",
+    32: "the plan's cables and those to lay are together more than 512",
 }
 
 OTHERS = {
@@ -90,7 +91,7 @@ class Plan:
 
 
 def at_number(code, place, record):
-    """What 1 to 9, 20 and 21 show; the others that need no more than the record show nothing."""
+    """What 1 to 9, 20, 21 and 32 show; the others that need no more than the record show nothing."""
     if code == 1:
         return f"the record has {place} bytes"
     if code == 2:
@@ -101,6 +102,8 @@ def at_number(code, place, record):
         return f"byte {place}: {record[place]}"
     if code in (30, 31):
         return ""
+    if code == 32:
+        return f"cables in the plan: {numbers(record, 0, 2)[0][1]}"
     return f"number at byte {place}: {number(record, place)[0]}"
 
 
@@ -179,7 +182,7 @@ def graded(line):
 
 
 def beside_records(line, record):
-    """A line of the checking program or of the plan program."""
+    """A line of the checking program or of the plan program, or a refusal by the maker or the mending program."""
     fault = taken_apart(line)
     if line == "input too long":
         return f"{line}: the program takes up to 4,096 bytes, and there are {len(record)}"
@@ -271,7 +274,7 @@ def attempt(line, explained, *given):
 
 
 def records(lines, record):
-    """The lines of the checking program or of the plan program, explained beside their input."""
+    """The lines of the checking program, of the plan program or of a refusal, explained beside their input."""
     return [attempt(line, beside_records, record) for line in lines]
 
 

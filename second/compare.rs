@@ -7,7 +7,10 @@
 //                                         records of any kind, in buffers that are shorter, as long and longer
 //   compare doubles COUNT SEED            plans with doubles beside the same plans with each double written once
 //   compare counts PROGRAM                plans by grade: all that the program prints, and the library's count of many sizes and grades
+//   compare mend COUNT SEED PROGRAM       plans to be mended, COUNT of them and COUNT plan records of any kind: the word and all three
+//                                         buffers, each shorter, as long and longer; and what the program prints
 //   compare known FILE PROGRAM            known answers, by the library and by the checking program
+//   compare calls FILE                    known answers of calls that write into several buffers
 // Exit status 1 on any difference, or where a refusal or a grade never occurred, with doubles in the plan or at all, or a kind of
 // taking back.
 #![allow(dead_code)]
@@ -17,6 +20,9 @@ mod doubles;
 mod generate;
 mod known;
 mod library;
+mod mend;
+mod mendable;
+mod mended;
 mod met;
 mod reference;
 
@@ -26,7 +32,7 @@ use reference::{Answer, End, Plan, Random};
 use std::collections::{BTreeMap, BTreeSet};
 use std::io::Write;
 use std::ops::RangeInclusive;
-use std::process::{exit, Command, Stdio};
+use std::process::{exit, Command, Output, Stdio};
 
 fn main() {
     let arguments: Vec<String> = std::env::args().skip(1).collect();
@@ -39,10 +45,12 @@ fn main() {
         ["certify", count, seed] => certify::certify(number(count), number(seed)),
         ["doubles", count, seed] => doubles::doubles(number(count), number(seed)),
         ["counts", program] => grade_counts(program),
+        ["mend", count, seed, program] => mended::mend(number(count), number(seed), program),
         ["known", file, program] => known_answers(file, program),
+        ["calls", file] => known_calls(file),
         _ => {
-            eprintln!("compare plans|certificates|certify|doubles COUNT SEED, sessions COUNT SEED PROGRAM, counts PROGRAM,");
-            eprintln!("known FILE PROGRAM");
+            eprintln!("compare plans|certificates|certify|doubles COUNT SEED, sessions|mend COUNT SEED PROGRAM, counts PROGRAM,");
+            eprintln!("known FILE PROGRAM, calls FILE");
             false
         }
     };
@@ -312,11 +320,16 @@ fn replayed(script: &[u8], answers: &[(Answer, Option<usize>)], end: End, size: 
 
 /// What the program prints for an input.
 fn output(program: &str, input: &[u8]) -> String {
-    let mut child = Command::new(program).stdin(Stdio::piped()).stdout(Stdio::piped()).spawn().expect("the program");
+    String::from_utf8_lossy(&run(program, input).stdout).into_owned()
+}
+
+/// How the program ends for an input, with all that it prints.
+fn run(program: &str, input: &[u8]) -> Output {
+    let piped = || Stdio::piped();
+    let mut child = Command::new(program).stdin(piped()).stdout(piped()).stderr(piped()).spawn().expect("the program");
     // A program may end before it has read everything; then what it printed tells.
     let _ = child.stdin.take().expect("a pipe").write_all(input);
-    let output = child.wait_with_output().expect("its output");
-    String::from_utf8_lossy(&output.stdout).into_owned()
+    child.wait_with_output().expect("its output")
 }
 
 // ---------------------------------------------------------------- counts
@@ -379,6 +392,11 @@ fn known_answers(file: &str, program: &str) -> bool {
         ("program", [input]) => output(program, input).trim_end_matches('\n').to_string(),
         _ => "no such call".to_string(),
     })
+}
+
+fn known_calls(file: &str) -> bool {
+    let mut random = Random::new(1);
+    known::compare_calls(file, |call| mended::known(call, &mut random))
 }
 
 /// An accepted record is written again byte for byte.

@@ -9,6 +9,16 @@ mod foreign {
         pub fn fikzarn_certificate_length(plan: *const u8, plan_len: usize) -> u64;
         pub fn fikzarn_session(script: *const u8, script_len: usize, out: *mut u8, out_len: usize) -> u64;
         pub fn fikzarn_count(size: u64, grade: u64) -> u64;
+        pub fn fikzarn_mend(
+            plan: *const u8,
+            plan_len: usize,
+            list: *mut u8,
+            list_len: usize,
+            mended: *mut u8,
+            mended_len: usize,
+            certificate: *mut u8,
+            certificate_len: usize,
+        ) -> u64;
     }
 }
 
@@ -48,6 +58,22 @@ pub fn session(script: &[u8], out: &mut [u8]) -> (u64, usize) {
 /// How many plans of that size have that grade: a number, no answer's word.
 pub fn count(size: u64, grade: u64) -> u64 {
     unsafe { foreign::fikzarn_count(size, grade) }
+}
+
+/// Writes the list, the mended plan and its certificate, each into its buffer: the whole word, which has three lengths.
+pub fn mend(plan: &[u8], [list, mended, certificate]: [&mut [u8]; 3]) -> u64 {
+    unsafe {
+        foreign::fikzarn_mend(
+            plan.as_ptr(),
+            plan.len(),
+            list.as_mut_ptr(),
+            list.len(),
+            mended.as_mut_ptr(),
+            mended.len(),
+            certificate.as_mut_ptr(),
+            certificate.len(),
+        )
+    }
 }
 
 /// The word for an answer: case + 256 * number + 65536 * place.

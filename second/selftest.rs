@@ -1,19 +1,24 @@
 // Tries the second implementation: recorded answers, figures for small plans, generated cases.
 //   selftest vectors PROGRAM SESSIONS   recorded answers of the checking program and of sessions
 //   selftest known FILE                 known answers, a call a line
+//   selftest calls FILE                 known answers of calls that write into several buffers
 //   selftest barns                      the cases that document 01 names, as request 1 leaves them, and some with doubles
 //   selftest counts                     the plans on 4, 5 and 6 vertices, counted by grade: 4 and 5 as document 02 says, and each adds up
 //   selftest figures [7]                every plan on 4, 5 and 6 vertices (or 7): certify, check and connectivity agree
+//   selftest mend COUNT SEED            the lists for every plan on 4, 5 and 6 vertices and for COUNT others: what request 6 says of them,
+//                                       and the same lists by removal, by routes and by low points
 //   selftest certify COUNT SEED         the same for plans of every family, certificates chosen at random
 //   selftest outcomes COUNT SEED        generated cases; every refusal, every grade and every kind of taking back must occur
 #![allow(dead_code)]
 mod counts;
 mod generate;
 mod known;
+mod mend;
+mod mendable;
 mod met;
 mod reference;
 
-use generate::{any_plan, Call, Generator, Script, FIGURES};
+use generate::{any_plan, every_plan, Call, Generator, Script, FIGURES};
 use known::bytes_of;
 use reference::*;
 use std::collections::{BTreeMap, BTreeSet};
@@ -26,14 +31,16 @@ fn main() {
     let right = match words[..] {
         ["vectors", program, sessions] => program_vectors(program) & session_vectors(sessions),
         ["known", file] => known::compare(file, known_answer),
+        ["calls", file] => known::compare_calls(file, known_call),
         ["barns"] => barns(),
         ["counts"] => grade_counts(),
         ["figures"] => figures(6),
         ["figures", "7"] => figures(7),
+        ["mend", count, seed] => mended_plans(number(count) as usize, number(seed)),
         ["certify", count, seed] => certify_all(number(count), number(seed)),
         ["outcomes", count, seed] => outcomes(number(count), number(seed)),
         _ => {
-            eprintln!("selftest vectors PROGRAM SESSIONS, known FILE, barns, counts, figures [7], or certify|outcomes COUNT SEED");
+            eprintln!("selftest vectors PROGRAM SESSIONS, known|calls FILE, barns, counts, figures [7], or certify|mend|outcomes COUNT SEED");
             false
         }
     };
@@ -147,6 +154,15 @@ fn known_session(script: &[u8]) -> String {
     words.join("; ")
 }
 
+fn known_call(call: &known::Call) -> Option<String> {
+    let ("fikzarn_mend", [record], &[list, mended, certificate]) = (call.function, &call.inputs[..], &call.rooms[..]) else {
+        return Some("no such call".to_string());
+    };
+    let made = mend::mend(record, |mended| certify(&read_plan(mended).expect("a plan")));
+    let answer = mend::lent([list, mended, certificate], &made);
+    call.wrong(mend::word(answer), answer.map_or([&[]; 3], |records| [0, 1, 2].map(|i| &records[i][..])))
+}
+
 fn told(answer: Answer) -> String {
     match answer {
         Answer::Accepted => "accepted".to_string(),
@@ -230,6 +246,92 @@ fn grade_counts() -> bool {
     }
     println!("{all} plans counted, {}", if right { "all agree" } else { "DIFFERENT" });
     right
+}
+
+// ---------------------------------------------------------------- mended plans
+
+/// Up to here the list is found by every way, above by one.
+const MOST_BY_EACH: usize = 16;
+
+fn mended_plans(count: usize, seed: u64) -> bool {
+    println!("seed {seed}");
+    let mut random = Random::new(seed);
+    let mut seen = Mends::default();
+    let mut right = (4..=6).flat_map(every_plan).all(|plan| seen.promised(&plan));
+    right = right && (0..count).all(|turn| seen.promised(&mendable::plan(turn, &mut random)));
+    let Mends { plans, grades, doubles, largest, longest, by_each, limits } = seen;
+    println!("{plans} plans, by grade {grades:?}, {doubles} with doubles, {largest} with 128 vertices; longest list {longest}");
+    println!("{by_each} lists found in three ways; with the list 511, 512 and 513 edges: {limits:?}");
+    println!("{}", if right { "all agree" } else { "DIFFERENT" });
+    right && doubles > 0 && largest > 0 && by_each > 0 && !grades.contains(&0) && !limits.contains(&0)
+}
+
+/// What the plans were.
+#[derive(Default)]
+struct Mends {
+    plans: u64,
+    grades: [u64; 4],
+    doubles: u64,
+    largest: u64,
+    longest: usize,
+    by_each: u64,
+    limits: [u64; 3],
+}
+
+impl Mends {
+    /// Whether all that request 6 says of the list holds for a plan.
+    fn promised(&mut self, plan: &Plan) -> bool {
+        let list = mend::list(plan);
+        let (grade, together) = (figure(plan), plan.edges.len() + list.len());
+        self.plans += 1;
+        self.grades[grade as usize] += 1;
+        self.doubles += (*plan != plan.simple()) as u64;
+        self.largest += (plan.n == MOST_VERTICES) as u64;
+        self.longest = self.longest.max(list.len());
+        (0..3).for_each(|i| self.limits[i] += (together == MOST_EDGES - 1 + i) as u64);
+        let mut right = as_promised(plan, &list, grade) && refused_rightly(plan, together);
+        if plan.n <= MOST_BY_EACH {
+            self.by_each += 1;
+            right &= [mend::by_removal, mend::by_routes, by_low_points].iter().all(|way| mend::list_by(plan, *way) == list);
+        }
+        if !right {
+            println!("DIFFERENT: {plan:?}: {list:?}");
+        }
+        right
+    }
+}
+
+fn figure(plan: &Plan) -> u8 {
+    if plan.n <= mend::MOST_BY_REMOVAL {
+        connectivity(plan)
+    } else {
+        connectivity_by_low_points(plan)
+    }
+}
+
+/// "What remains is listed in cable order. With all of it the figure is 3, and with any one left out it is below 3. A plan of grade 3
+/// gets an empty list, and a double never appears in it."
+fn as_promised(plan: &Plan, list: &[(usize, usize)], grade: u8) -> bool {
+    let without = |i: usize| mend::with(plan, &[&list[..i], &list[i + 1..]].concat());
+    list.windows(2).all(|pair| pair[0] < pair[1])
+        && list.iter().all(|&(a, b)| a < b && b < plan.n && !plan.adjacent(a, b))
+        && list.is_empty() == (grade == 3)
+        && figure(&mend::with(plan, list)) == 3
+        && (0..list.len()).all(|i| figure(&without(i)) < 3)
+}
+
+/// 32 exactly where plan and list have more than 512 edges together; else the mended plan is one.
+fn refused_rightly(plan: &Plan, together: usize) -> bool {
+    match mend::mend(&encode_plan(plan), |_| Vec::new()) {
+        Err(fault) => fault == (32, 0) && together > MOST_EDGES,
+        Ok([_, mended, _]) => read_plan(&mended).is_ok_and(|mended| mended.edges.len() == together),
+    }
+}
+
+/// The figure of the rows, once more from a list of edges.
+fn by_low_points(rows: &[u128], _: usize, _: usize) -> bool {
+    let below = |b: usize| (0..b).filter(move |a| rows[b] >> a & 1 == 1).map(move |a| (a, b));
+    connectivity_by_low_points(&Plan::new(rows.len(), (0..rows.len()).flat_map(below))) == 3
 }
 
 // ---------------------------------------------------------------- certify, check, connectivity

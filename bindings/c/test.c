@@ -45,15 +45,19 @@ static const uint8_t FIVE_HELD[] = {3, 0, 1, 2, 3, 3, 0, 4, 1, 2, 0, 2, 2, 0, 3,
 static const uint8_t FIVE_DOUBLED[] = {5, 20, 0, 1, 0, 1, 0, 2, 0, 2, 0, 3, 0, 3, 0, 4, 0, 4, 1, 2, 1, 2,
                                        1, 3, 1, 3, 1, 4, 1, 4, 2, 3, 2, 3, 2, 4, 2, 4, 3, 4, 3, 4};
 static const uint8_t TWICE[] = {4, 2, 0, 1, 0, 1};
+/* Four boxes in a row (D). */
+static const uint8_t ROW[] = {4, 3, 0, 1, 1, 2, 2, 3};
 /* A cable before its predecessor. */
 static const uint8_t UNSORTED[] = {4, 2, 0, 2, 0, 1};
 
 static void limits(void) {
-    IS(fikzarn_edition(), 5);
+    IS(fikzarn_edition(), 6);
     IS(fikzarn_min_boxes(), 4);
     IS(fikzarn_max_boxes(), 128);
     IS(fikzarn_max_cables(), 512);
     IS(fikzarn_certificate_room(), FIKZARN_CERTIFICATE_ROOM);
+    /* n and m have up to two bytes each, a box has one. */
+    IS(FIKZARN_PLAN_ROOM, 4 + 2 * fikzarn_max_cables());
 }
 
 static void checks(void) {
@@ -147,7 +151,7 @@ static void certificates(void) {
     certified(FOUR, sizeof FOUR, 3);
     certified(FIVE, sizeof FIVE, 3);
     certified(SQUARE, sizeof SQUARE, 2);
-    certified((const uint8_t[]){4, 3, 0, 1, 1, 2, 2, 3}, 8, 1);
+    certified(ROW, sizeof ROW, 1);
     certified(APART, sizeof APART, 0);
     certified(FOUR_DOUBLED, sizeof FOUR_DOUBLED, 3);
     certified(FIVE_DOUBLED, sizeof FIVE_DOUBLED, 3);
@@ -160,6 +164,123 @@ static void certificates(void) {
     IS(fikzarn_certify(UNSORTED, sizeof UNSORTED, out, 0), word(FIKZARN_PLAN_FAULT, 6, 4));
     IS(fikzarn_certify(UNSORTED, sizeof UNSORTED, out, sizeof out), word(FIKZARN_PLAN_FAULT, 6, 4));
     IS(kept(out, 0, sizeof out, 170), sizeof out);
+}
+
+typedef struct {
+    const uint8_t *bytes;
+    size_t length;
+} Record;
+
+#define RECORD(bytes) ((Record){bytes, sizeof bytes})
+
+/* What fikzarn_mend is lent: a buffer each for the list, the mended plan and its certificate. */
+enum { LENT = FIKZARN_CERTIFICATE_ROOM + 8 };
+static uint8_t buffers[3][LENT];
+static const size_t NONE[3], ROOM[] = {FIKZARN_PLAN_ROOM, FIKZARN_PLAN_ROOM, FIKZARN_CERTIFICATE_ROOM};
+
+/* Fills the buffers, and lends so many bytes of each. */
+static uint64_t mend(Record plan, const size_t lent[3]) {
+    for (int i = 0; i < 3; i++)
+        memset(buffers[i], 170 + i, LENT);
+    return fikzarn_mend(plan.bytes, plan.length, buffers[0], lent[0], buffers[1], lent[1], buffers[2], lent[2]);
+}
+
+/* Each buffer begins with its record, and is as it was filled behind it. */
+static void holds(const Record records[3]) {
+    for (int i = 0; i < 3; i++) {
+        IS((uint64_t)memcmp(buffers[i], records[i].bytes, records[i].length), 0);
+        IS(kept(buffers[i], records[i].length, LENT, (uint8_t)(170 + i)), LENT - records[i].length);
+    }
+}
+
+static void not_mended(Record plan, const size_t lent[3], uint64_t refusal) {
+    const Record nothing = {plan.bytes, 0};
+    IS(mend(plan, lent), refusal);
+    holds((const Record[]){nothing, nothing, nothing});
+}
+
+/* A plan fault or 32, which comes before 30. */
+static void refused(Record plan, unsigned number, size_t place) {
+    not_mended(plan, ROOM, word(FIKZARN_PLAN_FAULT, number, place));
+    not_mended(plan, NONE, word(FIKZARN_PLAN_FAULT, number, place));
+}
+
+/* A plan, with the list and the mended plan that are due. The certificate is the one that fikzarn_certify makes of the mended plan. */
+static void mends(Record plan, Record list, Record mended) {
+    uint8_t certificate[FIKZARN_CERTIFICATE_ROOM];
+    uint64_t made = fikzarn_certify(mended.bytes, mended.length, certificate, sizeof certificate);
+    const Record due[] = {list, mended, {certificate, (size_t)fikzarn_place(made)}};
+    const size_t exact[] = {list.length, mended.length, due[2].length};
+    uint64_t answer = mend(plan, ROOM);
+    holds(due);
+    IS(fikzarn_case(answer), FIKZARN_GRADE);
+    IS(fikzarn_number(answer), 3);
+    for (unsigned i = 0; i < 3; i++)
+        IS(fikzarn_length(answer, i), exact[i]);
+    IS(answer, word(FIKZARN_GRADE, 3, exact[0] + 65536 * (exact[1] + 65536 * (uint64_t)exact[2])));
+    IS(mend(plan, exact), answer);
+    holds(due);
+    IS(fikzarn_check(buffers[1], exact[1], buffers[2], exact[2]), word(FIKZARN_GRADE, 3, 0));
+    /* One buffer is a byte too short, or has none; the others have room. */
+    for (int i = 0; i < 6; i++) {
+        size_t lent[] = {LENT, LENT, LENT};
+        lent[i % 3] = i < 3 ? exact[i] - 1 : 0;
+        not_mended(plan, lent, word(FIKZARN_PLAN_FAULT, 30, 0));
+    }
+}
+
+/* Four boxes with the cable 0 1 so many times, and behind it `more`, which has `count` bytes. There are 128 cables or more, so their
+ * number has two bytes. */
+static Record repeated(uint8_t *bytes, size_t times, const uint8_t *more, size_t count) {
+    const size_t cables = times + count / 2;
+    const uint8_t head[] = {4, (uint8_t)(128 + cables % 128), (uint8_t)(cables / 128)};
+    memcpy(bytes, head, 3);
+    for (size_t i = 0; i < times; i++)
+        memcpy(bytes + 3 + 2 * i, FOUR + 2, 2);
+    memcpy(bytes + 3 + 2 * times, more, count);
+    return (Record){bytes, 3 + 2 * cables};
+}
+
+/* 512 cables with the list, and one more, by doubles. */
+static void as_many_as_may_be(Record list) {
+    uint8_t plan[FIKZARN_PLAN_ROOM], mended[FIKZARN_PLAN_ROOM];
+    mends(repeated(plan, 507, ROW + 4, 4), list, repeated(mended, 507, FOUR + 4, 10));
+    Record over = repeated(plan, 508, ROW + 4, 4);
+    refused(over, 32, 0);
+    /* With a byte behind it, the plan's own fault. */
+    plan[over.length] = 0;
+    refused((Record){plan, over.length + 1}, 7, over.length);
+}
+
+/* 128 boxes, each cabled to the next four: 512 cables, the longest record that there is, and grade 3. */
+static void longest(void) {
+    uint8_t plan[FIKZARN_PLAN_ROOM] = {128, 1, 128, 4};
+    const uint8_t none[] = {128, 1, 0};
+    size_t at = 4;
+    for (int lower = 0; lower < 128; lower++)
+        for (int higher = lower + 1; higher < 128; higher++)
+            if (higher - lower <= 4 || higher - lower >= 124) {
+                plan[at++] = (uint8_t)lower;
+                plan[at++] = (uint8_t)higher;
+            }
+    IS(at, FIKZARN_PLAN_ROOM);
+    mends(RECORD(plan), RECORD(none), RECORD(plan));
+}
+
+static void mending(void) {
+    const uint8_t none[] = {4, 0}, last[] = {4, 1, 2, 3}, three[] = {4, 3, 0, 2, 0, 3, 1, 3};
+    mends(RECORD(FOUR), RECORD(none), RECORD(FOUR));
+    mends(RECORD(SQUARE), RECORD(last), RECORD(FOUR));
+    mends(RECORD(ROW), RECORD(three), RECORD(FOUR));
+    mends(RECORD(APART), RECORD(FOUR), RECORD(FOUR));
+    /* Doubles stay, and come in no list. */
+    const uint8_t five[] = {4, 5, 0, 2, 0, 3, 1, 2, 1, 3, 2, 3}, seven[] = {4, 7, 0, 1, 0, 1, 0, 2, 0, 3, 1, 2, 1, 3, 2, 3};
+    mends(RECORD(TWICE), RECORD(five), RECORD(seven));
+    mends(RECORD(FOUR_DOUBLED), RECORD(none), RECORD(FOUR_DOUBLED));
+    longest();
+    as_many_as_may_be(RECORD(three));
+    refused(RECORD(UNSORTED), 6, 4);
+    refused((Record){FOUR, 0}, 1, 0);
 }
 
 static size_t part(uint8_t *script, size_t at, const uint8_t *bytes, size_t length) {
@@ -267,6 +388,7 @@ int main(void) {
     doubles();
     plans();
     certificates();
+    mending();
     sessions();
     taken_back();
     counts();

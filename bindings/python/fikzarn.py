@@ -56,6 +56,22 @@ class Length(NamedTuple):
     length: int
 
 
+class Mended(NamedTuple):
+    """An answer, and the three records that were written beside it; no bytes where none was. They are the cables to lay, written like a
+    plan record; the plan with its own cables, doubles too, and these; and its certificate."""
+
+    answer: Answer
+    list: bytes
+    mended: bytes
+    certificate: bytes
+
+    @property
+    def cables(self):
+        """The cables to lay, in order, each as its lower and its higher box."""
+        ends = _behind_number(_behind_number(self.list))
+        return [*zip(ends[::2], ends[1::2])]
+
+
 class End(enum.IntEnum):
     """How the replay of a script ended: every call was made; the script ends inside the next call; the next call is none of `s`,
     `p`, `b`, `c`; or it is whole, but there was no room for its answer."""
@@ -85,6 +101,7 @@ def _loaded():
     functions = {
         "plan check certify session": lent + lent,
         "certificate_length": lent,
+        "mend": 4 * lent,
         "count": [ctypes.c_uint64, ctypes.c_uint64],
         "edition min_boxes max_boxes max_cables certificate_room": [],
     }
@@ -149,6 +166,42 @@ def _graded(word):
     """Beside a grade the word's place is a certificate's length."""
     answer = _answer(word)
     return Length(answer._replace(place=0), answer.place) if answer.case == Case.GRADE else Length(answer, 0)
+
+
+# No plan record is longer: as many bytes have room for any plan, and for any list of `mend`.
+PLAN_ROOM = 1028
+
+
+def mend(plan, rooms=None):
+    """Which cables to lay so that a plan gets grade 3. Every two boxes with no cable between them are proposed; from the last of these
+    pairs to the first, one is struck out where the grade is still 3 without it and those struck out before; what remains is the list.
+    So with all of it the grade is 3, and with any one left out below 3. The list of a plan of grade 3 is empty.
+
+    `rooms` are three buffers in bytes, for the list, the mended plan and its certificate: by default as many as any plan needs. The
+    answer is grade 3, or a plan fault: the plan's own; 32 at 0 where plan and list together have more than 512 cables, each cable of a
+    double counted; or else 30 at 0 where a buffer is shorter than its record.
+
+    >>> made = mend([6, 7, 0, 1, 0, 2, 1, 2, 2, 3, 3, 4, 3, 5, 4, 5])
+    >>> made.cables
+    [(0, 5), (1, 4)]
+    >>> print(check(made.mended, made.certificate))
+    grade 3
+    """
+    plan = bytes(plan)
+    rooms = (PLAN_ROOM, PLAN_ROOM, certificate_room()) if rooms is None else rooms
+    buffers = [_buffer(room) for room in rooms]
+    word = _library.fikzarn_mend(plan, len(plan), *sum(zip(buffers, rooms), ()))
+    answer = _answer(word)
+    if answer.case != Case.GRADE:
+        return Mended(answer, b"", b"", b"")
+    # Beside a grade the word's place is three lengths, of 16 bits each.
+    lengths = (word >> 16 & 65535, word >> 32 & 65535, word >> 48)
+    return Mended(answer._replace(place=0), *(out.raw[:length] for out, length in zip(buffers, lengths)))
+
+
+def _behind_number(record):
+    """What stands behind the first number of a record; it has two bytes from 128 on."""
+    return record[2 if record[:1] >= b"\x80" else 1 :]
 
 
 def session(script, room=None):

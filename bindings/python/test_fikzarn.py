@@ -1,6 +1,8 @@
 """Tests every call of fikzarn.py, and the example at its top. tests/bindings runs it beside a shared object."""
+import ctypes
 import doctest
 import unittest
+from unittest import mock
 
 import fikzarn
 from fikzarn import Answer, Case, End
@@ -18,6 +20,12 @@ ACCEPTED = Answer(Case.ACCEPTED, 0, 0)
 RING = bytes([128, 1, 128, 1, 0, 1, 0, 127]) + b"".join(bytes([box, box + 1]) for box in range(1, 127))
 NO_ROOM = Answer(Case.PLAN_FAULT, 30, 0)
 SMALLER = {2: [4, 5, 0, 1, 0, 2, 0, 3, 1, 2, 1, 3], 1: [4, 3, 0, 1, 1, 2, 2, 3], 0: [4, 0]}
+# Four boxes, each cabled to every other; and what four boxes in a row lack of it.
+FOUR = bytes([4, 6, 0, 1, 0, 2, 0, 3, 1, 2, 1, 3, 2, 3])
+ACROSS = bytes([4, 3, 0, 2, 0, 3, 1, 3])
+# 128 boxes, each cabled to the next four: 512 cables, the longest record that there is, and grade 3.
+NEAR = [(lower, higher) for lower in range(128) for higher in range(lower + 1, 128) if not 4 < higher - lower < 124]
+LONGEST = bytes([128, 1, 128, 4]) + b"".join(map(bytes, NEAR))
 
 
 def counted(part):
@@ -30,10 +38,18 @@ def script(plan=FIVE):
     return counted(plan) + b"s" + counted(FIVE_BUILD[1:24]) + b"c" + paths + b"c"
 
 
+def repeated(times, *others):
+    """Four boxes with the cable 0 1 so many times, and others behind it."""
+    cables = times + len(others) // 2
+    return bytes([4, 128 + cables % 128, cables // 128, *times * (0, 1), *others])
+
+
 class Calls(unittest.TestCase):
     def test_limits(self):
         limits = [fikzarn.edition(), fikzarn.min_boxes(), fikzarn.max_boxes(), fikzarn.max_cables(), fikzarn.certificate_room()]
-        self.assertEqual(limits, [5, 4, 128, 512, 1536])
+        self.assertEqual(limits, [6, 4, 128, 512, 1536])
+        # n and m have up to two bytes each, a box has one.
+        self.assertEqual(fikzarn.PLAN_ROOM, 4 + 2 * fikzarn.max_cables())
 
     def test_check(self):
         self.assertEqual(fikzarn.check(FIVE, FIVE_BUILD), Answer(Case.GRADE, 3, 0))
@@ -77,6 +93,68 @@ class Calls(unittest.TestCase):
         self.assertEqual(fikzarn.certify(RING).record[3:6], bytes([1, 128, 1]))
         self.assertEqual(fikzarn.certificate_length(UNSORTED), (REFUSED, 0))
         self.assertEqual(fikzarn.certificate_length(b""), (Answer(Case.PLAN_FAULT, 1, 0), 0))
+
+    def mends(self, plan, listed, mended):
+        """With the list and the mended plan that are due. The certificate is the one that `certify` makes of the mended plan."""
+        certificate = fikzarn.certify(mended).record
+        made = fikzarn.mend(plan)
+        self.assertEqual(made, (Answer(Case.GRADE, 3, 0), listed, mended, certificate))
+        self.assertEqual(fikzarn.check(made.mended, made.certificate), made.answer)
+        exact = [len(listed), len(mended), len(certificate)]
+        self.assertEqual(fikzarn.mend(plan, rooms=exact), made)
+        self.assertEqual(fikzarn.mend(plan, rooms=3 * [4000]), made)
+        for i in range(3):
+            for room in (exact[i] - 1, 0):
+                rooms = 3 * [4000]
+                rooms[i] = room
+                self.assertEqual(fikzarn.mend(plan, rooms), (NO_ROOM, b"", b"", b""))
+
+    def test_mend(self):
+        self.mends(FOUR, bytes([4, 0]), FOUR)
+        self.mends(SMALLER[1], ACROSS, FOUR)
+        self.mends(SMALLER[0], FOUR, FOUR)
+        self.mends(LONGEST, bytes([128, 1, 0]), LONGEST)
+        # Doubles stay, and come in no list.
+        self.mends(TWICE, bytes([4, 5, *FOUR[4:]]), bytes([4, 7, 0, 1, *FOUR[2:]]))
+        self.mends(FIVE_DOUBLED, bytes([5, 0]), FIVE_DOUBLED)
+        # 512 cables with the list.
+        self.mends(repeated(507, 1, 2, 2, 3), ACROSS, repeated(507, *FOUR[4:]))
+
+    def test_cables(self):
+        self.assertEqual(fikzarn.mend(FOUR).cables, [])
+        self.assertEqual(fikzarn.mend(SMALLER[1]).cables, [(0, 2), (0, 3), (1, 3)])
+        self.assertEqual(fikzarn.mend(LONGEST).cables, [])
+        self.assertEqual(fikzarn.mend(UNSORTED).cables, [])
+        # More than 127, so that their number has two bytes.
+        made = fikzarn.mend([128, 1, 0])
+        high, low = divmod(len(made.cables), 128)
+        self.assertEqual(made.list, bytes([128, 1, 128 + low, high]) + b"".join(map(bytes, made.cables)))
+        self.assertEqual(made.list, made.mended)
+
+    def test_buffers(self):
+        """No byte changes behind what is written, nor behind what is lent, and none beside a refusal."""
+        lent = []
+
+        def guarded(room):
+            lent.append((ctypes.c_char * (room + 8))(*(room + 8) * [170]))
+            return lent[-1]
+
+        with mock.patch.object(fikzarn, "_buffer", guarded):
+            for plan in (SMALLER[1], TWICE, FIVE_DOUBLED, repeated(508, 1, 2, 2, 3), UNSORTED):
+                exact = [len(record) for record in fikzarn.mend(plan)[1:]]
+                for rooms in (exact, [room + 1 for room in exact], [*exact[:2], exact[2] // 2], [exact[0] // 2, *exact[1:]], 3 * [0]):
+                    lent.clear()
+                    records = fikzarn.mend(plan, rooms)[1:]
+                    for record, room, buffer in zip(records, rooms, lent):
+                        self.assertEqual(buffer.raw, record + bytes((room + 8 - len(record)) * [170]))
+
+    def test_not_mended(self):
+        """The plan's own faults come first, then 32, then 30."""
+        over = repeated(508, 1, 2, 2, 3)
+        refused = [(over, 32, 0), (over + b"\0", 7, len(over)), (UNSORTED, 6, 4), (b"", 1, 0)]
+        for plan, number, place in refused:
+            for rooms in (None, (0, 0, 0)):
+                self.assertEqual(fikzarn.mend(plan, rooms), (Answer(Case.PLAN_FAULT, number, place), b"", b"", b""))
 
     def test_session(self):
         early = Answer(Case.CERTIFICATE_FAULT, 31, 0)

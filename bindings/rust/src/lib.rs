@@ -28,6 +28,16 @@ mod foreign {
         pub fn fikzarn_certificate_length(plan: *const u8, plan_len: usize) -> u64;
         pub fn fikzarn_session(script: *const u8, script_len: usize, out: *mut u8, out_len: usize) -> u64;
         pub fn fikzarn_count(size: u64, grade: u64) -> u64;
+        pub fn fikzarn_mend(
+            plan: *const u8,
+            plan_len: usize,
+            list: *mut u8,
+            list_len: usize,
+            mended: *mut u8,
+            mended_len: usize,
+            certificate: *mut u8,
+            certificate_len: usize,
+        ) -> u64;
         pub fn fikzarn_edition() -> u64;
         pub fn fikzarn_min_boxes() -> u64;
         pub fn fikzarn_max_boxes() -> u64;
@@ -170,6 +180,78 @@ pub fn certificate_length(plan: &[u8]) -> Result<CertificateLength, Answer> {
     let word = unsafe { foreign::fikzarn_certificate_length(plan.as_ptr(), plan.len()) };
     match Answer::of(word) {
         Answer::Grade(grade) => Ok(CertificateLength { grade, length: (word >> 16) as usize }),
+        refused => Err(refused),
+    }
+}
+
+/// No plan record is longer: a buffer of this many bytes has room for any plan, and for any list of [`mend`].
+pub const PLAN_ROOM: usize = 1028;
+
+/// What [`mend`] made: three records, each the first bytes of its buffer.
+#[derive(Clone, Copy, Debug, PartialEq, Eq)]
+pub struct Mended<'a> {
+    /// The cables to lay, written like a plan record; [`cables`](Mended::cables) reads them.
+    pub list: &'a [u8],
+    /// The plan with its own cables, doubles too, and those of the list. Its grade is 3.
+    pub mended: &'a [u8],
+    /// The certificate that [`certify`] makes of the mended plan.
+    pub certificate: &'a [u8],
+}
+
+impl<'a> Mended<'a> {
+    /// The cables to lay, in order, each with its lower box first.
+    pub fn cables(&self) -> impl ExactSizeIterator<Item = (u8, u8)> + 'a {
+        // The number of boxes and that of cables stand before them. A box is one byte.
+        behind_number(behind_number(self.list)).chunks_exact(2).map(|ends| (ends[0], ends[1]))
+    }
+}
+
+fn behind_number(bytes: &[u8]) -> &[u8] {
+    match bytes {
+        [128..=255, _, rest @ ..] | [_, rest @ ..] => rest,
+        [] => &[],
+    }
+}
+
+/// Which cables to lay so that a plan gets grade 3. Every two boxes with no cable between them are proposed; from the last of these
+/// pairs to the first, one is struck out where the grade is still 3 without it and those struck out before; what remains is the list.
+/// So with all of it the grade is 3, and with any one left out below 3. The list of a plan of grade 3 is empty.
+///
+/// The bytes of a buffer behind its record keep their values. Refused, with no byte changed, where the plan is; or with 32 at 0 where
+/// plan and list together have more than 512 cables, each cable of a double counted; or else with 30 at 0 where a buffer is shorter
+/// than its record. The same plan gets the same records, however long the buffers are.
+///
+/// ```
+/// use fikzarn::{check, mend, Answer, CERTIFICATE_ROOM, PLAN_ROOM};
+///
+/// // Two barns with three boxes each, and one cable between them.
+/// let plan = [6, 7, 0, 1, 0, 2, 1, 2, 2, 3, 3, 4, 3, 5, 4, 5];
+/// let (mut list, mut mended, mut certificate) = ([0; PLAN_ROOM], [0; PLAN_ROOM], [0; CERTIFICATE_ROOM]);
+/// let made = mend(&plan, &mut list, &mut mended, &mut certificate)?;
+/// assert!(made.cables().eq([(0, 5), (1, 4)]));
+/// assert_eq!(made.list, [6, 2, 0, 5, 1, 4]);
+/// assert_eq!(made.mended, [6, 9, 0, 1, 0, 2, 0, 5, 1, 2, 1, 4, 2, 3, 3, 4, 3, 5, 4, 5]);
+/// assert_eq!(check(made.mended, made.certificate), Answer::Grade(3));
+/// // The list has six bytes.
+/// assert_eq!(mend(&plan, &mut list[..5], &mut mended, &mut certificate), Err(Answer::PlanFault(30, 0)));
+/// # Ok::<(), Answer>(())
+/// ```
+pub fn mend<'a>(plan: &[u8], list: &'a mut [u8], mended: &'a mut [u8], certificate: &'a mut [u8]) -> Result<Mended<'a>, Answer> {
+    let word = unsafe {
+        foreign::fikzarn_mend(
+            plan.as_ptr(),
+            plan.len(),
+            list.as_mut_ptr(),
+            list.len(),
+            mended.as_mut_ptr(),
+            mended.len(),
+            certificate.as_mut_ptr(),
+            certificate.len(),
+        )
+    };
+    let [first, second, third] = [16, 32, 48].map(|from| (word >> from & 65535) as usize);
+    match Answer::of(word) {
+        Answer::Grade(_) => Ok(Mended { list: &list[..first], mended: &mended[..second], certificate: &certificate[..third] }),
         refused => Err(refused),
     }
 }

@@ -27,8 +27,10 @@ fn script(plan: &[u8]) -> Vec<u8> {
 
 #[test]
 fn limits() {
-    assert_eq!((edition(), min_boxes(), max_boxes(), max_cables()), (5, 4, 128, 512));
+    assert_eq!((edition(), min_boxes(), max_boxes(), max_cables()), (6, 4, 128, 512));
     assert_eq!(certificate_room(), CERTIFICATE_ROOM as u64);
+    // n and m have up to two bytes each, a box has one.
+    assert_eq!(PLAN_ROOM as u64, 4 + 2 * max_cables());
 }
 
 #[test]
@@ -96,6 +98,90 @@ fn refused_plans() {
     assert_eq!(certify(&UNSORTED, &mut []), Err(Answer::PlanFault(6, 4)));
     assert_eq!(certify(&UNSORTED, &mut out), Err(Answer::PlanFault(6, 4)));
     assert_eq!(out, [170; CERTIFICATE_ROOM]);
+}
+
+/// Three buffers of so many bytes, each filled otherwise, and what the call made of them.
+fn lent(plan: &[u8], rooms: [usize; 3]) -> (Result<[Vec<u8>; 3], Answer>, [Vec<u8>; 3]) {
+    let [mut list, mut mended, mut certificate] = [0, 1, 2].map(|i| vec![170 + i as u8; rooms[i]]);
+    let made = mend(plan, &mut list, &mut mended, &mut certificate);
+    let made = made.map(|made| [made.list, made.mended, made.certificate].map(<[u8]>::to_vec));
+    (made, [list, mended, certificate])
+}
+
+fn not_mended(plan: &[u8], rooms: [usize; 3], number: u8, place: usize) {
+    let (made, buffers) = lent(plan, rooms);
+    assert_eq!(made, Err(Answer::PlanFault(number, place)));
+    assert_eq!(buffers, [0, 1, 2].map(|i| vec![170 + i as u8; rooms[i]]));
+}
+
+/// A plan, with the list and the mended plan that are due. The certificate is the one that `certify` makes of the mended plan.
+fn mends(plan: &[u8], list: &[u8], mended: &[u8]) {
+    let mut out = [0; CERTIFICATE_ROOM];
+    let certificate = certify(mended, &mut out).expect("a plan").certificate;
+    let (due, exact) = ([list, mended, certificate], [list.len(), mended.len(), certificate.len()]);
+    assert_eq!(check(mended, certificate), Answer::Grade(3));
+    for rooms in [exact, [PLAN_ROOM, PLAN_ROOM, CERTIFICATE_ROOM], [2000; 3]] {
+        let (made, buffers) = lent(plan, rooms);
+        assert_eq!(made, Ok(due.map(<[u8]>::to_vec)));
+        for (i, buffer) in buffers.iter().enumerate() {
+            assert!(buffer.starts_with(due[i]) && buffer[exact[i]..].iter().all(|&byte| byte == 170 + i as u8));
+        }
+    }
+    // One buffer is a byte too short, or has none; the others have room.
+    for (i, shorter) in (0..3).flat_map(|i| [(i, exact[i] - 1), (i, 0)]) {
+        let mut rooms = [2000; 3];
+        rooms[i] = shorter;
+        not_mended(plan, rooms, 30, 0);
+    }
+}
+
+/// Four boxes with the cable 0 1 so many times, and others behind it.
+fn repeated(times: usize, others: &[u8]) -> Vec<u8> {
+    let cables = times + others.len() / 2;
+    [&[4, (128 + cables % 128) as u8, (cables / 128) as u8], &[0, 1].repeat(times)[..], others].concat()
+}
+
+#[test]
+fn mended_plans() {
+    let (four, row, three) = ([4, 6, 0, 1, 0, 2, 0, 3, 1, 2, 1, 3, 2, 3], [4, 3, 0, 1, 1, 2, 2, 3], [4, 3, 0, 2, 0, 3, 1, 3]);
+    mends(&four, &[4, 0], &four);
+    mends(&row, &three, &four);
+    mends(&[4, 0], &four, &four);
+    // Doubles stay, and come in no list.
+    mends(&TWICE, &[4, 5, 0, 2, 0, 3, 1, 2, 1, 3, 2, 3], &[4, 7, 0, 1, 0, 1, 0, 2, 0, 3, 1, 2, 1, 3, 2, 3]);
+    mends(&five_doubled(), &[5, 0], &five_doubled());
+    // 512 cables with the list.
+    mends(&repeated(507, &row[4..]), &three, &repeated(507, &four[4..]));
+}
+
+/// 128 boxes, each cabled to the next four: 512 cables, the longest record that there is, and grade 3. Without a cable the list has more
+/// than 127, whose number has two bytes.
+#[test]
+fn most_boxes() {
+    let near = |lower: u8| (lower + 1..128).filter(move |higher| !(5..124).contains(&(higher - lower)));
+    let cables = (0..128).flat_map(|lower| near(lower).flat_map(move |higher| [lower, higher]));
+    let plan: Vec<u8> = [128, 1, 128, 4].into_iter().chain(cables).collect();
+    assert_eq!(plan.len(), PLAN_ROOM);
+    mends(&plan, &[128, 1, 0], &plan);
+    let (mut list, mut mended, mut certificate) = ([0; PLAN_ROOM], [0; PLAN_ROOM], [0; CERTIFICATE_ROOM]);
+    let made = mend(&[128, 1, 0], &mut list, &mut mended, &mut certificate).expect("a plan");
+    let cables: Vec<(u8, u8)> = made.cables().collect();
+    assert_eq!((made.list, made.list.len()), (made.mended, 4 + 2 * cables.len()));
+    assert_eq!(made.list[..4], [128, 1, (128 + cables.len() % 128) as u8, (cables.len() / 128) as u8]);
+    assert!(cables.iter().flat_map(|&(lower, higher)| [lower, higher]).eq(made.list[4..].iter().copied()));
+    assert_eq!(check(made.mended, made.certificate), Answer::Grade(3));
+}
+
+/// The plan's own faults come first, then 32, then 30.
+#[test]
+fn not_mended_plans() {
+    let over = repeated(508, &[1, 2, 2, 3]);
+    for rooms in [[0; 3], [PLAN_ROOM, PLAN_ROOM, CERTIFICATE_ROOM]] {
+        not_mended(&over, rooms, 32, 0);
+        not_mended(&[&over[..], &[0]].concat(), rooms, 7, over.len());
+        not_mended(&UNSORTED, rooms, 6, 4);
+        not_mended(&[], rooms, 1, 0);
+    }
 }
 
 #[test]

@@ -17,7 +17,7 @@ use Rattle.record.proofs.Write.{can-write, put-told, put-fails, few-bytes, over
 use Rattle.vertexset.specs.Set.{emptySet, has, next, capacity}
 use Rattle.vertexset.specs.declared.VertexSet.{VertexSet}
 use Rattle.connectivity.specs.Lists.{upFrom, select}
-use Rattle.connectivity.proofs.Lists.{length-below}
+use Rattle.connectivity.proofs.Lists.{length-below, select-short}
 use Rattle.construction.specs.Sets.{stop, single, members}
 use Rattle.construction.specs.Ears.{pathSpace}
 use Rattle.construction.specs.Certificate.{lengthened, pairsFrom, treeNumbers}
@@ -328,14 +328,6 @@ module _ (rows : List ℕ) (e : Ears) (k : ℕ) where
       go false false = omega (arith, lengthened-size (take (e .len) (e .flat)), length-take (e .len) (e .flat))
 
 -- ---- the numbers of a certificate
-
-select-short : (p : ℕ → Bool) (l : List ℕ) → length (select p l) ≤ length l
-select-short p [] = omega arith
-select-short p (a ∷ l) = go (p a) (select-short p l)
-  where
-    go : (b : Bool) → length (select p l) ≤ length l → length (cond b (a ∷ select p l) (select p l)) ≤ suc (length l)
-    go true h = omega arith
-    go false h = omega arith
 
 selected-short : (p : ℕ → Bool) (z : ℕ) → length (select p (upFrom 0 z)) ≤ z
 selected-short p z = omega (arith, select-short p (upFrom 0 z), length-below z)

@@ -12,8 +12,7 @@ use Rattle.record.specs.declared.Answer.the-variants.{Grade}
 use Rattle.certifier.specs.declared.Made.{Made}
 use Rattle.certifier.specs.Made.{certificateRoom, made, madeFrom, filledFrom}
 use Rattle.certifier.proofs.Room.{made-within}
-use Rattle.lines.specs.Lines.{tooLong, refusalLine, inputLimit, placeAfter, written}
-use Rattle.lines.proofs.Put.{Put, put-as}
+use Rattle.lines.specs.Lines.{tooLong, refusalLine, inputLimit}
 use Rattle.certifybytes.specs.Bytes.{room, zeros, madeBytes, certifyBytes}
 use Rattle.certifybytes.proofs.Lengths.{made-short}
 
@@ -44,8 +43,3 @@ module _ (s : List ℕ) where
 
     pub made-fits : Bytes s → (k : ℕ) → m .answer ≡ Grade k → length (s ++ take (m .length) out) ≤ room
     made-fits b k f = made-short s (take (m .length) out) k b (ap (λ (x : Made). x .answer) (sym (e .0)) ∙ f) (omega (arith, within, made-counts))
-
--- what is put has room
-pub put-short : (buffer : List ℕ) {xs ys : List ℕ} → xs ≡ ys → {next : ℕ} {out : List ℕ} → Put buffer 0 xs next out → length xs ≤ room
-    → (next ≡ placeAfter buffer 0 ys) × ((out ≡ written buffer 0 ys) × (length ys ≤ room))
-put-short buffer {xs} {ys} e p l = let q = put-as buffer 0 e p in (q .0, (q .1, omega (arith, l, ap length e)))

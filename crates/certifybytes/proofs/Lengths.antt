@@ -1,4 +1,4 @@
--- How long an accepted plan is, and all that is printed. Assumes nothing.
+-- How long all that is printed is. Assumes nothing.
 use Prim.Native.Nat.{ℕ, _+_, _*_, _≤_, _<_}
 use mathlib.Core.List.{List, [], _∷_, _++_}
 use mathlib.Core.Bool.{Bool, true, false, _&&_}
@@ -14,36 +14,10 @@ use Rattle.record.proofs.Write.{one-byte, few-bytes}
 use Rattle.reading.specs.Plan.{Plan, plan, proper, edgeBytes, planBytes, EdgeAllowed, Allowed}
 use Rattle.reading.specs.Code.{planRead}
 use Rattle.reading.proofs.Plans.{accepted}
+use Rattle.reading.proofs.Lengths.{plan-short}
 use Rattle.certifier.specs.Made.{certificateRoom, lengthBy, madeFrom}
 use Rattle.certifier.proofs.Room.{made-graded}
 use Rattle.certifybytes.specs.Bytes.{room, zeros}
-
-both-below : (a b n : ℕ) → ltb a b && ltb b n ≡ true → (a < n) × (b < n)
-both-below a b n = go (ltb a b) (ltb b n) refl refl
-  where
-    go : (x y : Bool) → ltb a b ≡ x → ltb b n ≡ y → x && y ≡ true → (a < n) × (b < n)
-    go true true e f h = let p = ltb-true a b e in let q = ltb-true b n f in (omega arith, q)
-    go true false e f h = let z : _≡_ {A = ℕ} 0 1 = cc in absurd (omega arith)
-    go false y e f h = let z : _≡_ {A = ℕ} 0 1 = cc in absurd (omega arith)
-
--- a vertex takes a byte
-edge-short : (e : ℕ × ℕ) (n : ℕ) → n ≤ 128 → proper n e ≡ true → length (edgeBytes e) ≡ 2
-edge-short e n h p =
-    let b = both-below (e .0) (e .1) n p in
-    rw (one-byte (e .0) (omega (arith, h, b .0)), one-byte (e .1) (omega (arith, h, b .1)))
-
-edges-short : (n : ℕ) → n ≤ 128 → (before : ℕ × ℕ) (l : List (ℕ × ℕ)) → Each (EdgeAllowed n) (λ (before e : ℕ × ℕ). e) before l → length (listBytes edgeBytes l) ≡ 2 * length l
-unfolding Each listBytes
-edges-short n h before [] x = refl
-edges-short n h before (e ∷ l) x =
-    omega (arith, length-append (edgeBytes e) (listBytes edgeBytes l), edge-short e n h (x .0 .0), edges-short n h e l (x .1))
-
-pub plan-short : (p : Plan) → Allowed p → length (planBytes p) ≤ 1028
-plan-short p a =
-    let e = edges-short (p .n) (a .most) (0, 0) (p .edges) (a .each) in
-    let l = length-append (numberBytes (p .n)) (numberBytes (length (p .edges)) ++ listBytes edgeBytes (p .edges)) in
-    let m = length-append (numberBytes (length (p .edges))) (listBytes edgeBytes (p .edges)) in
-    omega (arith, e, l, m, few-bytes (p .n), few-bytes (length (p .edges)), a .few)
 
 -- only an accepted plan gets a grade
 grade-accepted : (x : Read Plan) (k : ℕ) → lengthBy (planRead x .answer) (planRead x .plan .graph) .answer ≡ Grade k → planRead x .answer ≡ Accepted

@@ -1,18 +1,18 @@
 -- WHAT THE MAKER'S PROGRAM PRINTS, as a function of the bytes that it reads.
-use Prim.Native.Nat.{ℕ, _+_, _*_}
+use Prim.Native.Nat.{ℕ, _+_}
 use mathlib.Core.List.{List, _++_}
 use mathlib.Core.Bool.{cond}
 use lib.ListN.{length, take, replicate}
 use lib.Dec.{ltb}
 use Rattle.record.specs.declared.Answer.{Answer}
 use Rattle.record.specs.declared.Answer.the-variants.{Accepted, Grade, PlanFault, CertificateFault}
-use Rattle.graph.specs.Limits.{maxEdges}
+use Rattle.reading.specs.Code.{planRoom}
 use Rattle.certifier.specs.Made.{certificateRoom, madeFrom, filledFrom}
 use Rattle.lines.specs.Lines.{tooLong, refusalLine, inputLimit}
 
--- an accepted plan has two numbers of two bytes at most, and two vertices of a byte for each edge; its certificate stands behind it
+-- an accepted plan and its certificate
 abbrev pub room : ℕ
-room = 4 + 2 * maxEdges + certificateRoom
+room = planRoom + certificateRoom
 
 -- the plan and behind it the certificate; else the line of the refusal
 abbrev pub madeBytes : List ℕ → Answer → List ℕ → List ℕ

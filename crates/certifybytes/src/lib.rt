@@ -5,14 +5,11 @@ ghost use lib.ListN.{length};
 ghost use Rattle.lines.specs.Lines.{placeAfter, written};
 ghost use Rattle.certifybytes.specs.Bytes.{room, certifyBytes};
 use certifier::Made;
-use graph::GraphTable;
+use reading::PlanTable;
 use record::Answer;
 
-// An accepted plan has two numbers of two bytes at most, and two vertices of a byte for each edge.
-const PLAN_ROOM: usize = 4 + 2 * GraphTable::MAX_EDGES as usize;
-
 // room for all that is printed
-pub const ROOM: usize = PLAN_ROOM + Made::ROOM;
+pub const ROOM: usize = PlanTable::BYTES + Made::ROOM;
 
 // Writes the bytes at the start of the buffer and answers how many; where they have no room, nothing is written, and the answer is 0.
 // A buffer of ROOM bytes has room for them.

@@ -15,7 +15,7 @@ use Rattle.certifier.specs.Made.{lengthFrom}
 use Rattle.lines.specs.Lines.{digitsIn}
 use Rattle.counting.specs.Counts.{withLower, pairsAmong, pairsOf, setsOf, plansOf, connectivityOf, withConnectivity, countOf}
 use Rattle.counting.proofs.Sets.{in-map, map-in, nodup-map}
-use Rattle.counting.proofs.Pairs.{pairs-twice}
+use Rattle.reading.proofs.Pairs.{pairs-twice}
 use Rattle.counting.proofs.Plans.{listed-allowed, allowed-listed, plans-nodup, plans-count}
 use Rattle.counting.proofs.Tally.{with-in, in-with, with-nodup, with-sum}
 use Rattle.counting.proofs.Grading.{kind-connectivity, pairs-fit, size-allowed}

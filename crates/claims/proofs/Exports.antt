@@ -94,24 +94,21 @@ words-decode (CertificateFault r p) f = word-decoded 3 r p (omega arith) (f .0) 
 abbrev OneByte : List ℕ → Type 0
 OneByte ns = all (λ r. ltb r 256) ns ≡ true
 
-byte-number : (ns : List ℕ) → OneByte ns → (r : ℕ) → In r ns → r < 256
+pub byte-number : (ns : List ℕ) → OneByte ns → (r : ℕ) → In r ns → r < 256
 byte-number ns h r i = ltb-true r 256 (all-true (λ r. ltb r 256) ns h r i)
 
-listed-fits : (l : Answers) (m c : ℕ) → OneByte (l .grades) → OneByte (l .plan) → OneByte (l .certificate) → m < 2 ^ 48 → c < 2 ^ 48 → (a : Answer) → OneOf l m c a → Fits a
+pub listed-fits : (l : Answers) (m c : ℕ) → OneByte (l .grades) → OneByte (l .plan) → OneByte (l .certificate) → m < 2 ^ 48 → c < 2 ^ 48 → (a : Answer) → OneOf l m c a → Fits a
 listed-fits l m c g p f hm hc Accepted h = tt
 listed-fits l m c g p f hm hc (Grade k) h = byte-number (l .grades) g k h
 listed-fits l m c g p f hm hc (PlanFault r q) h = (byte-number (l .plan) p r (h .0), let z : q < 2 ^ 48 = omega arith in z)
 listed-fits l m c g p f hm hc (CertificateFault r q) h = (byte-number (l .certificate) f r (h .0), let z : q < 2 ^ 48 = omega arith in z)
 
--- the maker's word has a length in a grade's place
-made-decoded : (m : Made) → Fits (m .answer) → decoded (madeWord m) ≡ m .answer
-made-decoded m f = go (m .answer) f
-  where
-    go : (a : Answer) → Fits a → decoded (gradeWord a (m .length)) ≡ a
-    go Accepted h = words-decode Accepted h
-    go (Grade k) h = word-decoded 1 k (m .length) (omega arith) h
-    go (PlanFault r p) h = words-decode (PlanFault r p) h
-    go (CertificateFault r p) h = words-decode (CertificateFault r p) h
+-- a grade's word has a length in the place, or three
+pub grade-decoded : (place : ℕ) (a : Answer) → Fits a → decoded (gradeWord a place) ≡ a
+grade-decoded place Accepted h = words-decode Accepted h
+grade-decoded place (Grade k) h = word-decoded 1 k place (omega arith) h
+grade-decoded place (PlanFault r p) h = words-decode (PlanFault r p) h
+grade-decoded place (CertificateFault r p) h = words-decode (CertificateFault r p) h
 
 -- where it is a grade: no length is more than the room that is always enough
 made-length : (P : List ℕ) → Bytes P → (buffer : List ℕ) → madeFrom P buffer .length ≤ certificateRoom
@@ -335,12 +332,12 @@ words-are-answers = record {
   of-check = λ P C p c. let a = checkOf P C in
       words-decode a (listed-fits listed.checkingAnswers (length P) (length C) refl refl refl p c a (demand1-answers .checking P C));
   of-certify = λ P buffer bp p. let m = madeFrom P buffer in
-      made-decoded m (listed-fits listed.makingAnswers (length P) 0 refl refl refl p (omega arith) (m .answer) (demand1-answers .making P bp buffer));
+      grade-decoded (m .length) (m .answer) (listed-fits listed.makingAnswers (length P) 0 refl refl refl p (omega arith) (m .answer) (demand1-answers .making P bp buffer));
   length-of = λ P buffer bp k e.
       let g : In k (listed.makingAnswers .grades) = subst (λ (a : Answer). OneOf listed.makingAnswers (length P) 0 a) e (demand1-answers .making P bp buffer) in
       made-placed (madeFrom P buffer) k (byte-number (listed.makingAnswers .grades) refl k g) (omega (arith, made-length P bp buffer)) e;
   of-length = λ P bp p. let m = lengthFrom P in
-      made-decoded m (listed-fits listed.measuringAnswers (length P) 0 refl refl refl p (omega arith) (m .answer) (demand1-answers .measuring P bp));
+      grade-decoded (m .length) (m .answer) (listed-fits listed.measuringAnswers (length P) 0 refl refl refl p (omega arith) (m .answer) (demand1-answers .measuring P bp));
   length-asked = λ P bp k e.
       let g : In k (listed.measuringAnswers .grades) = subst (λ (a : Answer). OneOf listed.measuringAnswers (length P) 0 a) e (demand1-answers .measuring P bp) in
       made-placed (lengthFrom P) k (byte-number (listed.measuringAnswers .grades) refl k g) (omega (arith, length-most P bp)) e;

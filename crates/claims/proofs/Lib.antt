@@ -18,3 +18,5 @@ pub mod Decimal
 pub mod Printed
 pub mod Editions
 pub mod Doubles
+pub mod Mending
+pub mod MendWords

@@ -69,7 +69,7 @@ module _ (p : Plan) (a : Allowed p) where
   unfolding lengthBy tableOf
   length-at = rw (accepts p a)
 
-  record-at : recordFrom (planBytes p) ≡ certificateOf (graphOf p)
+  pub record-at : recordFrom (planBytes p) ≡ certificateOf (graphOf p)
   unfolding recordBy tableOf
   record-at = rw (accepts p a)
 

@@ -22,7 +22,7 @@ use Rattle.certifier.specs.Made.{certificateRoom, madeFrom}
 use Rattle.lines.specs.Lines.{inputLimit, decimal, newline, boxesText, cablesText, gradeText, tooLong, faultLine}
 use Rattle.gradeline.specs.Line.{gradedLine, gradeLine}
 use Rattle.certifybytes.specs.Bytes.{zeros, certifyBytes}
-use Rattle.certifybytes.proofs.Lengths.{plan-short}
+use Rattle.reading.proofs.Lengths.{plan-short}
 use Rattle.claims.specs.Printed.{GradePrinted}
 use Rattle.claims.specs.Demands.{PrintsGrade, GradePrints, RefusalsPrinted, CertifyPrints}
 use Rattle.claims.proofs.Checking.{answer-there, certified-sound}

@@ -14,6 +14,7 @@ use Rattle.record.specs.Read.{Bytes}
 use Rattle.record.specs.Number.{listBytes}
 use Rattle.record.specs.Write.{overwritten}
 use Rattle.record.specs.declared.Answer.{Answer}
+use Rattle.record.proofs.Lists.{bytes-cons, bytes-append}
 use Rattle.record.proofs.Write.{overwritten-none, overwritten-length, overwritten-more}
 use Rattle.sessions.specs.declared.Session.{Session}
 use Rattle.sessions.specs.Session.{opening, startStep, pathStep, backStep, closeStep}
@@ -145,14 +146,6 @@ calls-back (suc k) s at (close ∷ cs) h f =
     rw (c .inside, c .byte) (ap (λ (l : List Call). close ∷ l) (calls-back k s (at + 1) cs (h .1) (omega arith)))
 
 -- A SCRIPT is bytes
-bytes-cons : (b : ℕ) (l : List ℕ) → b < 256 → Bytes l → Bytes (b ∷ l)
-bytes-cons b l h f zero = h
-bytes-cons b l h f (suc i) = f i
-
-bytes-append : (l m : List ℕ) → Bytes l → Bytes m → Bytes (l ++ m)
-bytes-append [] m h f = f
-bytes-append (b ∷ l) m h f = bytes-cons b (l ++ m) (h 0) (bytes-append l m (λ i. h (suc i)) f)
-
 written-part : (part behind : List ℕ) → length part < 65536 → Bytes part → Bytes behind → Bytes (partBytes part ++ behind)
 written-part part behind h f g =
     bytes-cons (length part % 256) ((length part / 256) ∷ part ++ behind) (omega arith)

@@ -50,6 +50,10 @@ makingAnswers = answers false allGrades (7 ∷ 30 ∷ inPlan) []
 abbrev pub measuringAnswers : Answers
 measuringAnswers = answers false allGrades (7 ∷ inPlan) []
 
+-- mending
+abbrev pub mendingAnswers : Answers
+mendingAnswers = answers false (3 ∷ []) (7 ∷ 30 ∷ 32 ∷ inPlan) []
+
 -- the session's calls
 abbrev pub openingAnswers : Answers
 openingAnswers = answers true [] (7 ∷ 29 ∷ inPlan) []

@@ -12,3 +12,4 @@ pub mod Before
 pub mod Lengths
 pub mod Walks
 pub mod Doubles
+pub mod Mending

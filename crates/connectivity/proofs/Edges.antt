@@ -11,6 +11,7 @@ use lib.ListN.{length}
 use borrow.Author.Tests.{eqb-true, eq-eqb}
 use Rattle.connectivity.specs.Lists.{In, NoDup, select, below}
 use Rattle.connectivity.specs.Graph.{withHigher, Graph, edgesBelow, Adj, edges, Simple, isPair, listed, fromEdges, edgeCount}
+pub use Rattle.connectivity.specs.Graph.{EdgeBefore, AscendingEdges}
 use Rattle.connectivity.specs.Path.{Along, Path, IsPath, vertices, edge}
 use Rattle.connectivity.proofs.Lists.{in-append, select-in, in-below, in-right, either, in-left, in-select, below-in, nodup-append, select-nodup, nodup-below, and-true, clash, or-true, true-or, fewer}
 use Rattle.connectivity.proofs.Paths.{along-edge, edge-sorted, edge-comm}
@@ -114,21 +115,19 @@ pub record EdgeList (n : ℕ) (es : List (ℕ × ℕ)) : Type 0 where
   pub each : (e : ℕ × ℕ) → In e es → (e .0 < e .1) × (e .1 < n)
   pub once : NoDup es
 
--- Strictly ascending by lower end and then by higher.
-abbrev pub EdgeBefore : ℕ × ℕ → ℕ × ℕ → Type 0
-EdgeBefore e f = (e .0 < f .0) ⊎ ((e .0 ≡ f .0) × (e .1 < f .1))
-
-abbrev pub AscendingEdges : List (ℕ × ℕ) → Type 0
-AscendingEdges [] = Unit {0}
-AscendingEdges (e ∷ []) = Unit {0}
-AscendingEdges (e ∷ (f ∷ es)) = EdgeBefore e f × AscendingEdges (f ∷ es)
-
 -- A LIST THAT ASCENDS HAS NO EDGE TWICE.
 before-trans : (a b c : ℕ × ℕ) → EdgeBefore a b → EdgeBefore b c → EdgeBefore a c
 before-trans a b c (inl h) (inl k) = inl (omega arith)
 before-trans a b c (inl h) (inr k) = inl (omega arith)
 before-trans a b c (inr h) (inl k) = inl (omega arith)
 before-trans a b c (inr h) (inr k) = inr (omega arith, omega arith)
+
+-- of two pairs only one comes before the other
+pub before-not : (a b : ℕ × ℕ) → EdgeBefore a b → ¬ EdgeBefore b a
+before-not a b (inl h) (inl k) = omega arith
+before-not a b (inl h) (inr k) = omega arith
+before-not a b (inr h) (inl k) = omega arith
+before-not a b (inr h) (inr k) = omega arith
 
 pub ascending-after : (e : ℕ × ℕ) (es : List (ℕ × ℕ)) → AscendingEdges (e ∷ es) → (f : ℕ × ℕ) → In f es → EdgeBefore e f
 ascending-after e [] s f h = absurd h

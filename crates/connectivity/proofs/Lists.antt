@@ -231,7 +231,7 @@ pub true-or : (a b : Bool) → b ≡ true → a || b ≡ true
 true-or true b e = refl
 true-or false b e = e
 
-or-false : (a b : Bool) → a || b ≡ false → (a ≡ false) × (b ≡ false)
+pub or-false : (a b : Bool) → a || b ≡ false → (a ≡ false) × (b ≡ false)
 or-false true b e = absurd (clash refl e)
 or-false false b e = (refl, e)
 
@@ -292,6 +292,14 @@ in-select p (a ∷ l) w (inr j) e = go (p a) (in-select p l w j e)
     go : (b : Bool) → In w (select p l) → In w (cond b (a ∷ select p l) (select p l))
     go true k = inr k
     go false k = k
+
+pub select-short : {A : Type 0} (p : A → Bool) (l : List A) → length (select p l) ≤ length l
+select-short p [] = omega arith
+select-short p (a ∷ l) = go (p a) (select-short p l)
+  where
+    go : (b : Bool) → length (select p l) ≤ length l → length (cond b (a ∷ select p l) (select p l)) ≤ suc (length l)
+    go true h = omega arith
+    go false h = omega arith
 
 pub select-nodup : {A : Type 0} (p : A → Bool) (l : List A) → NoDup l → NoDup (select p l)
 select-nodup p [] nd = tt

@@ -49,6 +49,15 @@ listed (e ∷ es) u v = isPair e u v || (isPair e v u || listed es u v)
 abbrev pub fromEdges : ℕ → List (ℕ × ℕ) → Graph
 fromEdges n es = record { n = n; adj = listed es }
 
+-- Edges strictly ascending, by lower end and then by higher.
+abbrev pub EdgeBefore : ℕ × ℕ → ℕ × ℕ → Type 0
+EdgeBefore e f = (e .0 < f .0) ⊎ ((e .0 ≡ f .0) × (e .1 < f .1))
+
+abbrev pub AscendingEdges : List (ℕ × ℕ) → Type 0
+AscendingEdges [] = Unit {0}
+AscendingEdges (e ∷ []) = Unit {0}
+AscendingEdges (e ∷ (f ∷ es)) = EdgeBefore e f × AscendingEdges (f ∷ es)
+
 -- A walk along edges with no vertex of X on it.
 pub data Walk (g : Graph) (X : List ℕ) : ℕ → ℕ → Type 0 where
   stay : {u : ℕ} → Walk g X u u

@@ -17,12 +17,12 @@ use Rattle.reading.proofs.Adjacency.{graph-simple, graph-count, graph-few}
 use Rattle.construction.proofs.Basics.{Drawn}
 use Rattle.construction.proofs.Table.{words-bit}
 
-joined-size : (es : List (ℕ × ℕ)) (rows : List ℕ) → length rows ≡ rowWords → length (folded joined rows es) ≡ rowWords
+pub joined-size : (es : List (ℕ × ℕ)) (rows : List ℕ) → length rows ≡ rowWords → length (folded joined rows es) ≡ rowWords
 unfolding folded
 joined-size [] rows e = e
 joined-size (d ∷ es) rows e = joined-size es (joined rows d) (simp length-set e)
 
-joined-words : (es : List (ℕ × ℕ)) (rows : List ℕ) → Words rows → Words (folded joined rows es)
+pub joined-words : (es : List (ℕ × ℕ)) (rows : List ℕ) → Words rows → Words (folded joined rows es)
 unfolding folded
 joined-words [] rows h = h
 joined-words (d ∷ es) rows h = joined-words es (joined rows d) (words-bit (withBit rows (d .0 * capacity + d .1)) (d .1 * capacity + d .0) (words-bit rows (d .0 * capacity + d .1) h))

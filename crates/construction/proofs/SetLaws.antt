@@ -51,7 +51,7 @@ row-words rows h zero i k = lit< tt
 row-words rows h (suc j) i zero = h i
 row-words rows h (suc j) i (suc k) = row-words rows h j (i + 1) k
 
-less-lt : (x y : ℕ) → x < 2 ^ 64 → y < 2 ^ 64 → less x y < 2 ^ 64
+pub less-lt : (x y : ℕ) → x < 2 ^ 64 → y < 2 ^ 64 → less x y < 2 ^ 64
 less-lt x y h k = xor-lt 64 x _ h (and-lt 64 x y h k)
 
 pub sized-empty : Sized emptySet

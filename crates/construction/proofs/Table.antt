@@ -11,9 +11,9 @@ use lib.Pow.{pow-lt}
 use lib.Bits.{or-lt}
 use lib.ListN.{length, length-set, length-replicate}
 use borrow.Author.Tests.{eqb-true, eq-eqb, ltb-true, ltb-false, lt-ltb}
-use Rattle.vertexset.specs.Set.{Words, has, withBit, capacity}
+use Rattle.vertexset.specs.Set.{Words, has, withBit, withoutBit, capacity}
 use Rattle.vertexset.proofs.Laws.{has-empty, zeros-at}
-use Rattle.graph.specs.Rows.{adjacentIn, rowWords, bareRows, joined, joinedRows}
+use Rattle.graph.specs.Rows.{adjacentIn, rowWords, bareRows, joined, joinedRows, partedRows}
 use Rattle.reading.proofs.Adjacency.{has-both, same-bit}
 use Rattle.connectivity.specs.Lists.{In}
 use Rattle.connectivity.specs.Graph.{isPair}
@@ -22,7 +22,7 @@ use Rattle.connectivity.proofs.Lists.{clash, or-true, true-or, and-true, in-app
 use Rattle.connectivity.proofs.Paths.{SamePair, edge-same, edge-comm}
 use Rattle.construction.specs.Start.{marked}
 use Rattle.construction.proofs.Basics.{Drawn, flatten}
-use Rattle.construction.proofs.SetLaws.{set-words}
+use Rattle.construction.proofs.SetLaws.{set-words, less-lt}
 
 -- u stands right before v in the list
 abbrev pub Beside : List ℕ → ℕ → ℕ → Type 0
@@ -42,7 +42,7 @@ two-size rows a b l = go (ltb a capacity && ltb b capacity)
     go true = simp length-set l
     go false = l
 
-two-words : (rows : List ℕ) (a b : ℕ) → Words rows → Words (joinedRows rows a b)
+pub two-words : (rows : List ℕ) (a b : ℕ) → Words rows → Words (joinedRows rows a b)
 two-words rows a b h = go (ltb a capacity && ltb b capacity)
   where
     go : (t : Bool) → Words (cond t (joined rows (a, b)) rows)
@@ -91,6 +91,18 @@ module _ (rows : List ℕ) (a b x y : ℕ) (l : length rows ≡ rowWords) (hx : 
       go true p true q h = has-two rows a b x y l (ltb-true _ _ p) (ltb-true _ _ q) hy ∙ ⊎-elim (or-left (has rows (bitOf x y)) (isPair (a, b) x y || isPair (b, a) x y)) (λ k. true-or (has rows (bitOf x y)) (isPair (a, b) x y || isPair (b, a) x y) (same k)) h
       go true p false q h = ⊎-elim (λ k. k) (λ k. absurd (out (λ i j. omega (arith, ltb-false b capacity q)) k)) h
       go false p q e h = ⊎-elim (λ k. k) (λ k. absurd (out (λ i j. omega (arith, ltb-false a capacity p)) k)) h
+
+-- ---- one edge fewer
+
+words-unbit : (ws : List ℕ) (v : ℕ) → Words ws → Words (withoutBit ws v)
+words-unbit ws v h = set-words ws (v / 64) _ h (less-lt _ _ (h (v / 64)) (pow-lt (mod-lt v (lit< tt))))
+
+pub parted-words : (rows : List ℕ) (a b : ℕ) → Words rows → Words (partedRows rows a b)
+parted-words rows a b h = go (ltb a capacity && ltb b capacity)
+  where
+    go : (t : Bool) → Words (cond t (withoutBit (withoutBit rows (a * capacity + b)) (b * capacity + a)) rows)
+    go true = words-unbit (withoutBit rows (a * capacity + b)) (b * capacity + a) (words-unbit rows (a * capacity + b) h)
+    go false = h
 
 -- ---- all neighbours of a list
 

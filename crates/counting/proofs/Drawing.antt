@@ -11,6 +11,7 @@ use Rattle.record.specs.Read.{folded}
 use Rattle.vertexset.specs.Set.{capacity}
 use Rattle.graph.specs.Rows.{joined, joinedRows}
 use Rattle.connectivity.specs.Lists.{upFrom}
+use Rattle.reading.proofs.Pairs.{pairsFrom, pairs-start, pairs-end, pairs-row, pairs-next}
 use Rattle.counting.specs.Counts.{withLower, pairsAmong, pairsOf, setsOf, minSize, maxSize}
 use Rattle.counting.proofs.Sets.{sets-twice, sets-count}
 
@@ -39,54 +40,6 @@ module _ (n : ℕ) (least : minSize ≤ n) (most : n ≤ maxSize) where
   pub sets-most : length (setsOf (pairsOf n)) ≤ 32768
   unfolding pairsAmong withLower
   sets-most = at-size (λ k. length (setsOf (pairsOf k)) ≤ 32768) n least most (omega (arith, sets-count (pairsOf 4))) (omega (arith, sets-count (pairsOf 5))) (omega (arith, sets-count (pairsOf 6)))
-
--- the pairs from (u, v) on: those of u with v and with later vertices, then those among the vertices behind u
-unfoldable pub pairsFrom : ℕ → ℕ → ℕ → List (ℕ × ℕ)
-pairsFrom n u v = withLower u (upFrom v (n - v)) ++ pairsAmong (upFrom (suc u) (n - suc u))
-
--- all pairs from (0, 1) on
-pub pairs-start : (n : ℕ) → minSize ≤ n → pairsFrom n 0 1 ≡ pairsOf n
-unfolding pairsFrom pairsAmong
-pairs-start zero h = absurd (omega arith)
-pairs-start (suc m) h = let e : suc m - 1 ≡ m = omega arith in ap (λ (k : ℕ). withLower 0 (upFrom 1 k) ++ pairsAmong (upFrom 1 k)) e
-
--- none is left when u is past the vertices
-pub pairs-end : (n u v : ℕ) → n ≤ u → u < v → pairsFrom n u v ≡ []
-unfolding pairsFrom withLower pairsAmong
-pairs-end n u v h l =
-    let a : n - v ≡ 0 = omega arith in
-    let b : n - suc u ≡ 0 = omega arith in
-    (λ i. withLower u (upFrom v (a i)) ++ pairsAmong (upFrom (suc u) (b i)))
-
--- u has no later vertex left: the next comes
-pub pairs-row : (n u v : ℕ) → u < n → n ≤ v → pairsFrom n u v ≡ pairsFrom n (u + 1) (u + 1 + 1)
-unfolding pairsFrom withLower pairsAmong
-pairs-row n u v h l = ap (λ (k : ℕ). withLower u (upFrom v k) ++ pairsAmong (upFrom (suc u) (n - suc u))) a ∙ go (n - suc u) refl
-  where
-    a : n - v ≡ 0
-    a = omega arith
-
-    s : u + 1 ≡ suc u
-    s = omega arith
-
-    t : u + 1 + 1 ≡ suc (suc u)
-    t = omega arith
-
-    go : (k : ℕ) → n - suc u ≡ k → pairsAmong (upFrom (suc u) (n - suc u)) ≡ pairsFrom n (u + 1) (u + 1 + 1)
-    go zero e = ap (λ (k : ℕ). pairsAmong (upFrom (suc u) k)) e ∙ sym (pairs-end n (u + 1) (u + 1 + 1) (omega arith) (omega arith))
-    go (suc k) e =
-        let b : k ≡ n - suc (suc u) = omega arith in
-        ap (λ (j : ℕ). pairsAmong (upFrom (suc u) j)) e ∙ ap (λ (j : ℕ). withLower (suc u) (upFrom (suc (suc u)) j) ++ pairsAmong (upFrom (suc (suc u)) j)) b
-        ∙ (λ i. withLower (sym s i) (upFrom (sym t i) (n - sym t i)) ++ pairsAmong (upFrom (suc (sym s i)) (n - suc (sym s i))))
-
--- the next pair
-pub pairs-next : (n u v : ℕ) → v < n → pairsFrom n u v ≡ (u, v) ∷ pairsFrom n u (v + 1)
-unfolding pairsFrom withLower
-pairs-next n u v h =
-    let a : n - v ≡ suc (n - suc v) = omega arith in
-    let s : suc v ≡ v + 1 = omega arith in
-    ap (λ (k : ℕ). withLower u (upFrom v k) ++ pairsAmong (upFrom (suc u) (n - suc u))) a
-    ∙ ap (λ (w : ℕ). (u, v) ∷ (withLower u (upFrom w (n - w)) ++ pairsAmong (upFrom (suc u) (n - suc u)))) s
 
 -- ---- the sets with the next pair come behind those without it
 
@@ -120,7 +73,7 @@ pub record Drawing (n : ℕ) (done : List ℕ) (rows : List ℕ) (sets rest u v 
 module _ (n : ℕ) {rows : List ℕ} {sets number : ℕ} (least : minSize ≤ n) (count : sets ≡ length (setsOf (pairsOf n))) (low : number < length (setsOf (pairsOf n))) where
   pub draw-start : Drawing n (folded joined rows (getD (setsOf (pairsOf n)) number [])) rows sets number 0 1
   draw-start =
-      let s = pairs-start n least in
+      let s = pairs-start n in
       record {
         count = count ∙ ap (λ (l : List (ℕ × ℕ)). length (setsOf l)) (sym s);
         low = omega arith;

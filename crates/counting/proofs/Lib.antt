@@ -1,5 +1,4 @@
 pub mod Sets
-pub mod Pairs
 pub mod Plans
 pub mod Tally
 pub mod Drawing

@@ -13,20 +13,15 @@ use Rattle.reading.specs.Plan.{Plan, Allowed, EdgeAllowed}
 use Rattle.reading.proofs.EdgeTests.{Proper, proper-true, follows-true, each-proper}
 use Rattle.reading.proofs.Doubles.{ascends-each, each-both}
 use Rattle.counting.specs.Counts.{pairsOf, setsOf, planWith, plansOf}
-use Rattle.counting.proofs.Sets.{in-map, map-in, nodup-map, sets-count, sets-nodup, set-members, set-short, set-ascends, ascends-set, ascends-cons}
-use Rattle.counting.proofs.Pairs.{pairs-proper, low-pairs, pairs-ascend}
-
--- every proper pair comes after (0, 0)
-after-first : (u v : ℕ) → u < v → EdgeBefore (0, 0) (u, v)
-after-first zero v h = inr (refl, h)
-after-first (suc u) v h = inl (omega arith)
+use Rattle.counting.proofs.Sets.{in-map, map-in, nodup-map, sets-count, sets-nodup, set-members, set-short, set-ascends, ascends-set}
+use Rattle.reading.proofs.Pairs.{ascends-cons, after-zeros, pairs-proper, low-pairs, pairs-ascend}
 
 set-allowed : (n : ℕ) → minVertices ≤ n → n ≤ maxVertices → length (pairsOf n) ≤ maxEdges → (s : List (ℕ × ℕ)) → In s (setsOf (pairsOf n)) → Allowed (planWith n s)
 set-allowed n least most few s h = record {
   least = least;
   most = most;
   few = omega (arith, set-short (pairsOf n) s h);
-  each = each-both n (0, 0) s (ascends-each (0, 0) s (ascends-cons (0, 0) s (λ e i. after-first (e .0) (e .1) (low e i .0)) (set-ascends (pairsOf n) s (pairs-ascend n) h))) low;
+  each = each-both n (0, 0) s (ascends-each (0, 0) s (ascends-cons (0, 0) s (λ e i. after-zeros e (low e i .0)) (set-ascends (pairsOf n) s (pairs-ascend n) h))) low;
 }
   where
     low : Proper n s

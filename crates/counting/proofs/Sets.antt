@@ -8,8 +8,9 @@ use native.Mathlib.Omega.{arith}
 use lib.ListN.{length, length-append, length-map}
 use Rattle.connectivity.specs.Lists.{In, NoDup}
 use Rattle.connectivity.proofs.Lists.{in-left, in-right, in-append, in-single, nodup-append}
-use Rattle.connectivity.proofs.Edges.{EdgeBefore, AscendingEdges, ascending-after}
+use Rattle.connectivity.proofs.Edges.{EdgeBefore, AscendingEdges, ascending-after, before-not}
 use Rattle.reading.proofs.Doubles.{ascends-on}
+use Rattle.reading.proofs.Pairs.{ascends-cons}
 use Rattle.counting.specs.Counts.{setsOf}
 
 -- what a function makes of a list
@@ -85,18 +86,6 @@ sets-nodup (e ∷ es) nd =
   where
     apart : (s : List (ℕ × ℕ)) → In s (setsOf es) → ¬ In s (map (λ s. e ∷ s) (setsOf es))
     apart s h k = let r = in-map (λ s. e ∷ s) s (setsOf es) k in nd .0 (set-members es s h e (rw (r .2) (inl refl)))
-
--- a pair before all of a list that ascends
-pub ascends-cons : (e : ℕ × ℕ) (es : List (ℕ × ℕ)) → ((f : ℕ × ℕ) → In f es → EdgeBefore e f) → AscendingEdges es → AscendingEdges (e ∷ es)
-ascends-cons e [] f h = tt
-ascends-cons e (d ∷ es) f h = (f d (inl refl), h)
-
--- of two pairs only one comes before the other
-before-not : (a b : ℕ × ℕ) → EdgeBefore a b → ¬ EdgeBefore b a
-before-not a b (inl h) (inl k) = omega arith
-before-not a b (inl h) (inr k) = omega arith
-before-not a b (inr h) (inl k) = omega arith
-before-not a b (inr h) (inr k) = omega arith
 
 -- a set of a list that ascends, ascends
 pub set-ascends : (ps s : List (ℕ × ℕ)) → AscendingEdges ps → In s (setsOf ps) → AscendingEdges s

@@ -4,27 +4,15 @@ use mathlib.Core.List.{List, [], _∷_, _++_, map}
 use mathlib.Core.Bool.{cond, _&&_}
 use lib.Dec.{leb, eqb}
 use lib.ListN.{length}
-use Rattle.connectivity.specs.Lists.{below, select}
+use Rattle.connectivity.specs.Lists.{select}
 use Rattle.connectivity.specs.Graph.{fromEdges}
 use Rattle.connectivity.specs.Connectivity.{connectivity}
 use Rattle.reading.specs.Plan.{Plan}
+unfoldable pub use Rattle.reading.specs.Pairs.{withLower, pairsAmong}
+pub use Rattle.reading.specs.Pairs.{pairsOf}
 use Rattle.counting.specs.declared.Counts.{Counts}
 
--- one vertex with each of a list
-unfoldable pub withLower : ℕ → List ℕ → List (ℕ × ℕ)
-withLower u [] = []
-withLower u (v ∷ l) = (u, v) ∷ withLower u l
-
--- each vertex of a list with every later one
-unfoldable pub pairsAmong : List ℕ → List (ℕ × ℕ)
-pairsAmong [] = []
-pairsAmong (u ∷ l) = withLower u l ++ pairsAmong l
-
--- the pairs of n numbered vertices, in cable order
-abbrev pub pairsOf : ℕ → List (ℕ × ℕ)
-pairsOf n = pairsAmong (below n)
-
--- every set of them: those without the first pair, then those with it
+-- every set of a list of pairs: those without the first pair, then those with it
 unfoldable pub setsOf : List (ℕ × ℕ) → List (List (ℕ × ℕ))
 setsOf [] = [] ∷ []
 setsOf (e ∷ es) = setsOf es ++ map (λ s. e ∷ s) (setsOf es)

@@ -1,11 +1,12 @@
 -- What the functions for callers in other languages answer.
-use Prim.Native.Nat.{ℕ}
+use Prim.Native.Nat.{ℕ, _+_, _*_, _%_}
 use mathlib.Core.List.{List}
 use Rattle.record.specs.declared.Answer.{Answer}
 use Rattle.record.specs.declared.Answer.the-variants.{Accepted, Grade, PlanFault, CertificateFault}
 use Rattle.reading.specs.Code.{wholePlan}
 use Rattle.writing.specs.Write.{withPlan}
 use Rattle.certifier.specs.declared.Made.{Made}
+use Rattle.mending.specs.declared.Mended.{Mended}
 use Rattle.script.specs.Replay.{word, answerWord, Reply}
 
 -- the buffer after a plan was read: where the plan is accepted and has room, its record written again; else as it was
@@ -28,10 +29,17 @@ gradeWord (CertificateFault r p) length = answerWord (CertificateFault r p)
 abbrev pub madeWord : Made → ℕ
 madeWord m = gradeWord (m .answer) (m .length)
 
+-- a mend's answer as one word: a grade has the three lengths in the place, 16 bits each
+abbrev pub lengthsPlace : Mended → ℕ
+lengthsPlace m = m .list % 65536 + 65536 * (m .mended % 65536) + 4294967296 * (m .certificate % 65536)
+
+abbrev pub mendedWord : Mended → ℕ
+mendedWord m = gradeWord (m .answer) (lengthsPlace m)
+
 -- a replay as one word: how the script ended, and the number of answers in the place
 abbrev pub replayWord : Reply → ℕ
 replayWord r = word (r .status) 0 (r .count)
 
 -- the edition of the format
 abbrev pub edition : ℕ
-edition = 5
+edition = 6

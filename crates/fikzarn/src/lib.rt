@@ -5,10 +5,12 @@ ghost use Rattle.reading.specs.Code.{wholePlan};
 ghost use Rattle.checker.specs.Check.{checkOf};
 ghost use Rattle.certifier.specs.Made.{certificateRoom, lengthFrom, madeFrom, filledFrom};
 ghost use Rattle.counting.specs.Counts.{countOf};
+ghost use Rattle.mending.specs.Mend.{mendFrom};
 ghost use Rattle.script.specs.Replay.{answerWord, replayOf};
-ghost use Rattle.fikzarn.specs.Words.{planRewritten, madeWord, replayWord, edition};
+ghost use Rattle.fikzarn.specs.Words.{planRewritten, madeWord, replayWord, mendedWord, edition};
 use certifier::Made;
 use graph::GraphTable;
+use mending::Mended;
 use record::Answer;
 
 // Reads a whole plan record. Where it is accepted and has room, writes it again at the start of out; else out stays as it was.
@@ -91,12 +93,48 @@ pub extern "C" fn fikzarn_count(size: u64, grade: u64) -> u64
     counting::count(size, grade)
 }
 
+// What a mend gave as one word: a grade has the three lengths in the place, 16 bits each.
+fn mended_word(m: Mended) -> u64
+    ensures { λ r. ⌜ r ≡ mendedWord m ⌝ }
+{
+    let answer = m.answer;
+    let list = m.list as u64 % 65536;
+    let mended = m.mended as u64 % 65536;
+    let certificate = m.certificate as u64 % 65536;
+    match answer {
+        Answer::Grade(k) => {
+            1 + 256 * k as u64 + 65536 * (list + 65536 * mended + 4294967296 * certificate)
+        }
+        Answer::Accepted => script::answer_word(answer),
+        Answer::PlanFault(_, _) => script::answer_word(answer),
+        Answer::CertificateFault(_, _) => script::answer_word(answer),
+    }
+}
+
+// Mends a plan: the list of cables to lay, the mended plan and its certificate, each at the start of its own buffer, every other byte stays; the answer's word, with the
+// three lengths in the place.
+#[no_mangle]
+pub extern "C" fn fikzarn_mend(
+    plan: &[u8],
+    list: &mut [u8],
+    mended: &mut [u8],
+    certificate: &mut [u8],
+) -> u64
+    ensures { λ r. ⌜ r ≡ mendedWord (mendFrom (now (plan .entry)) (now (list .entry)) (now (mended .entry)) (now (certificate .entry)) .answer) ⌝ }
+    ensures { λ r. ⌜ now (list .exit) ≡ mendFrom (now (plan .entry)) (now (list .entry)) (now (mended .entry)) (now (certificate .entry)) .list ⌝ }
+    ensures { λ r. ⌜ now (mended .exit) ≡ mendFrom (now (plan .entry)) (now (list .entry)) (now (mended .entry)) (now (certificate .entry)) .mended ⌝ }
+    ensures { λ r. ⌜ now (certificate .exit) ≡ mendFrom (now (plan .entry)) (now (list .entry)) (now (mended .entry)) (now (certificate .entry)) .certificate ⌝ }
+{
+    let m = mending::mend(plan, list, mended, certificate);
+    mended_word(m)
+}
+
 // The edition of the format.
 #[no_mangle]
 pub extern "C" fn fikzarn_edition() -> u64
     ensures { λ r. ⌜ r ≡ edition ⌝ }
 {
-    5
+    6
 }
 
 #[no_mangle]

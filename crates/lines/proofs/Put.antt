@@ -70,6 +70,11 @@ module _ (buffer : List ℕ) (at : ℕ) (bytes : List ℕ) {next : ℕ} {out : L
 pub put-as : (buffer : List ℕ) (at : ℕ) {xs ys : List ℕ} → xs ≡ ys → {next : ℕ} {out : List ℕ} → Put buffer at xs next out → Put buffer at ys next out
 put-as buffer at e p = (p .0 ∙ ap (placeAfter buffer at) e, p .1 ∙ ap (written buffer at) e)
 
+-- and no more of them than a program's buffer has room for
+pub put-short : {room : ℕ} (buffer : List ℕ) {xs ys : List ℕ} → xs ≡ ys → {next : ℕ} {out : List ℕ} → Put buffer 0 xs next out → length xs ≤ room
+    → (next ≡ placeAfter buffer 0 ys) × ((out ≡ written buffer 0 ys) × (length ys ≤ room))
+put-short buffer {xs} {ys} e p l = let q = put-as buffer 0 e p in (q .0, (q .1, omega (arith, l, ap length e)))
+
 -- nothing is put
 pub put-none : (buffer : List ℕ) (at : ℕ) → Put buffer at [] at buffer
 put-none buffer at = go (hasRoom buffer at []) refl

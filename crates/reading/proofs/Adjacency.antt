@@ -81,22 +81,31 @@ listed-past es h u v past = go (listed es u v) refl
     go true e = absurd (out (listed-in es u v e))
     go false e = refl
 
+-- THE ADJACENCY TEST OF ROWS IN WHICH EDGES ARE JOINED: that of the rows before, or membership in the list of edges.
+pub adjacent-joined : (es : List (ℕ × ℕ)) (rows : List ℕ) → Proper capacity es → length rows ≡ rowWords → (u v : ℕ) → adjacentIn (folded joined rows es) u v ≡ adjacentIn rows u v || listed es u v
+adjacent-joined es rows h l u v = go (ltb u capacity) refl (ltb v capacity) refl
+  where
+    go : (b : Bool) → ltb u capacity ≡ b → (c : Bool) → ltb v capacity ≡ c → b && (c && has (folded joined rows es) (u * capacity + v)) ≡ (b && (c && has rows (u * capacity + v))) || listed es u v
+    go true i true j = has-joined es rows h l (u * capacity + v) ∙ ap (λ (b : Bool). has rows (u * capacity + v) || b) (bits-listed es h u v (ltb-true _ _ i) (ltb-true _ _ j))
+    go true i false j = sym (listed-past es h u v (inr (ltb-false _ _ j)))
+    go false i c j = sym (listed-past es h u v (inl (ltb-false _ _ i)))
+
+bare-apart : (u v : ℕ) → adjacentIn bareRows u v ≡ false
+bare-apart u v = rw (has-empty rowWords (u * capacity + v)) (none (ltb u capacity) (ltb v capacity))
+  where
+    none : (b c : Bool) → b && (c && false) ≡ false
+    none true true = refl
+    none true false = refl
+    none false c = refl
+
 module _ (p : Plan) (a : Allowed p) where
   edges-low : Proper capacity (p .edges)
   edges-low e i = let b = each-proper (p .n) (0, 0) (p .edges) (a .each) e i in (b .0, omega arith)
 
-  pub has-edges : (x : ℕ) → has (graphOf p .rows) x ≡ bits (p .edges) x
-  unfolding graphOf
-  has-edges x = has-joined (p .edges) bareRows edges-low (length-replicate {A = ℕ} rowWords 0) x ∙ ap (λ (b : Bool). b || bits (p .edges) x) (has-empty rowWords x)
-
   -- THE ADJACENCY TEST OF A PLAN'S GRAPH IS MEMBERSHIP IN ITS LIST OF EDGES.
   pub adjacent-listed : (u v : ℕ) → adjacentIn (graphOf p .rows) u v ≡ listed (p .edges) u v
-  adjacent-listed u v = go (ltb u capacity) refl (ltb v capacity) refl
-    where
-      go : (b : Bool) → ltb u capacity ≡ b → (c : Bool) → ltb v capacity ≡ c → b && (c && has (graphOf p .rows) (u * capacity + v)) ≡ listed (p .edges) u v
-      go true i true j = has-edges (u * capacity + v) ∙ bits-listed (p .edges) edges-low u v (ltb-true _ _ i) (ltb-true _ _ j)
-      go true i false j = sym (listed-past (p .edges) edges-low u v (inr (ltb-false _ _ j)))
-      go false i c j = sym (listed-past (p .edges) edges-low u v (inl (ltb-false _ _ i)))
+  unfolding graphOf
+  adjacent-listed u v = adjacent-joined (p .edges) bareRows edges-low (length-replicate {A = ℕ} rowWords 0) u v ∙ ap (λ (b : Bool). b || listed (p .edges) u v) (bare-apart u v)
 
   -- its rows stand for the graph of that list ..
   pub graph-listed : rowsGraph (graphOf p .n) (graphOf p .rows) ≡ fromEdges (p .n) (p .edges)

@@ -141,7 +141,7 @@ module _ (n : ℕ) (es : List (ℕ × ℕ)) (big : minVertices ≤ n) (h : Each 
   pairs-counted m = let z : 0 + length left ≡ length left = omega arith in counts-once n m (0, 0) 0 es ∙ z ∙ sym pair-count
 
 -- edges that come one after the other, as a plan's
-before-follows : (d e : ℕ × ℕ) → EdgeBefore d e → follows d e ≡ true
+pub before-follows : (d e : ℕ × ℕ) → EdgeBefore d e → follows d e ≡ true
 before-follows d e (inl h) = rw (lt-ltb _ _ h)
 before-follows d e (inr h) = let l : d .1 ≤ e .1 = omega (arith, h .1) in rw (eq-eqb _ _ (h .0), le-leb _ _ l) (or-true (ltb (d .0) (e .0)))
 

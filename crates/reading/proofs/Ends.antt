@@ -21,12 +21,12 @@ use Rattle.connectivity.specs.TopologicalGraph.{endsOf}
 use Rattle.reading.specs.Plan.{Plan, edge, plan, proper, follows}
 use Rattle.reading.specs.Code.{endCount, noEnds, endsArray, numberLaid, numbersIn, endsRead}
 
-ends-length : (es : List (ℕ × ℕ)) → length (endsOf es) ≡ 2 * length es
+pub ends-length : (es : List (ℕ × ℕ)) → length (endsOf es) ≡ 2 * length es
 ends-length [] = refl
 ends-length (e ∷ es) = omega (arith, ends-length es)
 
 -- a number more behind those laid, where a zero stood
-put-next : (l : List ℕ) (v k : ℕ) → set (l ++ replicate (suc k) 0) (length l) v ≡ (l ++ (v ∷ [])) ++ replicate k 0
+pub put-next : (l : List ℕ) (v k : ℕ) → set (l ++ replicate (suc k) 0) (length l) v ≡ (l ++ (v ∷ [])) ++ replicate k 0
 put-next l v k = set-at l 0 (replicate k 0) v (length l) refl ∙ sym (append-snoc l v (replicate k 0))
 
 lay-all : (l vs : List ℕ) (k : ℕ) → length vs ≤ k → folded numberLaid (length l, l ++ replicate k 0) vs .1 ≡ l ++ (vs ++ replicate (k - length vs) 0)

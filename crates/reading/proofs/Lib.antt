@@ -5,3 +5,5 @@ pub mod Reading
 pub mod Plans
 pub mod Adjacency
 pub mod Repeats
+pub mod Lengths
+pub mod Pairs

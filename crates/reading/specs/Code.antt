@@ -28,6 +28,10 @@ graphOf p = record { n = p .n; d = edgeCount (fromEdges (p .n) (p .edges)); rows
 abbrev pub endCount : ℕ
 endCount = 2 * maxEdges
 
+-- no plan record is longer: two numbers of two bytes at most, and a byte for each vertex of an edge
+abbrev pub planRoom : ℕ
+planRoom = 4 + endCount
+
 abbrev pub noEnds : List ℕ
 noEnds = replicate endCount 0
 

@@ -19,6 +19,9 @@ pub struct PlanTable {
 
 impl PlanTable {
     pub const ENDS: usize = 2 * GraphTable::MAX_EDGES as usize;
+
+    // No plan record is longer: two numbers of two bytes at most, and a byte for each vertex of an edge.
+    pub const BYTES: usize = 4 + PlanTable::ENDS;
 }
 
 // An accepted plan with the place after its last edge; or the plan's fault, beside a plan without vertices.

@@ -7,3 +7,4 @@ pub mod Write
 pub mod Parts
 pub mod Loops
 pub mod Faults
+pub mod Lists

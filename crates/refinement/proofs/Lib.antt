@@ -2,7 +2,6 @@ pub mod Tests
 pub mod Pointers
 pub mod Mates
 pub mod Places
-pub mod Table
 pub mod Splits
 pub mod Runs
 pub mod Shows

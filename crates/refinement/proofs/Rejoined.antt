@@ -21,7 +21,7 @@ use Rattle.refinement.proofs.Tests.{false-of}
 use Rattle.refinement.proofs.Pointers.{Back, On}
 use Rattle.refinement.proofs.Mates.{Mated, last-in, before-cut, on-rest, back-head, on-last, mated-length, pair-first, pair-last, pair-others}
 use Rattle.refinement.proofs.Places.{same-pointers, Neighbour, neighbour?, aside-length, aside-other, unmated-length, unmated-other, unmated-none}
-use Rattle.refinement.proofs.Table.{with-length, without-length, with-tells, without-tells}
+use Rattle.graph.proofs.Table.{with-length, without-length, with-tells, without-tells}
 use Rattle.refinement.proofs.Splits.{Sole}
 use Rattle.refinement.proofs.Runs.{RunsAlong, AllLow, ends, cut, first-cut, last-of-cut}
 use Rattle.refinement.proofs.Shows.{Listed}

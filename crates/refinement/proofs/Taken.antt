@@ -32,7 +32,7 @@ use Rattle.build.specs.State.{endOf, pathAddition, entered, raisedAt, raised, p
 use Rattle.refinement.proofs.Tests.{same-test, iff-test, false-of, left-true, built-tells, branch-tells}
 use Rattle.refinement.proofs.Pointers.{along-length}
 use Rattle.refinement.proofs.Mates.{ends-length}
-use Rattle.refinement.proofs.Table.{Low, with-length, without-length, with-tells, without-tells}
+use Rattle.graph.proofs.Table.{Low, with-length, without-length, with-tells, without-tells}
 use Rattle.refinement.proofs.Splits.{Sole, split-joined, split-none, split-swap, piece-there, branch-kept, branch-split}
 use Rattle.refinement.proofs.Runs.{Pointing, AllLow, ends, pointing-split, runs-more}
 use Rattle.refinement.proofs.Shows.{Shows, Sizes, Listed, end-branch, end-inner, not-inside, path-of, sole-link, placed, Placed, everyEdge, branch-shown}

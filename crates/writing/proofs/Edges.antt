@@ -44,14 +44,14 @@ module _ (ends : List ℕ) (m : ℕ) where
   abbrev pub leftBytes : ℕ → List ℕ
   leftBytes k = listBytes edgeBytes (left k)
 
-  left-all : left 0 ≡ edgesOf ends m
+  pub left-all : left 0 ≡ edgesOf ends m
   left-all = let z : m - 0 ≡ m = omega arith in rw z
 
-  left-here : {k : ℕ} → k < m → left k ≡ edgeAt ends k ∷ left (k + 1)
+  pub left-here : {k : ℕ} → k < m → left k ≡ edgeAt ends k ∷ left (k + 1)
   unfolding edgesFrom
   left-here {k} h = let z : m - k ≡ suc (m - (k + 1)) = omega arith in rw z
 
-  left-none : {k : ℕ} → m ≤ k → left k ≡ []
+  pub left-none : {k : ℕ} → m ≤ k → left k ≡ []
   unfolding edgesFrom
   left-none {k} h = let z : m - k ≡ 0 = omega arith in rw z
 

@@ -32,12 +32,13 @@ laid-edges ends rest (e ∷ es) k f =
     let later = laid-edges ends rest es (k + 1) (λ i. let y : 2 * (k + 1) + i ≡ 2 * k + suc (suc i) = omega arith in ap (λ (j : ℕ). getD ends j 0) y ∙ f (suc (suc i))) in
     rw (lower, higher, later)
 
+pub held-edges : (es : List (ℕ × ℕ)) → edgesOf (endsArray es) (length es) ≡ es
+held-edges es = laid-edges (endsArray es) _ es 0 (λ i. let z : 2 * 0 + i ≡ i = omega arith in ap (λ (j : ℕ). getD (endsArray es) j 0) z)
+
 -- THE PLAN OF A PLAN BY VALUE IS THE PLAN.
 pub planned : (p : Plan) → planOf (tableOf p) ≡ p
 unfolding planOf tableOf graphOf
-planned p =
-    let e : edgesOf (endsArray (p .edges)) (length (p .edges)) ≡ p .edges = laid-edges (endsArray (p .edges)) _ (p .edges) 0 (λ i. let z : 2 * 0 + i ≡ i = omega arith in ap (λ (j : ℕ). getD (endsArray (p .edges)) j 0) z) in
-    ap (λ (es : List (ℕ × ℕ)). record { n = p .n; edges = es }) e
+planned p = ap (λ (es : List (ℕ × ℕ)). record { n = p .n; edges = es }) (held-edges (p .edges))
 
 -- the test of the edges tells that Records allows each
 each-ordered : (n : ℕ) (before : ℕ × ℕ) (es : List (ℕ × ℕ)) → inOrder n before es ≡ true → Each (EdgeAllowed n) (λ before e. e) before es
@@ -71,18 +72,28 @@ module _ (buffer : List ℕ) (t : PlanTable) (e : canWritePlan buffer t ≡ true
       let n = within-true minVertices maxVertices (t .graph .n) (a .0) in
       ap leadingPlan put-first ∙ leads (planOf t) (drop (0 + length (planBytes (planOf t))) buffer) (planned-allowed t (n .0) (n .1) (leb-true _ _ (b .0)) (c .0))
 
+-- a plan by value that Records allows is written where it has room
+module _ (t : PlanTable) (a : Allowed (planOf t)) (buffer : List ℕ) (room : length (planBytes (planOf t)) ≤ length buffer) where
+  can-write : canWritePlan buffer t ≡ true
+  unfolding planOf
+  can-write =
+      let r : 0 + length (planBytes (planOf t)) ≤ length buffer = omega arith in
+      let f : t .m ≤ maxEdges = omega (arith, a .few, edges-count (t .ends) (t .m) 0) in
+      rw (
+        true-within minVertices maxVertices (t .graph .n) (a .least) (a .most),
+        le-leb (t .m) maxEdges f,
+        ordered-each (t .graph .n) (0, 0) (planOf t .edges) (a .each),
+        le-leb (0 + length (planBytes (planOf t))) (length buffer) r,
+      )
+
+  pub written-whole : (writtenPlan buffer t ≡ Next (length (planBytes (planOf t)))) × (withPlan buffer t ≡ planBytes (planOf t) ++ drop (length (planBytes (planOf t))) buffer)
+  written-whole =
+      let z : 0 + length (planBytes (planOf t)) ≡ length (planBytes (planOf t)) = omega arith in
+      (rw can-write, put-first buffer t can-write ∙ rw z)
+
 module _ (p : Plan) (a : Allowed p) (buffer : List ℕ) (room : length (planBytes p) ≤ length buffer) where
   can-again : canWritePlan buffer (tableOf p) ≡ true
-  unfolding tableOf graphOf
-  can-again =
-      let r : 0 + length (planBytes p) ≤ length buffer = omega arith in
-      rw (
-        planned p,
-        true-within minVertices maxVertices (p .n) (a .least) (a .most),
-        le-leb (length (p .edges)) maxEdges (a .few),
-        ordered-each (p .n) (0, 0) (p .edges) (a .each),
-        le-leb (0 + length (planBytes p)) (length buffer) r,
-      )
+  can-again = can-write (tableOf p) (rw (planned p) a) buffer (rw (planned p) room)
 
   -- WHAT IS WRITTEN OF A PLAN BY VALUE ARE THE BYTES OF THE PLAN; THE REST OF THE BUFFER IS KEPT.
   pub written-again : (writtenPlan buffer (tableOf p) ≡ Next (length (planBytes p))) × (withPlan buffer (tableOf p) ≡ planBytes p ++ drop (length (planBytes p)) buffer)

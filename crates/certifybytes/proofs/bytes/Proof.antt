@@ -2,7 +2,8 @@
 use mathlib.Core.Path.{refl}
 use native.Mathlib.Omega.{arith}
 use Rattle.record.specs.Read.{Bytes}
-use Rattle.certifybytes.proofs.Cases.{long-bytes, made-bytes, refused-bytes, made-counts, made-fits, put-short}
+use Rattle.lines.proofs.Put.{put-short}
+use Rattle.certifybytes.proofs.Cases.{long-bytes, made-bytes, refused-bytes, made-counts, made-fits}
 use borrow.Author.Needs.{needs}
 use Rattle.certifybytes.proofs.bytes.Statement.{statement}
 use Rattle.certifybytes.proofs.bytes.Tie as tie

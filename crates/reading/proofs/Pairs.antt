@@ -1,6 +1,6 @@
 -- The pairs of n vertices, in cable order. Assumes nothing.
 use Prim.Native.Nat.{ℕ, zero, suc, _+_, _-_, _*_, _≤_, _<_}
-use mathlib.Core.Path.{_≡_, refl, sym, ap}
+use mathlib.Core.Path.{_≡_, refl, sym, ap, _∙_}
 use mathlib.Core.Logic.{inl, inr, ⊎-elim}
 use mathlib.Core.List.{List, [], _∷_, _++_}
 use mathlib.Core.Bool.{true}
@@ -11,10 +11,14 @@ use borrow.Author.Tests.{lt-ltb}
 use Rattle.connectivity.specs.Lists.{In, upFrom}
 use Rattle.connectivity.proofs.Lists.{in-left, in-right, in-append, either}
 use Rattle.connectivity.proofs.Edges.{EdgeBefore, AscendingEdges, ascending-after}
 use Rattle.reading.specs.Plan.{proper}
+use Rattle.reading.specs.Pairs.{withLower, pairsAmong, pairsOf}
 use Rattle.reading.proofs.Doubles.{ascends-on}
-use Rattle.counting.specs.Counts.{withLower, pairsAmong, pairsOf}
-use Rattle.counting.proofs.Sets.{ascends-cons}
+
+-- a pair before all of a list that ascends
+pub ascends-cons : (e : ℕ × ℕ) (es : List (ℕ × ℕ)) → ((f : ℕ × ℕ) → In f es → EdgeBefore e f) → AscendingEdges es → AscendingEdges (e ∷ es)
+ascends-cons e [] f h = tt
+ascends-cons e (d ∷ es) f h = (f d (inl refl), h)
 
 -- u with each of k numbers from a on
 row-in : (u a k : ℕ) (e : ℕ × ℕ) → In e (withLower u (upFrom a k)) → (e .0 ≡ u) × (a ≤ e .1) × (e .1 < a + k)
@@ -91,3 +95,57 @@ pairs-ascend n = among-ascends 0 n
 
 pub pairs-twice : (n : ℕ) → 2 * length (pairsOf n) ≡ n * (n - 1)
 pairs-twice n = among-twice 0 n
+
+-- ---- the pairs, one after the other
+
+-- the pairs from (u, v) on: those of u with v and with later vertices, then those among the vertices behind u
+unfoldable pub pairsFrom : ℕ → ℕ → ℕ → List (ℕ × ℕ)
+pairsFrom n u v = withLower u (upFrom v (n - v)) ++ pairsAmong (upFrom (suc u) (n - suc u))
+
+-- all pairs from (0, 1) on
+pub pairs-start : (n : ℕ) → pairsFrom n 0 1 ≡ pairsOf n
+unfolding pairsFrom withLower pairsAmong
+pairs-start zero = refl
+pairs-start (suc m) = let e : suc m - 1 ≡ m = omega arith in ap (λ (k : ℕ). withLower 0 (upFrom 1 k) ++ pairsAmong (upFrom 1 k)) e
+
+-- none is left when u is past the vertices
+pub pairs-end : (n u v : ℕ) → n ≤ u → u < v → pairsFrom n u v ≡ []
+unfolding pairsFrom withLower pairsAmong
+pairs-end n u v h l =
+    let a : n - v ≡ 0 = omega arith in
+    let b : n - suc u ≡ 0 = omega arith in
+    (λ i. withLower u (upFrom v (a i)) ++ pairsAmong (upFrom (suc u) (b i)))
+
+-- u has no later vertex left: the next comes
+pub pairs-row : (n u v : ℕ) → u < n → n ≤ v → pairsFrom n u v ≡ pairsFrom n (u + 1) (u + 1 + 1)
+unfolding pairsFrom withLower pairsAmong
+pairs-row n u v h l = ap (λ (k : ℕ). withLower u (upFrom v k) ++ pairsAmong (upFrom (suc u) (n - suc u))) a ∙ go (n - suc u) refl
+  where
+    a : n - v ≡ 0
+    a = omega arith
+
+    s : u + 1 ≡ suc u
+    s = omega arith
+
+    t : u + 1 + 1 ≡ suc (suc u)
+    t = omega arith
+
+    go : (k : ℕ) → n - suc u ≡ k → pairsAmong (upFrom (suc u) (n - suc u)) ≡ pairsFrom n (u + 1) (u + 1 + 1)
+    go zero e = ap (λ (k : ℕ). pairsAmong (upFrom (suc u) k)) e ∙ sym (pairs-end n (u + 1) (u + 1 + 1) (omega arith) (omega arith))
+    go (suc k) e =
+        let b : k ≡ n - suc (suc u) = omega arith in
+        ap (λ (j : ℕ). pairsAmong (upFrom (suc u) j)) e ∙ ap (λ (j : ℕ). withLower (suc u) (upFrom (suc (suc u)) j) ++ pairsAmong (upFrom (suc (suc u)) j)) b
+        ∙ (λ i. withLower (sym s i) (upFrom (sym t i) (n - sym t i)) ++ pairsAmong (upFrom (suc (sym s i)) (n - suc (sym s i))))
+
+-- the next pair
+pub pairs-next : (n u v : ℕ) → v < n → pairsFrom n u v ≡ (u, v) ∷ pairsFrom n u (v + 1)
+unfolding pairsFrom withLower
+pairs-next n u v h =
+    let a : n - v ≡ suc (n - suc v) = omega arith in
+    let s : suc v ≡ v + 1 = omega arith in
+    ap (λ (k : ℕ). withLower u (upFrom v k) ++ pairsAmong (upFrom (suc u) (n - suc u))) a
+    ∙ ap (λ (w : ℕ). (u, v) ∷ (withLower u (upFrom w (n - w)) ++ pairsAmong (upFrom (suc u) (n - suc u)))) s
+
+-- every proper pair comes after (0, 0)
+pub after-zeros : (e : ℕ × ℕ) → e .0 < e .1 → EdgeBefore (0, 0) e
+after-zeros e h = ⊎-elim (λ k. inr (sym k, omega arith)) (λ k. inl (omega arith)) (either (ℕ-discrete (e .0) 0))

@@ -1,4 +1,4 @@
--- The table of links: what one more and one fewer do to it. Assumes nothing.
+-- Rows as a table of pairs: what one more and one fewer do to it. Assumes nothing.
 use Prim.Native.Nat.{ℕ, _+_, _*_, _<_}
 use mathlib.Core.List.{List}
 use mathlib.Core.Bool.{Bool, true, false, not, _&&_, _||_, or-assoc}
@@ -11,10 +11,14 @@ use lib.ListN.{length, length-set}
 use borrow.Author.Tests.{eqb-true, eq-eqb, lt-ltb, ltb-true, not-true}
 use Rattle.vertexset.specs.Set.{has, withBit, withoutBit, capacity}
 use Rattle.vertexset.proofs.Laws.{has-insert, has-remove}
 use Rattle.graph.specs.Rows.{adjacentIn, rowWords, joined, joinedRows, partedRows}
 use Rattle.connectivity.proofs.Lists.{and-true, or-true, true-or, clash}
 use Rattle.connectivity.proofs.Paths.{SamePair}
-use Rattle.refinement.proofs.Tests.{same-test, samePair, pair-tells, both-true, left-true, false-of}
+use Rattle.graph.proofs.Tests.{same-test, samePair, pair-tells, both-true, left-true, false-of}
+
+-- two vertices that the rows have room for are joined
+pub joined-low : (rows : List ℕ) (u v : ℕ) → u < capacity → v < capacity → joinedRows rows u v ≡ joined rows (u, v)
+joined-low rows u v h k = rw (lt-ltb u capacity h, lt-ltb v capacity k)
 
 -- two places of the table
 place-same : (u v x y : ℕ) → v < capacity → y < capacity → eqb (u * capacity + v) (x * capacity + y) ≡ (eqb u x && eqb v y)
@@ -33,7 +37,7 @@ place-same u v x y h k = same-test _ _ there back
         let z : u * capacity + v ≡ x * capacity + y = rw (p, q) in
         eq-eqb _ _ z
 
--- within the limit the table has a place, past it no pair is linked
+-- within the limit the table has a place, past it no pair is joined
 abbrev pub Low : ℕ → ℕ → Type 0
 Low u v = (u < capacity) × (v < capacity)
 
@@ -94,7 +98,7 @@ module _ (T : List ℕ) (long : length T ≡ rowWords) (x y : ℕ) (h : Low x y)
   pub without-length : length (partedRows T x y) ≡ rowWords
   without-length = rw (lt-ltb x capacity (h .0), lt-ltb y capacity (h .1)) (simp length-set long)
 
-  -- one link more
+  -- one pair more
   linked-with : (u v : ℕ) → adjacentIn (joinedRows T x y) u v ≡ (adjacentIn T u v || samePair u v x y)
   linked-with = changed x y h _||_ refl T (joinedRows T x y) (λ i. rw (lt-ltb x capacity (h .0), lt-ltb y capacity (h .1)) (at i))
     where
@@ -104,7 +108,7 @@ module _ (T : List ℕ) (long : length T ≡ rowWords) (x y : ℕ) (h : Low x y)
           ap (λ (t : ℕ → Bool). t i) (has-insert U (y * capacity + x) (other-place U (simp length-set)))
           ∙ ap (λ (t : ℕ → Bool). t i || eqb i (y * capacity + x)) (has-insert T (x * capacity + y) first-place) ∙ or-assoc (has T i) (eqb i (x * capacity + y)) (eqb i (y * capacity + x))
 
-  -- one link fewer
+  -- one pair fewer
   linked-without : (u v : ℕ) → adjacentIn (partedRows T x y) u v ≡ (adjacentIn T u v && not (samePair u v x y))
   linked-without = changed x y h (λ t c. t && not c) refl T (partedRows T x y) (λ i. rw (lt-ltb x capacity (h .0), lt-ltb y capacity (h .1)) (at i))
     where

@@ -1,0 +1,5 @@
+pub mod Trying
+pub mod Near
+pub mod Walking
+pub mod Standing
+pub mod Test

@@ -1,0 +1,2 @@
+pub mod MendList
+pub mod Code
