@@ -10,7 +10,7 @@ use Rattle.record.specs.Read.{Bytes}
 use Rattle.record.specs.declared.Answer.{Answer}
 use Rattle.record.specs.declared.Answer.the-variants.{Grade}
 use Rattle.certifier.specs.declared.Made.{Made}
-use Rattle.certifier.specs.Made.{certificateRoom, made, madeFrom, filledFrom}
+use Rattle.certifier.specs.Made.{certificateRoom, madeFrom, filledFrom}
 use Rattle.certifier.proofs.Room.{made-within}
 use Rattle.lines.specs.Lines.{tooLong, refusalLine, inputLimit}
 use Rattle.certifybytes.specs.Bytes.{room, zeros, madeBytes, certifyBytes}

@@ -1,17 +1,12 @@
 -- How long all that is printed is. Assumes nothing.
-use Prim.Native.Nat.{ℕ, _+_, _*_, _≤_, _<_}
-use mathlib.Core.List.{List, [], _∷_, _++_}
-use mathlib.Core.Bool.{Bool, true, false, _&&_}
+use Prim.Native.Nat.{ℕ, _+_, _≤_}
+use mathlib.Core.List.{List, _++_}
 use mathlib.Core.Path.{_≡_, refl, ap}
 use native.Mathlib.Omega.{arith}
-use lib.Dec.{ltb}
 use lib.ListN.{length, length-append}
-use borrow.Author.Tests.{ltb-true}
-use Rattle.record.specs.Number.{numberBytes, listBytes}
-use Rattle.record.specs.Read.{Bytes, Each, Read, Read.Got, Read.Refused, ended}
+use Rattle.record.specs.Read.{Bytes, Read, Read.Got, Read.Refused, ended}
 use Rattle.record.specs.declared.Answer.the-variants.{Accepted, Grade}
-use Rattle.record.proofs.Write.{one-byte, few-bytes}
-use Rattle.reading.specs.Plan.{Plan, plan, proper, edgeBytes, planBytes, EdgeAllowed, Allowed}
+use Rattle.reading.specs.Plan.{Plan, plan}
 use Rattle.reading.specs.Code.{planRead}
 use Rattle.reading.proofs.Plans.{accepted}
 use Rattle.reading.proofs.Lengths.{plan-short}

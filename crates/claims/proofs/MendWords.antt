@@ -5,43 +5,28 @@ use mathlib.Core.Bool.{Bool, true, false, cond}
 use mathlib.Core.Path.{_≡_, refl, sym, ap, _∙_, subst}
 use mathlib.Core.Logic.{inl, inr, ⊎-map}
 use native.Mathlib.Omega.{arith}
-use lib.Dec.{leb, ltb}
+use lib.Dec.{ltb}
 use lib.ListN.{length}
-use borrow.Author.Tests.{leb-true, le-ltb}
 use Rattle.record.specs.Read.{Read, Read.Got, Read.Refused, Bytes, ended}
 use Rattle.record.specs.declared.Answer.{Answer}
 use Rattle.record.specs.declared.Answer.the-variants.{Grade}
-use Rattle.record.proofs.Laws.{ended-back}
 use Rattle.graph.specs.Limits.{maxEdges}
 use Rattle.reading.specs.Plan.{Plan, plan}
 use Rattle.reading.specs.Code.{planRead}
-use Rattle.reading.proofs.Plans.{plan-law}
 use Rattle.reading.proofs.Lengths.{plan-short}
 use Rattle.lines.specs.Lines.{inputLimit}
 use Rattle.mending.specs.declared.Mended.{Mended}
-use Rattle.mending.specs.Mend.{listOf, Records, refusal, recordsOf, recordsRead, recordsFrom, Outcome, wrote, tooShort, mendFrom}
+use Rattle.mending.specs.Mend.{listOf, Records, refusal, recordsOf, recordsRead, recordsFrom, mendFrom}
 use Rattle.fikzarn.specs.Words.{lengthsPlace, mendedWord}
 use Rattle.fikzarn.proofs.Words.{lengths-word}
-use Rattle.mending.proofs.Fits.{records-fit, mend-room, mend-short}
+use Rattle.mending.proofs.Fits.{records-fit, mend-either}
 use Rattle.mendbytes.proofs.Cases.{long-bytes, told-bytes}
 use Rattle.claims.specs.Answers as listed
 use Rattle.claims.specs.Answers.{OneOf}
-use Rattle.claims.specs.Certified.{IsPlan}
 use Rattle.claims.specs.Mending.{MendsWorded, MendsPrinted, MendAnswers}
 use Rattle.claims.proofs.Answers.{demand1-answers}
 use Rattle.claims.proofs.Exports.{byte-number, listed-fits, grade-decoded}
-
--- A MEND writes, or a buffer is too short
-module _ (P list mended certificate : List ℕ) (Q : Outcome → Type 0) (short : Q (tooShort list mended certificate)) (wide : Q (wrote (recordsFrom P) list mended certificate)) where
-  by-room : (a b c : Bool) → leb (length (recordsFrom P .list)) (length list) ≡ a → leb (length (recordsFrom P .mended)) (length mended) ≡ b
-      → leb (length (recordsFrom P .certificate)) (length certificate) ≡ c → Q (mendFrom P list mended certificate)
-  by-room true true true e f g = subst Q (sym (mend-room P list mended certificate (leb-true _ _ e) (leb-true _ _ f) (leb-true _ _ g))) wide
-  by-room false b c e f g = subst Q (sym (mend-short P list mended certificate (rw e))) short
-  by-room true false c e f g = subst Q (sym (mend-short P list mended certificate (rw (e, f)))) short
-  by-room true true false e f g = subst Q (sym (mend-short P list mended certificate (rw (e, f, g)))) short
-
-  mend-either : Q (mendFrom P list mended certificate)
-  mend-either = by-room _ _ _ refl refl refl
+use Rattle.claims.proofs.Mending.{the-records-mend}
 
 -- THE ANSWERS: the plan's faults, 32, or grade 3
 records-answer : (P : List ℕ) → OneOf listed.mendingAnswers (length P) 0 (recordsFrom P .answer)
@@ -57,7 +42,7 @@ records-answer P = go (ended plan P 0) (demand1-answers .reading P)
     go (Refused r q) h = (⊎-map (λ e. e) (λ e. inr (inr e)) (h .0), h .1)
 
 pub mend-answers : MendAnswers
-mend-answers P bytes list mended certificate =
+mend-answers P list mended certificate =
     mend-either P list mended certificate (λ o. OneOf listed.mendingAnswers (length P) 0 (o .answer .answer)) (inr (inl refl), omega arith) (records-answer P)
 
 -- THE WORD: three lengths of two bytes each
@@ -92,7 +77,7 @@ byte-grade P a {k} h e = byte-number (listed.mendingAnswers .grades) refl k (sub
 pub mends-worded : MendsWorded
 mends-worded P list mended certificate bytes =
     let m = mendFrom P list mended certificate .answer in
-    let a = mend-answers P bytes list mended certificate in
+    let a = mend-answers P list mended certificate in
     let b = two-bytes P list mended certificate bytes in
     record {
       answer = λ h. grade-decoded (lengthsPlace m) (m .answer) (listed-fits listed.mendingAnswers (length P) 0 refl refl refl h (omega arith) (m .answer) a);
@@ -101,16 +86,12 @@ mends-worded P list mended certificate bytes =
       in-certificate = λ k e. lengths-told m (byte-grade P (m .answer) a e) b e .2;
     }
 
--- THE BYTES. A plan that has room for its list is mended.
-graded : (P : List ℕ) (p : Plan) → IsPlan P p → length (p .edges) + length (listOf p) ≤ 512 → recordsFrom P .answer ≡ Grade 3
-unfolding recordsRead recordsOf
-graded P p i h = ap (λ (x : Read Plan). recordsRead x .answer) (ended-back plan-law {v = p} (i .bytes) (i .allowed)) ∙ rw (le-ltb maxEdges (length (p .edges) + length (listOf p)) h)
-
+-- THE BYTES
 pub mends-printed : MendsPrinted
-mends-printed P bytes = record {
+mends-printed P = record {
   records = λ p i h.
       let l : length P ≤ inputLimit = omega (arith, plan-short p (i .allowed), ap length (i .bytes)) in
-      sym (told-bytes P l (graded P p i h));
+      sym (told-bytes P l (ap (λ (s : List ℕ). recordsFrom s .answer) (i .bytes) ∙ the-records-mend p (i .allowed) h .answer));
   refusal = λ r q h e. sym (told-bytes P h e);
   long = λ h. sym (long-bytes P h);
 }

@@ -2,17 +2,17 @@
 use Prim.Native.Nat.{ℕ, zero, suc, _+_, _≤_, _<_}
 use mathlib.Core.List.{List, [], _∷_, _++_, reverse}
 use mathlib.Core.Path.{_≡_, refl, sym, ap, subst, fun-ext, _∙_}
-use mathlib.Core.Logic.{_⊎_, inl, inr, ⊎-elim, ⊎-map, _↔_}
-use mathlib.Core.Bool.{Bool, true, false, cond, not, _&&_, _||_, and-false, or-assoc, or-false}
+use mathlib.Core.Logic.{_⊎_, inl, inr, ⊎-elim, ⊎-map}
+use mathlib.Core.Bool.{Bool, true, false, cond, not, _||_, or-assoc, or-false}
 use native.Mathlib.Omega.{arith}
-use lib.Dec.{leb, ltb, eqb}
+use lib.Dec.{ltb, eqb}
 use lib.ListN.{length, take, drop}
 use lib.Seq.{take-at, drop-append-seam}
-use borrow.Author.Tests.{eqb-true, eq-eqb, lt-ltb, le-ltb, lt-leb, not-true}
-use Rattle.record.specs.Read.{Read, Read.Got, Read.Refused, Bytes, ended}
+use borrow.Author.Tests.{eqb-true, eq-eqb, lt-ltb, le-ltb, not-true}
+use Rattle.record.specs.Read.{Read, Read.Got, Read.Refused, ended}
 use Rattle.record.specs.Write.{overwritten}
 use Rattle.record.specs.declared.Answer.{Answer}
-use Rattle.record.specs.declared.Answer.the-variants.{Accepted, Grade, PlanFault}
+use Rattle.record.specs.declared.Answer.the-variants.{Grade, PlanFault}
 use Rattle.record.proofs.Laws.{ended-back}
 use Rattle.connectivity.specs.Lists.{In, select}
 use Rattle.connectivity.specs.Graph.{Graph, Simple, isPair, listed, fromEdges, HasConnectivity}
@@ -23,25 +23,26 @@ use Rattle.connectivity.proofs.Closure.{has-connectivity, connectivity-is}
 use Rattle.graph.specs.Limits.{maxEdges}
 use Rattle.graph.proofs.Tests.{same-test}
 use Rattle.reading.specs.Plan.{Plan, Allowed, plan, planBytes, follows}
-use Rattle.reading.specs.Code.{graphOf, wholePlan, planRead}
+use Rattle.reading.specs.Code.{graphOf, planRead}
 use Rattle.reading.proofs.Plans.{plan-law}
 use Rattle.reading.proofs.Doubles.{plan-simple}
 use Rattle.counting.proofs.Tally.{connectivity-most, one}
 use Rattle.counting.proofs.Grading.{kind-connectivity}
 use Rattle.checker.specs.Check.{planGraph, checkOf}
-use Rattle.certifier.specs.Made.{gradeMade, made, lengthFrom, recordFrom}
+use Rattle.certifier.specs.declared.Made.{Made}
+use Rattle.certifier.specs.Made.{gradeMade, made, lengthFrom, recordFrom, madeFrom, filledFrom}
+use Rattle.certifier.proofs.Room.{same-length, made-room}
 use Rattle.striking.specs.MendList.{missing, withPairs, mendList}
 use Rattle.striking.proofs.Remaining.{with-simple, remaining-none}
 use Rattle.striking.proofs.Struck.{proposed-low, list-low, list-new, list-ascends, list-least}
-use Rattle.mending.specs.declared.Mended.{Mended}
-use Rattle.mending.specs.Mend.{mergedInto, merged, listOf, listPlan, mendedPlan, Records, refusal, recordsOf, recordsRead, recordsFrom, haveRoom, Outcome, wrote, tooShort, mendFrom}
+use Rattle.mending.specs.Mend.{mergedInto, merged, listOf, listPlan, mendedPlan, Records, refusal, mendRecords, recordsOf, recordsRead, recordsFrom, Outcome, wrote, mendFrom}
 use Rattle.mending.proofs.Decided.{list-allowed, mended-allowed}
-use Rattle.mending.proofs.Fits.{mend-short, mend-fits, mend-room}
+use Rattle.mending.proofs.Fits.{one-short, mend-short, mend-room, mend-either}
 use Rattle.mending.proofs.Listed.{list-right}
 use Rattle.claims.specs.Certified.{IsPlan, HasFigure}
 use Rattle.claims.proofs.Demands.{figure-computed}
 use Rattle.claims.proofs.Maker.{made-accepted, length-at, record-at}
-use Rattle.claims.specs.Mending.{leftOut, times, ListMends, ListsMend, RecordsMend, TheRecordsMend, MendRefuses, RefusedMends, Begins, MendWrites, WrittenMends}
+use Rattle.claims.specs.Mending.{leftOut, times, StillThree, ListMends, ListsMend, Begins, RecordsMend, TheRecordsMend, RefusedMends, MendWrites, WrittenMends}
 
 -- ---- the list
 
@@ -79,7 +80,7 @@ module _ (p : Plan) (a : Allowed p) where
       let t = list-least G simple .tight e m l low (λ d i. let r = select-in (λ d. not (isPair e (d .0) (d .1))) (listOf p) d i in (r .0, λ j. clash (same-pair e d j) (not-true (isPair e (d .0) (d .1)) (r .1)))) in
       omega (arith, c, most, ap connectivity (append-graph (p .n) (p .edges) l), t)
 
-  pub list-mends : ListMends p
+  list-mends : ListMends p
   unfolding mendList
   list-mends = record {
     with-all = subst (λ (g : Graph). HasConnectivity g 3) (sym (append-graph (p .n) (p .edges) (listOf p))) (connectivity-is (withPairs G (listOf p)) (with-simple G simple (listOf p) (list-low G simple)) 3 (sym (list-least G simple .good)));
@@ -93,26 +94,26 @@ module _ (p : Plan) (a : Allowed p) where
 pub lists-mend : ListsMend
 lists-mend = list-mends
 
+pub still-three : StillThree
+still-three p a l low = (
+  (λ e. connectivity-is (withPairs (G p a) l) (with-simple (G p a) (simple p a) l low) 3 (sym (eqb-true _ 3 e))),
+  λ h. eq-eqb _ 3 (sym (has-connectivity (withPairs (G p a) l) (with-simple (G p a) (simple p a) l low) 3 h)),
+)
+
 -- ---- refusals and what is written
 
--- where a record has room
+begun : (buffer bytes : List ℕ) → Begins buffer bytes (overwritten buffer 0 bytes) (length bytes)
+begun buffer bytes =
+    let e : overwritten buffer 0 bytes ≡ bytes ++ drop (length bytes) buffer = let z : 0 + length bytes ≡ length bytes = omega arith in ap (λ (k : ℕ). bytes ++ drop k buffer) z in
+    record {
+      count = refl;
+      front = ap (take (length bytes)) e ∙ take-at bytes (drop (length bytes) buffer) (length bytes) refl;
+      behind = ap (drop (length bytes)) e ∙ drop-append-seam bytes (drop (length bytes) buffer);
+    }
+
 module _ (P list mended certificate : List ℕ) where
   abbrev x : Records
   x = recordsFrom P
-
-  one-short : (length list < length (x .list)) ⊎ ((length mended < length (x .mended)) ⊎ (length certificate < length (x .certificate))) → haveRoom x list mended certificate ≡ false
-  one-short (inl h) = rw (lt-leb (length (x .list)) (length list) h)
-  one-short (inr (inl h)) = rw (lt-leb (length (x .mended)) (length mended) h) (and-false (leb (length (x .list)) (length list)))
-  one-short (inr (inr h)) = rw (lt-leb (length (x .certificate)) (length certificate) h, and-false (leb (length (x .mended)) (length mended))) (and-false (leb (length (x .list)) (length list)))
-
-  begun : (buffer bytes : List ℕ) → Begins buffer bytes (overwritten buffer 0 bytes) (length bytes)
-  begun buffer bytes =
-      let e : overwritten buffer 0 bytes ≡ bytes ++ drop (length bytes) buffer = let z : 0 + length bytes ≡ length bytes = omega arith in ap (λ (k : ℕ). bytes ++ drop k buffer) z in
-      record {
-        count = refl;
-        front = ap (take (length bytes)) e ∙ take-at bytes (drop (length bytes) buffer) (length bytes) refl;
-        behind = ap (drop (length bytes)) e ∙ drop-append-seam bytes (drop (length bytes) buffer);
-      }
 
   pub written : length (x .list) ≤ length list → length (x .mended) ≤ length mended → length (x .certificate) ≤ length certificate → MendWrites P list mended certificate
   written a b c =
@@ -132,10 +133,7 @@ refused-none : (y : Read Plan) (r q : ℕ) → recordsRead y .answer ≡ PlanFau
 unfolding recordsRead recordsOf
 refused-none (Got p next) r q e = go (ltb maxEdges (length (p .edges) + length (listOf p))) e
   where
-    full : Records
-    full = record { answer = Grade 3; list = planBytes (listPlan p); mended = planBytes (mendedPlan p); certificate = recordFrom (planBytes (mendedPlan p)) }
-
-    go : (b : Bool) → cond b (refusal 32 0) full .answer ≡ PlanFault r q → cond b (refusal 32 0) full ≡ refusal r q
+    go : (b : Bool) → cond b (refusal 32 0) (mendRecords p) .answer ≡ PlanFault r q → cond b (refusal 32 0) (mendRecords p) ≡ refusal r q
     go true k = ap (λ (a : Answer). record { answer = a; list = []; mended = []; certificate = [] }) k
     go false k = let z : _≡_ {A = ℕ} 0 1 = cc in absurd (omega arith)
 refused-none (Refused r' q') r q e = ap (λ (a : Answer). record { answer = a; list = []; mended = []; certificate = [] }) e
@@ -147,7 +145,7 @@ fault-read (Got p next) r q e = let z : _≡_ {A = ℕ} 0 1 = cc in absurd (omeg
 fault-read (Refused r' q') r q e = ap (λ (a : Answer). record { answer = a; list = []; mended = []; certificate = [] }) e
 
 -- what is read of an allowed plan's record
-pub read-records : (p : Plan) → Allowed p → recordsFrom (planBytes p) ≡ recordsOf p
+read-records : (p : Plan) → Allowed p → recordsFrom (planBytes p) ≡ recordsOf p
 unfolding recordsRead
 read-records p a = ap recordsRead (ended-back plan-law {v = p} refl a)
 
@@ -158,30 +156,13 @@ module _ (P list mended certificate : List ℕ) where
       (subst (λ (y : Records). length (y .list) ≤ length list) (sym e) (omega arith)) (subst (λ (y : Records). length (y .mended) ≤ length mended) (sym e) (omega arith)) (subst (λ (y : Records). length (y .certificate) ≤ length certificate) (sym e) (omega arith)))
       ∙ ap (λ (y : Records). y .answer) e
 
+  -- as they were, and nothing written
   abbrev Same : Outcome → Type 0
-  Same o = (o .list ≡ list) × (o .mended ≡ mended) × (o .certificate ≡ certificate)
+  Same o = (o .list ≡ list) × (o .mended ≡ mended) × (o .certificate ≡ certificate) × (o .answer .list ≡ 0) × (o .answer .mended ≡ 0) × (o .answer .certificate ≡ 0)
 
   kept : (r q : ℕ) → mendFrom P list mended certificate .answer .answer ≡ PlanFault r q → Same (mendFrom P list mended certificate)
-  kept r q e = go (haveRoom (recordsFrom P) list mended certificate) refl
-    where
-      go : (b : Bool) → haveRoom (recordsFrom P) list mended certificate ≡ b → Same (mendFrom P list mended certificate)
-      go false k = subst Same (sym (mend-short P list mended certificate k)) (refl, refl, refl)
-      go true k =
-          let w = mend-fits P list mended certificate k in
-          let n = refused-none (ended plan P 0) r q (ap (λ (o : Outcome). o .answer .answer) (sym w) ∙ e) in
-          subst Same (sym (w ∙ ap (λ (y : Records). wrote y list mended certificate) n)) (refl, refl, refl)
-
-pub refused-mends : RefusedMends
-unfolding recordsOf
-refused-mends P list mended certificate bp = record {
-  fault = λ r q e. refused-answer P list mended certificate r q (fault-read (ended plan P 0) r q e);
-  too-many = λ p i h. refused-answer P list mended certificate 32 0 (ap recordsFrom (i .bytes) ∙ read-records p (i .allowed) ∙ many p h);
-  too-short = λ p i h s. ap (λ (o : Outcome). o .answer .answer) (mend-short P list mended certificate (one-short P list mended certificate s));
-  kept = kept P list mended certificate;
-}
-  where
-    many : (p : Plan) → 512 < length (p .edges) + length (listOf p) → recordsOf p ≡ refusal 32 0
-    many p h = rw (lt-ltb maxEdges (length (p .edges) + length (listOf p)) h)
+  kept r q = mend-either P list mended certificate (λ o. o .answer .answer ≡ PlanFault r q → Same o) (λ e. (refl, refl, refl, refl, refl, refl))
+      (λ e. subst (λ (y : Records). Same (wrote y list mended certificate)) (sym (refused-none (ended plan P 0) r q e)) (refl, refl, refl, refl, refl, refl))
 
 -- ---- the three records
 
@@ -262,7 +243,7 @@ module _ (p : Plan) (a : Allowed p) (h : length (p .edges) + length (listOf p) �
   allowed : Allowed M
   allowed = mended-allowed list-right p a h
 
-  pub records-are : recordsFrom (planBytes p) ≡ record { answer = Grade 3; list = planBytes (listPlan p); mended = planBytes M; certificate = recordFrom (planBytes M) }
+  records-are : recordsFrom (planBytes p) ≡ mendRecords p
   unfolding recordsOf
   records-are = read-records p a ∙ rw (le-ltb maxEdges (length (p .edges) + length (listOf p)) h)
 
@@ -273,11 +254,20 @@ module _ (p : Plan) (a : Allowed p) (h : length (p .edges) + length (listOf p) �
   unfolding graphOf
   grade = kind-connectivity M allowed ∙ sym (figure-computed M allowed 3 .0 figure)
 
+  -- what the maker leaves in a buffer that is long enough
+  makers : (buffer : List ℕ) → length (recordFrom (planBytes M)) ≤ length buffer → Begins buffer (recordFrom (planBytes M)) (filledFrom (planBytes M) buffer) (madeFrom (planBytes M) buffer .length)
+  makers buffer l =
+      let r = made-room (planBytes M) buffer (omega (arith, same-length (planBytes M))) in
+      let n : madeFrom (planBytes M) buffer .length ≡ length (recordFrom (planBytes M)) = ap (λ (m : Made). m .length) (r .0) ∙ sym (same-length (planBytes M)) in
+      subst (λ (k : ℕ). Begins buffer (recordFrom (planBytes M)) (filledFrom (planBytes M) buffer) k) (sym n)
+      (subst (λ (b : List ℕ). Begins buffer (recordFrom (planBytes M)) b (length (recordFrom (planBytes M)))) (sym (r .1)) (begun buffer (recordFrom (planBytes M))))
+
   abbrev Good : Records → Type 0
   Good x = (x .answer ≡ Grade 3) × (IsPlan (x .list) (listPlan p)) × (IsPlan (x .mended) M) × (HasFigure (x .mended) 3)
       × (lengthFrom (x .mended) ≡ made (Grade 3) (length (x .certificate))) × (checkOf (x .mended) (x .certificate) ≡ Grade 3)
+      × ((buffer : List ℕ) → length (x .certificate) ≤ length buffer → Begins buffer (x .certificate) (filledFrom (x .mended) buffer) (madeFrom (x .mended) buffer .length))
 
-  good : Good (record { answer = Grade 3; list = planBytes (listPlan p); mended = planBytes M; certificate = recordFrom (planBytes M) })
+  good : Good (mendRecords p)
   good = (
     refl,
     record { allowed = list-allowed list-right p a (omega arith); bytes = refl },
@@ -285,12 +275,30 @@ module _ (p : Plan) (a : Allowed p) (h : length (p .edges) + length (listOf p) �
     record { plan = M; is-plan = record { allowed = allowed; bytes = refl }; figure = figure },
     length-at M allowed ∙ (λ i. made (Grade (grade i)) (length (sym (record-at M allowed) i))),
     ap (checkOf (planBytes M)) (record-at M allowed) ∙ made-accepted M allowed ∙ ap Grade grade,
+    makers,
   )
 
-  pub records-mend : RecordsMend p
+  records-mend : RecordsMend p
   records-mend =
       let g = subst Good (sym records-are) good in
-      record { answer = g .0; list = g .1; mended = g .2; cables = λ e. merged-times e (p .edges) (listOf p); figure = g .3; makers = g .4; accepted = g .5 }
+      record { answer = g .0; list = g .1; mended = g .2; edges = λ e. merged-times e (p .edges) (listOf p); figure = g .3; graded = g .4; accepted = g .5; makers = g .6 }
 
 pub the-records-mend : TheRecordsMend
 the-records-mend = records-mend
+
+-- ---- refusals
+
+-- plan and list together have more than 512 cables
+many : (p : Plan) → Allowed p → 512 < length (p .edges) + length (listOf p) → recordsFrom (planBytes p) ≡ refusal 32 0
+unfolding recordsOf
+many p a h = read-records p a ∙ rw (lt-ltb maxEdges (length (p .edges) + length (listOf p)) h)
+
+pub refused-mends : RefusedMends
+refused-mends P list mended certificate = record {
+  fault = λ r q e. refused-answer P list mended certificate r q (fault-read (ended plan P 0) r q e);
+  too-many = λ p i h. refused-answer P list mended certificate 32 0 (ap recordsFrom (i .bytes) ∙ many p (i .allowed) h);
+  too-short = λ p i h s. ap (λ (o : Outcome). o .answer .answer) (mend-short P list mended certificate (one-short P list mended certificate s));
+  enough = λ p i h a b c. written P list mended certificate a b c .answer ∙ ap (λ (s : List ℕ). recordsFrom s .answer) (i .bytes) ∙ records-mend p (i .allowed) h .answer;
+  kept = λ r q e. let k = kept P list mended certificate r q e in (k .0, k .1, k .2);
+  nothing-told = λ r q e. let k = kept P list mended certificate r q e in (k .3, k .4, k .5);
+}

@@ -72,8 +72,8 @@ abbrev pub PlanFaultsFirst : Type 0
 PlanFaultsFirst = (P C : List ℕ) (r q : ℕ) → (checkOf P C ≡ PlanFault r q) ↔ (wholePlan P .answer ≡ PlanFault r q)
 
 -- "a refused maker writes no byte". A plan's fault comes first. "Number 30 now means that the buffer is shorter than that certificate, and is
--- given for nothing else.": it is given, at 0, exactly where the plan is accepted and the buffer shorter than its certificate; and of all calls the
--- maker gives it alone (`Demand1Answers`), and since request 6 mending, for its three buffers (`RefusedMends`).
+-- given for nothing else.": it is given, at 0, exactly where the plan is accepted and the buffer shorter than its certificate; and of all calls only the
+-- maker (`Demand1Answers`) and, since request 6, mending, for its three buffers (`RefusedMends`), give it.
 pub record MakerRefuses (P buffer : List ℕ) : Type 0 where
   pub kept : (r q : ℕ) → madeFrom P buffer .answer ≡ PlanFault r q → (filledFrom P buffer ≡ buffer) × (madeFrom P buffer .length ≡ 0)
   pub fault : (r q : ℕ) → wholePlan P .answer ≡ PlanFault r q → madeFrom P buffer .answer ≡ PlanFault r q

@@ -1,6 +1,6 @@
 -- How a set of pairs is found by its number, pair after pair. Assumes nothing.
 use Prim.Native.Nat.{ℕ, zero, suc, _+_, _-_, _*_, _/_, _%_, _^_, _≤_, _<_}
-use mathlib.Core.List.{List, [], _∷_, _++_, map}
+use mathlib.Core.List.{List, [], _∷_, map}
 use mathlib.Core.Path.{_≡_, refl, sym, ap, subst, _∙_}
 use native.Mathlib.Omega.{arith}
 use lib.Dec.{lit<}
@@ -10,7 +10,6 @@ use borrow.Author.Tests.{lt-ltb}
 use Rattle.record.specs.Read.{folded}
 use Rattle.vertexset.specs.Set.{capacity}
 use Rattle.graph.specs.Rows.{joined, joinedRows}
-use Rattle.connectivity.specs.Lists.{upFrom}
 use Rattle.reading.proofs.Pairs.{pairsFrom, pairs-start, pairs-end, pairs-row, pairs-next}
 use Rattle.counting.specs.Counts.{withLower, pairsAmong, pairsOf, setsOf, minSize, maxSize}
 use Rattle.counting.proofs.Sets.{sets-twice, sets-count}

@@ -32,7 +32,7 @@ connectivity-three g p a =
     sym (has-connectivity g p 3 (has-3 g (no-separator-0 g (all-connected-0 g p one)) (no-separator-1 g one) (no-separator-2 g a)))
 
 -- a set has a member that a list of fewer has not
-pub member-beside : (s : VertexSet) → Sized s → (l : List ℕ) → length l < count (s .words) → (y : ℕ) × On s y × (¬ In y l)
+member-beside : (s : VertexSet) → Sized s → (l : List ℕ) → length l < count (s .words) → (y : ℕ) × On s y × (¬ In y l)
 member-beside s z l h =
     let r = beside (members s) l (members-nodup s) (subst (λ (k : ℕ). length l < k) (sym (members-count s z)) h) in
     (r .0, members-in s (r .0) (r .1), r .2)

@@ -26,7 +26,7 @@ use Rattle.local.specs.Withstands.{between, withstands}
 -- a list stands in an array, and what is left of it from place i on gives the answer
 pub record Trying (test : ℕ → Bool) (l : List ℕ) (answer : Bool) (vertices : List ℕ) (count i : ℕ) : Type 0 where
   pub array : vertices ≡ padded pathRoom l
-  pub all-of : count ≡ length l
+  all-of : count ≡ length l
   pub short : length l ≤ pathRoom
   pub low : i ≤ count
   pub left : all test (drop i l) ≡ answer

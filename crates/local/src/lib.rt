@@ -7,7 +7,7 @@ use vertexset::VertexSet;
 
 // Whether u and v are connected without the removed vertices and without any k more. A path that is found stands unless one of its inner
 // vertices goes, so only these are tried.
-pub fn withstands(
+fn withstands(
     rows: &[u64; GraphTable::ROW_WORDS],
     u: u16,
     v: u16,

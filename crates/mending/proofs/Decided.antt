@@ -1,8 +1,8 @@
 -- What is decided of a plan record: its refusal, or the list and the mended plan, which are plans. Assumes nothing.
 use Prim.Native.Nat.{ℕ, _+_, _-_, _<_, _≤_}
 use mathlib.Core.List.{List, [], _∷_}
-use mathlib.Core.Bool.{Bool, true, false}
-use mathlib.Core.Path.{_≡_, refl, sym, ap, subst, _∙_}
+use mathlib.Core.Bool.{false}
+use mathlib.Core.Path.{_≡_, sym, ap, subst, _∙_}
 use mathlib.Core.Logic.{inl, inr}
 use native.Mathlib.Omega.{arith}
 use types.Run.{OneOf}
@@ -10,13 +10,13 @@ use denote.Enum.Declared.{tagOf}
 use lib.Dec.{ltb}
 use lib.ListN.{length}
 use lib.Seq.{take-all}
-use borrow.Author.Tests.{ltb-true, ltb-false, lt-ltb, le-ltb}
+use borrow.Author.Tests.{lt-ltb, le-ltb}
 use Rattle.record.specs.Read.{Read, Read.Got, Read.Refused, Bytes, ended}
 use Rattle.record.specs.declared.Answer.the-variants.{Accepted, Grade}
 use Rattle.record.proofs.Answer.{the-type}
 use Rattle.record.proofs.Laws.{ended-back}
 use Rattle.connectivity.specs.Lists.{In}
-use Rattle.connectivity.proofs.Edges.{EdgeBefore, AscendingEdges}
+use Rattle.connectivity.proofs.Edges.{AscendingEdges}
 use Rattle.graph.specs.Limits.{maxEdges}
 use Rattle.reading.specs.Plan.{Plan, plan, Allowed, planBytes}
 use Rattle.reading.specs.Code.{graphOf, endsArray, tableOf, planRead, wholePlan}

@@ -4,7 +4,6 @@ use mathlib.Core.Path.{_≡_}
 use mathlib.Core.List.{List, [], _∷_}
 use mathlib.Core.Bool.{Bool, true, false}
 use lib.ListN.{length, take}
-use Rattle.record.specs.declared.Answer.{Answer}
 use Rattle.search.specs.Arrays.{padded}
 use Rattle.reading.specs.Plan.{Plan, follows}
 use Rattle.reading.specs.Code.{planRoom}

@@ -24,7 +24,7 @@ unfoldable pub merged : List (ℕ × ℕ) → List (ℕ × ℕ) → List (ℕ ×
 merged [] ms = ms
 merged (e ∷ es) ms = mergedInto e (merged es) ms
 
--- the list as a plan, and the mended plan: the plan's cables, doubles kept, and the list's, in cable order
+-- the list as a plan, and the mended plan: the plan's edges, doubles kept, and the list's, in cable order
 abbrev pub listOf : Plan → List (ℕ × ℕ)
 listOf p = mendList (fromEdges (p .n) (p .edges))
 
@@ -45,12 +45,12 @@ pub record Records : Type 0 where
 abbrev pub refusal : ℕ → ℕ → Records
 refusal r q = record { answer = PlanFault r q; list = []; mended = []; certificate = [] }
 
+abbrev pub mendRecords : Plan → Records
+mendRecords p = record { answer = Grade 3; list = planBytes (listPlan p); mended = planBytes (mendedPlan p); certificate = recordFrom (planBytes (mendedPlan p)) }
+
 -- "When plan and list together exceed 512 cables, number 32 at place 0 is given after all plan faults"
 unfoldable pub recordsOf : Plan → Records
-recordsOf p =
-    cond (ltb maxEdges (length (p .edges) + length (listOf p)))
-    (refusal 32 0)
-    (record { answer = Grade 3; list = planBytes (listPlan p); mended = planBytes (mendedPlan p); certificate = recordFrom (planBytes (mendedPlan p)) })
+recordsOf p = cond (ltb maxEdges (length (p .edges) + length (listOf p))) (refusal 32 0) (mendRecords p)
 
 unfoldable pub recordsRead : Read Plan → Records
 recordsRead (Got p next) = recordsOf p

@@ -1,7 +1,7 @@
 -- Tests and what they tell. Assumes nothing.
 use Prim.Native.Nat.{ℕ}
 use mathlib.Core.List.{List, [], _∷_}
-use mathlib.Core.Bool.{Bool, true, false, not, _&&_, _||_}
+use mathlib.Core.Bool.{Bool, true, not, _||_}
 use mathlib.Core.Path.{_≡_, refl, ap, _∙_}
 use mathlib.Core.Logic.{inl, inr, ⊎-elim, ⊎-map, _↔_}
 use lib.Dec.{eqb}
@@ -9,7 +9,7 @@ use borrow.Author.Tests.{eqb-true, eq-eqb, not-true}
 use Rattle.connectivity.specs.Lists.{In, NoDup, member}
 use Rattle.connectivity.specs.Path.{Path, vertices, End}
 use Rattle.connectivity.specs.Build.{InBuild, IsBranch}
-use Rattle.connectivity.proofs.Lists.{and-true, or-true, true-or, bool?, clash, member-in, in-member, member-out}
+use Rattle.connectivity.proofs.Lists.{and-true, or-true, true-or, clash, member-in, in-member, member-out}
 pub use Rattle.graph.proofs.Tests.{same-test, iff-test, false-of, both-true, left-true, samePair, pair-tells}
 use Rattle.certificates.specs.Tests.{anyLink, each, distinct, inBuild, isBranch}
 

@@ -47,14 +47,14 @@ rows-turned n a (suc k) e =
     ∙ ap (λ (l : List (ℕ × ℕ)). l ++ rowsBack n a) (sym (reverse-append (withLower a (upFrom (suc a) k)) (pairsAmong (upFrom (suc a) k))))
 
 -- ALL PAIRS, FROM THE LAST TO THE FIRST
-pub back-start : (n : ℕ) → pairsBack n n n ≡ reverse (pairsOf n)
+back-start : (n : ℕ) → pairsBack n n n ≡ reverse (pairsOf n)
 unfolding pairsBack rowBack rowsBack
 back-start n =
     let z : n - suc n ≡ 0 = omega arith in
     ap (λ (k : ℕ). rowBack n (suc n) k ++ rowsBack n n) z ∙ rows-turned n 0 n (omega arith) ∙ append-nil (reverse (pairsOf n))
 
 -- the next pair
-pub back-next : (n u v : ℕ) → u + 1 < v → pairsBack n u v ≡ (u, v - 1) ∷ pairsBack n u (v - 1)
+back-next : (n u v : ℕ) → u + 1 < v → pairsBack n u v ≡ (u, v - 1) ∷ pairsBack n u (v - 1)
 unfolding pairsBack rowBack
 back-next n u v h =
     let z : v - suc u ≡ suc (v - 1 - suc u) = omega arith in
@@ -62,7 +62,7 @@ back-next n u v h =
     ap (λ (k : ℕ). rowBack u (suc u) k ++ rowsBack n u) z ∙ ap (λ (b : ℕ). (u, b) ∷ pairsBack n u (v - 1)) w
 
 -- u has no vertex left: the one below it comes
-pub back-row : (n u v : ℕ) → v ≤ u + 1 → 0 < u → pairsBack n u v ≡ pairsBack n (u - 1) n
+back-row : (n u v : ℕ) → v ≤ u + 1 → 0 < u → pairsBack n u v ≡ pairsBack n (u - 1) n
 unfolding pairsBack rowBack rowsBack
 back-row n u v h l =
     let z : v - suc u ≡ 0 = omega arith in
@@ -70,7 +70,7 @@ back-row n u v h l =
     ap (λ (k : ℕ). rowBack u (suc u) k ++ rowsBack n u) z ∙ ap (rowsBack n) w
 
 -- none is left
-pub back-end : (n u v : ℕ) → v ≤ u + 1 → u ≡ 0 → pairsBack n u v ≡ []
+back-end : (n u v : ℕ) → v ≤ u + 1 → u ≡ 0 → pairsBack n u v ≡ []
 unfolding pairsBack rowBack rowsBack
 back-end n u v h e =
     let z : v - suc u ≡ 0 = omega arith in

@@ -1,14 +1,13 @@
 -- The pairs of n vertices taken in one after the other, in cable order. Assumes nothing.
-use Prim.Native.Nat.{ℕ, zero, suc, _+_, _≤_, _<_}
+use Prim.Native.Nat.{ℕ, _+_, _≤_, _<_}
 use mathlib.Core.List.{List}
-use mathlib.Core.Path.{_≡_, refl, sym, ap, _∙_}
+use mathlib.Core.Path.{_≡_, sym, ap, _∙_}
 use native.Mathlib.Omega.{arith}
-use borrow.Author.Tests.{lt-ltb}
 use Rattle.record.specs.Read.{folded}
 use Rattle.vertexset.specs.Set.{capacity}
 use Rattle.graph.specs.Rows.{joined, joinedRows}
 use Rattle.graph.proofs.Table.{joined-low}
-use Rattle.reading.specs.Pairs.{withLower, pairsAmong, pairsOf}
+use Rattle.reading.specs.Pairs.{pairsOf}
 use Rattle.reading.proofs.Pairs.{pairsFrom, pairs-start, pairs-end, pairs-row, pairs-next}
 
 -- the rows, with the pairs from (u, v) on joined, are those asked for

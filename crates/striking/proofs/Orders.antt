@@ -1,11 +1,10 @@
 -- Lists of pairs that ascend or descend. Assumes nothing.
-use Prim.Native.Nat.{ℕ, _<_}
+use Prim.Native.Nat.{ℕ}
 use mathlib.Core.Path.{_≡_, refl, sym, ap, subst, _∙_}
 use mathlib.Core.Logic.{_⊎_, inl, inr, ⊎-elim}
 use mathlib.Core.Bool.{Bool, true, false, cond}
 use mathlib.Core.List.{List, [], _∷_, _++_, reverse, reverse-cons, append-nil}
-use native.Mathlib.Omega.{arith}
-use Rattle.connectivity.specs.Lists.{In, NoDup, select}
+use Rattle.connectivity.specs.Lists.{In, select}
 use Rattle.connectivity.proofs.Lists.{in-append, in-left, in-right, in-single, select-in}
 use Rattle.connectivity.proofs.Edges.{EdgeBefore, AscendingEdges, before-not, ascending-after}
 use Rattle.reading.proofs.Doubles.{ascends-on}
@@ -59,14 +58,6 @@ select-ascends t (e ∷ l) h = go (t e) (select-ascends t l (ascends-on e l h))
   where
     go : (b : Bool) → AscendingEdges (select t l) → AscendingEdges (cond b (e ∷ select t l) (select t l))
     go true r = ascends-cons e (select t l) (λ d m. ascending-after e l h d (select-in t l d m .0)) r
-    go false r = r
-
-pub select-descends : (t : ℕ × ℕ → Bool) (l : List (ℕ × ℕ)) → Descending l → Descending (select t l)
-select-descends t [] h = tt
-select-descends t (e ∷ l) h = go (t e) (select-descends t l (h .1))
-  where
-    go : (b : Bool) → Descending (select t l) → Descending (cond b (e ∷ select t l) (select t l))
-    go true r = ((λ d m. h .0 d (select-in t l d m .0)), r)
     go false r = r
 
 -- no pair comes before itself

@@ -1,24 +1,22 @@
 -- The rows at work while pairs are struck out, and THE LIST THAT THE CODE MAKES IS THE LIST OF THE DEFINITION. Assumes nothing.
-use Prim.Native.Nat.{ℕ, _<_, _≤_}
+use Prim.Native.Nat.{ℕ, _<_}
 use mathlib.Core.Path.{_≡_, refl, sym, ap, subst, fun-ext, _∙_}
-use mathlib.Core.Logic.{_⊎_, _≢_, inl, inr, ⊎-elim, ⊎-map, _↔_}
-use mathlib.Core.Bool.{Bool, true, false, cond, not, _&&_, _||_}
+use mathlib.Core.Logic.{_⊎_, inl, inr, ⊎-elim, ⊎-map, _↔_}
+use mathlib.Core.Bool.{Bool, true, false, cond, not, _||_}
 use mathlib.Core.List.{List, [], _∷_, _++_, reverse, append-nil}
 use native.Mathlib.Omega.{arith}
 use native.Mathlib.Decide.{ℕ-discrete, decLt}
-use lib.Dec.{eqb, ltb}
 use lib.ListN.{length}
 use borrow.Author.Tests.{eqb-true, le-ltb, not-true}
 use Rattle.record.specs.Read.{folded}
 use Rattle.vertexset.specs.Set.{Words, capacity}
-use Rattle.graph.specs.Rows.{rowWords, adjacentIn, joined, joinedRows, partedRows, rowsGraph}
+use Rattle.graph.specs.Rows.{rowWords, adjacentIn, joinedRows, partedRows, rowsGraph}
 use Rattle.graph.proofs.Tests.{iff-test, both-true, left-true, false-of}
 use Rattle.graph.proofs.Table.{with-length, without-length, with-tells, without-tells}
-use Rattle.connectivity.specs.Lists.{In, NoDup, select}
+use Rattle.connectivity.specs.Lists.{In, select}
 use Rattle.connectivity.specs.Graph.{Graph, Adj, Simple, Walk, stay, hop, listed, fromEdges}
-use Rattle.connectivity.specs.Connectivity.{connectivity}
-use Rattle.connectivity.proofs.Lists.{in-append, in-left, in-right, or-true, true-or, and-true, bool?, clash, select-in, in-select, either}
-use Rattle.connectivity.proofs.Edges.{EdgeBefore, AscendingEdges, listed-in, in-listed}
+use Rattle.connectivity.proofs.Lists.{in-append, in-left, or-true, true-or, and-true, bool?, clash, select-in, in-select}
+use Rattle.connectivity.proofs.Edges.{AscendingEdges, listed-in, in-listed}
 use Rattle.connectivity.proofs.Paths.{SamePair}
 use Rattle.reading.specs.Pairs.{pairsOf}
 use Rattle.reading.specs.Plan.{Plan, Allowed}
@@ -32,8 +30,8 @@ use Rattle.construction.proofs.Table.{two-words, parted-words}
 use Rattle.local.specs.Withstands.{spared}
 use Rattle.local.proofs.Test.{connectivity-three, spared-three}
 use Rattle.striking.specs.MendList.{missing, withPairs, isThree, remaining, mendList}
-use Rattle.striking.specs.Code.{tried, struckBy, completed, struckAll, laid, added, listIn}
-use Rattle.striking.proofs.Orders.{Descending, reverse-in, in-reverse, reverse-descends, select-reverse, select-ascends, select-descends, descending-new, ascending-same}
+use Rattle.striking.specs.Code.{struckBy, completed, struckAll, laid, added, listIn}
+use Rattle.striking.proofs.Orders.{Descending, reverse-in, in-reverse, reverse-descends, select-reverse, select-ascends, descending-new, ascending-same}
 use Rattle.striking.proofs.Remaining.{PairsBelow, to-kept, from-kept, with-simple, Three, three-more, Least, remaining-in, remaining-ascends, remaining-least}
 
 -- ---- the list of a graph
@@ -50,7 +48,7 @@ module _ (g : Graph) (s : Simple g) where
   all-joined l f u v h k = ⊎-elim (left-true (listed l u v)) (λ e. true-or (g .adj u v) (listed l u v) (in-listed l u v (inl (f (u, v) (in-select (λ d. not (g .adj (d .0) (d .1))) (pairsOf (g .n)) (u, v) (low-pairs (g .n) (u, v) (h, k)) (rw e)))))) (bool? (g .adj u v))
 
   -- so the connectivity is 3
-  pub complete-three : (l : List (ℕ × ℕ)) → PairsBelow (g .n) l → ((e : ℕ × ℕ) → In e (missing g) → In e l) → Three g s l
+  complete-three : (l : List (ℕ × ℕ)) → PairsBelow (g .n) l → ((e : ℕ × ℕ) → In e (missing g) → In e l) → Three g s l
   complete-three l low f = connectivity-three (withPairs g l) simple (λ c d hc hd ne u v hu hv. go u v hu hv (ℕ-discrete u v) (decLt u v))
     where
       simple : Simple (withPairs g l)
@@ -64,11 +62,11 @@ module _ (g : Graph) (s : Simple g) where
   start-low : PairsBelow (g .n) (reverse (missing g) ++ [])
   start-low = rw append-nil proposed-low
 
-  pub start-three : Three g s (reverse (missing g) ++ [])
+  start-three : Three g s (reverse (missing g) ++ [])
   start-three = complete-three (reverse (missing g) ++ []) start-low (λ e m. in-left e (reverse (missing g)) [] (in-reverse e (missing g) m))
 
   -- THE LIST: of missing pairs, ascending, and least.
-  pub list-missing : (e : ℕ × ℕ) → In e (mendList g) → In e (missing g)
+  list-missing : (e : ℕ × ℕ) → In e (mendList g) → In e (missing g)
   unfolding mendList
   list-missing e m = reverse-in e (missing g) (⊎-elim (λ k. k) (λ k. absurd k) (in-append e (reverse (missing g)) [] (remaining-in g s (reverse (missing g)) [] e m)))
 
@@ -108,7 +106,7 @@ module _ (plan : List ℕ) (n : ℕ) (d : Drawn plan n) where
   drawn {work} {l} low w = record { words = w .words; size = w .size; low = d .low; simple = subst Simple (sym (shown w)) (with-simple G (d .simple) l low) }
 
   -- every pair joined
-  pub work-start : Working (completed plan n) (reverse (missing G) ++ [])
+  work-start : Working (completed plan n) (reverse (missing G) ++ [])
   work-start = record {
     words = joined-words (pairsOf n) plan (d .words);
     size = joined-size (pairsOf n) plan (d .size);
@@ -170,7 +168,7 @@ module _ (plan : List ℕ) (n : ℕ) (d : Drawn plan n) where
     pair-first u v (inr i) = inr (inl (λ j. (i .1 j, i .0 j)))
 
     -- THE PAIR IS PARTED ..
-    pub work-parted : (work : List ℕ) → Working work (e ∷ l) → Working (partedRows work (e .0) (e .1)) l
+    work-parted : (work : List ℕ) → Working work (e ∷ l) → Working (partedRows work (e .0) (e .1)) l
     work-parted work w = record {
       words = parted-words work (e .0) (e .1) (w .words);
       size = without-length work (w .size) (e .0) (e .1) within;
@@ -187,7 +185,7 @@ module _ (plan : List ℕ) (n : ℕ) (d : Drawn plan n) where
         )
 
     -- .. AND JOINED AGAIN, and stands then anywhere in the list.
-    pub work-joined : (work : List ℕ) (m : List (ℕ × ℕ)) → ((x : ℕ × ℕ) → In x (e ∷ l) → In x m) → ((x : ℕ × ℕ) → In x m → In x (e ∷ l)) → Working work l → Working (joinedRows work (e .0) (e .1)) m
+    work-joined : (work : List ℕ) (m : List (ℕ × ℕ)) → ((x : ℕ × ℕ) → In x (e ∷ l) → In x m) → ((x : ℕ × ℕ) → In x m → In x (e ∷ l)) → Working work l → Working (joinedRows work (e .0) (e .1)) m
     work-joined work m f g w = record {
       words = two-words work (e .0) (e .1) (w .words);
       size = with-length work (w .size) (e .0) (e .1) within;
@@ -207,7 +205,7 @@ module _ (plan : List ℕ) (n : ℕ) (d : Drawn plan n) where
             listing u v j = true-or (adjacentIn plan u v) (listed m u v) (in-listed m u v (⊎-map (f (u, v)) (f (v, u)) j))
 
     -- the test tells whether the connectivity is 3 without the pair
-    pub test-right : (work : List ℕ) → Working work l → Three G (d .simple) (e ∷ l) → isThree (withPairs G l) ≡ spared work (e .0) (e .1)
+    test-right : (work : List ℕ) → Working work l → Three G (d .simple) (e ∷ l) → isThree (withPairs G l) ≡ spared work (e .0) (e .1)
     test-right work w three =
         let r = low e (inl refl) in
         ap isThree (sym (shown w)) ∙ spared-three work n (drawn (λ x m. low x (inr m)) w) (e .0) (e .1) (omega arith) (r .1) (λ i. omega arith) (withPairs G (e ∷ l)) refl (with-simple G (d .simple) (e ∷ l) low) three other
@@ -266,7 +264,7 @@ module _ (plan : List ℕ) (n : ℕ) (d : Drawn plan n) where
   abbrev final : List ℕ
   final = struckAll plan (completed plan n) n
 
-  pub work-end : Working final (mendList G)
+  work-end : Working final (mendList G)
   unfolding mendList
   work-end =
       let e = select-reverse isMissing (pairsOf n) in
