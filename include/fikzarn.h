@@ -113,7 +113,7 @@ static inline uint64_t fikzarn_answer(const uint8_t *out, size_t i) {
 uint64_t fikzarn_count(uint64_t size, uint64_t grade);
 
 /* Which edition of the records this library reads, and its limits. Since edition 1 a cable of a plan may equal the one before it;
- * since edition 2 a buffer is refused, by 30, only where it is shorter than the certificate. Edition 3 reads and answers as
+ * since edition 2 fikzarn_certify refuses a buffer, by 30, only where it is shorter than the certificate. Edition 3 reads and answers as
  * edition 2 does. Since edition 4 a script may have the call 'b', which was an unknown call before. Edition 5 reads and answers as
  * edition 4 does, and has fikzarn_count; edition 6 the same, and has fikzarn_mend. */
 uint64_t fikzarn_edition(void);          /* 6 */
