@@ -114,10 +114,11 @@ fn due() -> Vec<(usize, bool, (char, u8))> {
     let mut accepted = vec![(0, ('a', 0)), (2, ('p', 30)), (3, ('a', 0)), (3, ('g', 3)), (3, ('p', 29))];
     accepted.extend([('g', 3), ('p', 30), ('p', 32)].map(|outcome| (4, outcome)));
     accepted.extend((0..4).flat_map(|grade| [1, 2].map(|call| (call, ('g', grade)))));
-    accepted.extend([1, 2, 7, 8, 9].into_iter().chain(20..30).map(|number| (1, ('c', number))));
-    accepted.extend([1, 2, 9, 20].into_iter().chain(24..29).chain([31]).map(|number| (3, ('c', number))));
+    accepted.extend([1, 2, 33, 7, 8, 9].into_iter().chain(20..30).map(|number| (1, ('c', number))));
+    accepted.extend([1, 2, 33, 9, 20].into_iter().chain(24..29).chain([31]).map(|number| (3, ('c', number))));
     let both = |(call, outcome)| [false, true].map(|doubles| (call, doubles, outcome));
     let mut due: Vec<_> = accepted.into_iter().flat_map(both).collect();
-    due.extend((0..calls::CALLS.len()).flat_map(|call| (1..8).map(move |number| (call, false, ('p', number)))));
+    let refused = |call| (1..8).chain([33]).map(move |number| (call, false, ('p', number)));
+    due.extend((0..calls::CALLS.len()).flat_map(refused));
     due
 }

@@ -115,8 +115,9 @@ uint64_t fikzarn_count(uint64_t size, uint64_t grade);
 /* Which edition of the records this library reads, and its limits. Since edition 1 a cable of a plan may equal the one before it;
  * since edition 2 fikzarn_certify refuses a buffer, by 30, only where it is shorter than the certificate. Edition 3 reads and answers as
  * edition 2 does. Since edition 4 a script may have the call 'b', which was an unknown call before. Edition 5 reads and answers as
- * edition 4 does, and has fikzarn_count; edition 6 the same, and has fikzarn_mend. */
-uint64_t fikzarn_edition(void);          /* 6 */
+ * edition 4 does, and has fikzarn_count; edition 6 the same, and has fikzarn_mend. Since edition 7 a number whose second byte is 128 or
+ * more is refused by 33, which was 2 before; 2 stays with a second byte of 0. */
+uint64_t fikzarn_edition(void);          /* 7 */
 uint64_t fikzarn_min_boxes(void);        /* 4 */
 uint64_t fikzarn_max_boxes(void);        /* 128 */
 uint64_t fikzarn_max_cables(void);       /* 512, each cable of a double counted */

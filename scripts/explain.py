@@ -1,5 +1,6 @@
 """Sentences for the lines that the programs print. A line is taken with the records that it answers, so that the part at fault can be
-shown. What stands before a place was read without fault, and a refusal of 20 or more had its item read whole."""
+shown. What stands before a place was read without fault. A refusal of 20 to 29 had its item read whole; one of 2 or 33 had not, and is
+shown by bytes."""
 import re
 import sys
 
@@ -12,7 +13,7 @@ GRADES = {
 
 REFUSALS = {
     1: "the record ends inside a number or before one that is due",
-    2: "a number's second byte is 0, or is 128 or more",
+    2: "a number's second byte is 0",
     3: "the number of boxes is below 4 or above 128",
     4: "the number of cables is above 512",
     5: "a cable's lower box is not below its higher box, or its higher box is not in the plan",
@@ -33,6 +34,13 @@ REFUSALS = {
     30: "a buffer is shorter than the record that is to be written there",
     31: "the session does not take this call now, or no path is there to take back",
     32: "the plan's cables and those to lay are together more than 512",
+    33: "a number's second byte is 128 or more",
+}
+
+# Where a number is not in its form, what that tells of the file. Which planner wrote it is not told.
+CAUSES = {
+    2: "the writer pads its numbers",
+    33: "the file is garbled, or a count before it is wrong",
 }
 
 OTHERS = {
@@ -91,11 +99,11 @@ class Plan:
 
 
 def at_number(code, place, record):
-    """What 1 to 9, 20, 21 and 32 show; the others that need no more than the record show nothing."""
+    """What 1 to 9, 20, 21, 32 and 33 show; the others that need no more than the record show nothing."""
     if code == 1:
         return f"the record has {place} bytes"
-    if code == 2:
-        return f"number that begins at byte {place}: {spoken(record[place : place + 2])}"
+    if code in (2, 33):
+        return out_of_form(code, place, record)
     if code in (5, 6):
         return f"cable that begins at byte {place}: {spoken(numbers(record, place, 2)[0])}"
     if code == 7:
@@ -105,6 +113,14 @@ def at_number(code, place, record):
     if code == 32:
         return f"cables in the plan: {numbers(record, 0, 2)[0][1]}"
     return f"number at byte {place}: {number(record, place)[0]}"
+
+
+def out_of_form(code, place, record):
+    """What 2 and 33 show. Before edition 7 both were 2: such a line is no answer beside a second byte of 128 or more."""
+    first, second = record[place], record[place + 1]
+    if first < 128 or (second > 0 if code == 2 else second < 128):
+        raise NoAnswer
+    return f"number that begins at byte {place}: {first} {second}"
 
 
 def at_path(code, place, record, plan, name):
@@ -171,7 +187,8 @@ def taken_apart(line):
 
 
 def refused(line, code, detail):
-    return f"{line}: {REFUSALS[code]}" + (f" ({detail})" if detail else "")
+    cause = f"; {CAUSES[code]}" if code in CAUSES else ""
+    return f"{line}: {REFUSALS[code]}{cause}" + (f" ({detail})" if detail else "")
 
 
 def graded(line):

@@ -1,7 +1,8 @@
 // Writes what one archive of the library answers and writes for many plans, so that two archives can be compared byte by byte.
 //   beside COUNT SEED   for every plan on 4 to 6 vertices, those at the limit, COUNT larger ones and COUNT plan records of any kind:
 //                       the record, the word of fikzarn_certify and the whole buffer, lent 1,536 bytes and lent more
-// The last line, on standard error, tells what was asked. tests/beside links it with both archives.
+// Request 7 gave 33 to what was 2 before, at numbers that are too long: there 2 is written for both, and how often each was answered is
+// counted. On standard error a line tells what was asked, and one the two counts. tests/beside links it with both archives.
 #![allow(dead_code)]
 mod generate;
 mod reference;
@@ -25,6 +26,8 @@ struct Run {
     grades: [u64; 4],
     refused: u64,
     largest: usize,
+    /// How often 2 and how often 33 was answered at a number whose second byte is 128 or more.
+    too_long: [u64; 2],
 }
 
 fn main() -> Result<()> {
@@ -32,7 +35,7 @@ fn main() -> Result<()> {
     let (count, seed) = (number(1), number(2));
     let out = BufWriter::new(std::io::stdout().lock());
     let random = Random::new(!seed);
-    let mut run = Run { out, random, records: 0, doubles: 0, grades: [0; 4], refused: 0, largest: 0 };
+    let mut run = Run { out, random, records: 0, doubles: 0, grades: [0; 4], refused: 0, largest: 0, too_long: [0; 2] };
     for n in 4..=6 {
         every_plan(n).try_for_each(|plan| run.record(&encode_plan(&plan)))?;
     }
@@ -46,8 +49,9 @@ fn main() -> Result<()> {
     let mut generator = Generator::new(seed);
     (0..count).try_for_each(|_| run.record(&generator.plan_record()))?;
     run.out.flush()?;
-    let Run { records, doubles, grades, refused, largest, .. } = run;
+    let Run { records, doubles, grades, refused, largest, too_long: [two, other], .. } = run;
     eprintln!("{records} plan records: grades {grades:?}, up to {largest} boxes, {doubles} with doubles; {refused} refused");
+    eprintln!("{two} times 2 and {other} times 33");
     Ok(())
 }
 
@@ -59,13 +63,29 @@ impl Run {
         for size in [SPACE, more] {
             let mut buffer = vec![170; size];
             let word = unsafe { fikzarn_certify(record.as_ptr(), record.len(), buffer.as_mut_ptr(), size) };
-            self.out.write_all(&word.to_le_bytes())?;
+            let written = self.in_old_numbers(record, word);
+            self.out.write_all(&written.to_le_bytes())?;
             self.out.write_all(&buffer)?;
             if size == SPACE {
                 self.tell(record, word);
             }
         }
         Ok(())
+    }
+
+    /// The word, with 2 where it has 33 at a number that is too long. 33 anywhere else stays, and then the bytes differ.
+    fn in_old_numbers(&mut self, record: &[u8], word: u64) -> u64 {
+        let (case, number, place) = (word % 256, word / 256 % 256, (word >> 16) as usize);
+        let too_long = record.get(place..place + 2).is_some_and(|bytes| bytes.iter().all(|&byte| byte >= 128));
+        match (case, number) {
+            (2, 2) if too_long => self.too_long[0] += 1,
+            (2, 33) if too_long => {
+                self.too_long[1] += 1;
+                return word - 256 * 31;
+            }
+            _ => {}
+        }
+        word
     }
 
     /// Counts by the archive's own answer: where two archives differ, so do the bytes.

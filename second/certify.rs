@@ -36,7 +36,7 @@ pub fn certify(count: u64, seed: u64) -> bool {
     (0..count).for_each(|_| run.record(&generator.plan_record()));
     println!("plans by grade: {:?}, longest certificates: {:?}", run.plans, run.longest);
     let mut due: Vec<(&str, u8)> = (0..4).flat_map(|grade| [("grade", grade), (LARGEST, grade)]).collect();
-    due.extend((1..8).chain([30]).map(|number| ("plan refused", number)));
+    due.extend((1..8).chain([30, 33]).map(|number| ("plan refused", number)));
     // The rules leave no other place for it: a first ear through 128 vertices.
     due.push((LONG, 2));
     run.tally.close(run.calls, due) & right

@@ -9,14 +9,17 @@
 //   compare counts PROGRAM                plans by grade: all that the program prints, and the library's count of many sizes and grades
 //   compare mend COUNT SEED PROGRAM       plans to be mended, COUNT of them and COUNT plan records of any kind: the word and all three
 //                                         buffers, each shorter, as long and longer; and what the program prints
+//   compare foreign COUNT SEED PROGRAM    good records with damaged numbers, of COUNT plans: the answers of every call that reads one, and
+//                                         what the checking program prints
 //   compare known FILE PROGRAM            known answers, by the library and by the checking program
 //   compare calls FILE                    known answers of calls that write into several buffers
 // Exit status 1 on any difference, or where a refusal or a grade never occurred, with doubles in the plan or at all, or a kind of
-// taking back.
+// taking back, or a damaged number of some kind in some place.
 #![allow(dead_code)]
 mod certify;
 mod counts;
 mod doubles;
+mod foreign;
 mod generate;
 mod known;
 mod library;
@@ -46,11 +49,12 @@ fn main() {
         ["doubles", count, seed] => doubles::doubles(number(count), number(seed)),
         ["counts", program] => grade_counts(program),
         ["mend", count, seed, program] => mended::mend(number(count), number(seed), program),
+        ["foreign", count, seed, program] => foreign_numbers(number(count), number(seed), program),
         ["known", file, program] => known_answers(file, program),
         ["calls", file] => known_calls(file),
         _ => {
-            eprintln!("compare plans|certificates|certify|doubles COUNT SEED, sessions|mend COUNT SEED PROGRAM, counts PROGRAM,");
-            eprintln!("known FILE PROGRAM, calls FILE");
+            eprintln!("compare plans|certificates|certify|doubles COUNT SEED, sessions|mend|foreign COUNT SEED PROGRAM,");
+            eprintln!("counts PROGRAM, known FILE PROGRAM, calls FILE");
             false
         }
     };
@@ -162,7 +166,7 @@ fn plans(count: u64, seed: u64) -> bool {
             tally.differs(&[("plan", &record)], what);
         }
     }
-    let due = [("accepted", 0)].into_iter().chain((1..8).map(|number| ("plan refused", number)));
+    let due = [("accepted", 0)].into_iter().chain((1..8).chain([33]).map(|number| ("plan refused", number)));
     tally.close(count, due.collect())
 }
 
@@ -215,8 +219,8 @@ fn certificates(count: u64, seed: u64) -> bool {
         }
     }
     let mut due: Vec<(&str, u8)> = (0..4).map(|grade| ("grade", grade)).collect();
-    due.extend((1..8).map(|number| ("plan refused", number)));
-    due.extend([1, 2, 7, 8, 9].into_iter().chain(20..30).map(|number| ("certificate refused", number)));
+    due.extend((1..8).chain([33]).map(|number| ("plan refused", number)));
+    due.extend([1, 2, 33, 7, 8, 9].into_iter().chain(20..30).map(|number| ("certificate refused", number)));
     due.push((certify::LONG, 2));
     tally.close(count, due)
 }
@@ -254,8 +258,8 @@ fn sessions(count: u64, seed: u64, program: &str) -> bool {
         }
     }
     let mut due = vec![("accepted", 0), ("grade", 3), (CUT, 0), (UNKNOWN, 0), (TOO_LONG, 0)];
-    due.extend((1..8).chain([29]).map(|number| ("plan refused", number)));
-    due.extend([1, 2, 9, 20].into_iter().chain(24..29).chain([31]).map(|number| ("certificate refused", number)));
+    due.extend((1..8).chain([29, 33]).map(|number| ("plan refused", number)));
+    due.extend([1, 2, 33, 9, 20].into_iter().chain(24..29).chain([31]).map(|number| ("certificate refused", number)));
     let met = met.told();
     tally.close(count, due) && met
 }
@@ -381,17 +385,28 @@ fn with_far(near: RangeInclusive<u64>) -> BTreeSet<u64> {
 
 // ---------------------------------------------------------------- known answers
 
-/// The library's answers, or the checking program's; what else is wrong with a call stands in the answer's place.
+/// By the library's answers, or the checking program's; what else is wrong with a call stands in the answer's place.
 fn known_answers(file: &str, program: &str) -> bool {
     let mut random = Random::new(1);
-    known::compare(file, |call, inputs| match (call, inputs) {
-        ("plan", [plan]) => known_plan(plan, &mut random),
+    known::compare(file, |call, inputs| answered(call, inputs, program, &mut random))
+}
+
+/// Records whose answers are known from how they were made.
+fn foreign_numbers(count: u64, seed: u64, program: &str) -> bool {
+    let mut random = Random::new(!seed);
+    foreign::compare(count, seed, |call, inputs| answered(call, inputs, program, &mut random))
+}
+
+fn answered(call: &str, inputs: &[Vec<u8>], program: &str, random: &mut Random) -> String {
+    match (call, inputs) {
+        ("plan", [plan]) => known_plan(plan, random),
         ("check", [plan, certificate]) => library::told(library::check(plan, certificate)),
-        ("certify", [plan]) => certify::known(plan, &mut random),
-        ("session", [script]) => known_session(script, &mut random),
+        ("certify", [plan]) => certify::known(plan, random),
+        ("mend", [plan]) => mended::refused(plan, random),
+        ("session", [script]) => known_session(script, random),
         ("program", [input]) => output(program, input).trim_end_matches('\n').to_string(),
         _ => "no such call".to_string(),
-    })
+    }
 }
 
 fn known_calls(file: &str) -> bool {

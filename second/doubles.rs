@@ -25,7 +25,7 @@ pub fn doubles(count: u64, seed: u64) -> bool {
         run.session(&generator.script());
     }
     let mut due: Vec<(&str, u8)> = (0..4).map(|grade| ("grade", grade)).collect();
-    due.extend([1, 2, 7, 8, 9].into_iter().chain(20..30).chain([31]).map(|number| ("certificate refused", number)));
+    due.extend([1, 2, 33, 7, 8, 9].into_iter().chain(20..30).chain([31]).map(|number| ("certificate refused", number)));
     due.push(("plan refused", 29));
     run.tally.close(run.compared, due)
 }

@@ -1,5 +1,5 @@
-// Test cases from a seed: plans of many families, one in three with doubles, certificates good and bad, damaged records, scripts of
-// session calls.
+// Test cases from a seed: plans of many families, one in three with doubles, certificates good and bad, damaged records and numbers,
+// scripts of session calls.
 use crate::reference::*;
 
 /// One call of a session, with the part handed in.
@@ -81,7 +81,7 @@ impl Generator {
         let random = &mut self.random;
         let items = self.certificate.items();
         let plan = encode_plan(&self.plan);
-        match random.below(100) {
+        match random.below(108) {
             0..=9 => (plan, encode_items(&items)),
             10..=15 => {
                 // Another certificate of the same plan; large plans keep theirs, for time.
@@ -107,7 +107,9 @@ impl Generator {
                 let record = encode_items(&items);
                 (encode_plan(&plan), if random.chance(20) { damaged_bytes(record, random) } else { record })
             }
-            _ => (plan, small_bytes(self.plan.n, random)),
+            93..=99 => (plan, small_bytes(self.plan.n, random)),
+            100..=105 => (plan, foreign_numbers(&items.concat(), random).bytes),
+            _ => (plan, foreign_numbers(&other_kind(&self.plan, random).items().concat(), random).bytes),
         }
     }
 
@@ -159,10 +161,11 @@ fn calls(plan: &Plan, items: &[Vec<usize>], random: &mut Random) -> Vec<Call> {
     let part = |from: usize, to: usize| encode_items(&items[from..if trailing { items.len() } else { to.min(items.len()) }]);
     let first = items.len().min(8);
     for _ in 0..random.below(3) {
-        calls.push(match random.below(5) {
+        calls.push(match random.below(6) {
             0 => Call::Path(part(first, first + 1)),
             1 => Call::Close,
             4 => Call::Back,
+            5 => Call::Start(foreign_numbers(&items[1..first].concat(), random).bytes),
             2 => Call::Start(encode_items(&damaged_items(items[1..first].to_vec(), plan, random))),
             _ => Call::Start(damaged_numbers(&items[1..first].concat(), plan.n, random)),
         });
@@ -179,6 +182,7 @@ fn calls(plan: &Plan, items: &[Vec<usize>], random: &mut Random) -> Vec<Call> {
             6 => calls.push(Call::Path(damaged_bytes(part(index, index + 1), random))),
             7 if random.chance(20) => continue,
             8 => calls.push(Call::Path(encode_items(&[random.pick(&items[2..]).clone()]))),
+            12 => calls.push(Call::Path(foreign_numbers(&items[index], random).bytes)),
             9..=11 => {
                 // Some are taken back, and mostly taken again.
                 let from = index.saturating_sub(random.within(1, 4)).max(first);
@@ -367,7 +371,7 @@ impl<'a> Entry<'a> {
     fn refused(&mut self, again: &[Vec<usize>], random: &mut Random) {
         let link = random.pick(&self.build.links).clone();
         let path = random.pick(again).clone();
-        match random.below(9) {
+        match random.below(10) {
             0 => self.calls.push(Call::Start(self.start.clone())),
             1 => self.calls.push(Call::Close),
             2 => self.offer(damaged_bytes(part_of(&path), random)),
@@ -377,6 +381,7 @@ impl<'a> Entry<'a> {
             5 => self.offer(part_of(&link[..random.within(2, link.len())])),
             6 => self.offer(part_of(&[path, vec![link[0]]].concat())),
             7 => self.offer(part_of(&path[..path.len() - 1])),
+            8 => self.offer(foreign_numbers(&[&[path.len()], &path[..]].concat(), random).bytes),
             _ => self.offer(encode_numbers(&random_walk(self.plan, random))),
         }
     }
@@ -807,12 +812,56 @@ fn damaged_numbers(numbers: &[usize], n: usize, random: &mut Random) -> Vec<u8> 
     forms.concat()
 }
 
+/// A record with damaged numbers.
+pub struct Foreign {
+    pub bytes: Vec<u8>,
+    /// The first that is damaged: which number of the record it is, and its refusal where reading comes to it.
+    pub first: Option<(usize, Fault)>,
+}
+
+/// Damaged numbers in a tenth of all places or, since the first of them decides, in one place, any alike. After a damaged number the
+/// record may end.
+pub fn foreign_numbers(numbers: &[usize], random: &mut Random) -> Foreign {
+    let only = random.chance(50).then(|| random.below(numbers.len().max(1)));
+    let mut record = Foreign { bytes: Vec::new(), first: None };
+    for (at, &value) in numbers.iter().enumerate() {
+        if only.map_or_else(|| random.below(10) > 0, |only| only != at) {
+            record.bytes.extend(encode_number(value));
+            continue;
+        }
+        let place = record.bytes.len();
+        let (form, number) = foreign_number(value, random);
+        record.bytes.extend(form);
+        let fault = (number, if number == 1 { record.bytes.len() } else { place });
+        record.first = record.first.or(Some((at, fault)));
+        if number == 1 || random.chance(30) {
+            break;
+        }
+    }
+    record
+}
+
+/// A number that can't be read, and its refusal: 1 where the record ends behind its first byte, 2 where it is padded, 33 where it is too
+/// long.
+fn foreign_number(value: usize, random: &mut Random) -> (Vec<u8>, u8) {
+    let [any, more] = [(); 2].map(|_| random.within(128, 255) as u8);
+    let own = encode_number(value)[0] | 128;
+    let first = *random.pick(&[own, own, own, own, own, own, 255, any]);
+    match random.below(8) {
+        0 | 1 => (vec![first], 1),
+        2..=4 => (vec![first, 0], 2),
+        5 => (vec![first, more, random.below(3) as u8], 33),
+        _ => (vec![first, *random.pick(&[128, 255, more])], 33),
+    }
+}
+
 fn damaged_plan(plan: &Plan, random: &mut Random) -> Vec<u8> {
     let n = plan.n;
     let mut edges = plan.edges.clone();
-    match random.below(15) {
+    match random.below(17) {
         0..=3 => return damaged_bytes(encode_plan(plan), random),
         4..=7 => return damaged_numbers(&plan_numbers(n, &edges), n, random),
+        15 | 16 => return foreign_numbers(&plan_numbers(n, &edges), random).bytes,
         14 => return damaged_bytes(damaged_numbers(&plan_numbers(n, &edges), n, random), random),
         8 if edges.len() > 1 => {
             let (i, j) = (random.below(edges.len()), random.below(edges.len()));

@@ -147,7 +147,7 @@ impl Run<'_> {
         self.met.iter().for_each(|(kind, count)| println!("  {kind}: {count}"));
         let missing: Vec<&&str> = self.met.iter().filter(|(_, &count)| count == 0).map(|(kind, _)| kind).collect();
         missing.iter().for_each(|kind| println!("never seen: {kind}"));
-        let mut due: Vec<(&str, u8)> = (1..8).chain([30, 32]).map(|number| ("plan refused", number)).collect();
+        let mut due: Vec<(&str, u8)> = (1..8).chain([30, 32, 33]).map(|number| ("plan refused", number)).collect();
         due.extend((0..4).map(|grade| ("plan of grade", grade)).chain([("grade", 3)]));
         self.tally.close(self.calls + self.printed, due) && missing.is_empty()
     }
@@ -202,6 +202,18 @@ fn rooms(exact: [usize; 3], random: &mut Random) -> Vec<[usize; 3]> {
 fn any_rooms(random: &mut Random) -> Vec<[usize; 3]> {
     let mut up_to = |most: usize| [(); 3].map(|_| random.below(most));
     vec![[0; 3], up_to(8), up_to(MOST_BYTES), up_to(MOST_BYTES).map(|more| MOST_BYTES + more)]
+}
+
+/// The answer to a record that is refused, in buffers of four sizes: no byte of them changes.
+pub fn refused(record: &[u8], random: &mut Random) -> String {
+    let mut answers = Vec::new();
+    for rooms in any_rooms(random) {
+        let mut buffers = rooms.map(|room| Lent::new(room, random));
+        let word = library::mend(record, buffers.each_mut().map(Lent::buffer));
+        answers.push((0..3).find_map(|i| buffers[i].touched(0)).unwrap_or_else(|| told(word)));
+    }
+    answers.dedup();
+    answers.join(", ")
 }
 
 /// A known answer: the library's word, and every byte. The certificate is open, and accepted by both checkers.

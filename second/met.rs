@@ -3,7 +3,7 @@ use crate::reference::*;
 use std::collections::{BTreeMap, BTreeSet};
 
 /// How many kinds there are. Where fewer were counted, a place that counts some was never come to.
-const KINDS: usize = 40;
+const KINDS: usize = 41;
 
 #[derive(Default)]
 pub struct Met {
@@ -129,6 +129,7 @@ impl Met {
             ("then a path is refused 26", number(26)),
             ("then a path is refused 27", number(27)),
             ("then a path is refused 31", number(31)),
+            ("then a path is refused 33", number(33)),
             ("then a path is refused that was taken before", walk.any_back && !number(31) && walk.taken.contains(seen.part)),
         ]);
         walk.refused.insert(seen.part.to_vec());

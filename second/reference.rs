@@ -1,5 +1,5 @@
-// The second implementation: plans, certificates, building sessions and a certifier, written from document 01 and requests 1, 2 and 4
-// of document 02 alone (request 3 changes no answer, request 5 is in counts.rs).
+// The second implementation: plans, certificates, building sessions and a certifier, written from document 01 and requests 1, 2, 4 and
+// 7 of document 02 alone (request 3 changes no answer, request 5 is in counts.rs, request 6 in mend.rs).
 // A box is a vertex here, a cable an edge, a lost box a removed vertex, a further path a BG-path.
 // Nothing is tuned: sets are vectors, and each test stands beside the sentence that asks for it.
 
@@ -97,15 +97,17 @@ impl<'a> Reader<'a> {
             return Ok(first as usize);
         }
         let Some(&second) = self.bytes.get(self.place + 1) else { return ended };
-        // 2: "A number's second byte is 0, or is 128 or more. Place: the number's first byte".
-        if second == 0 || second >= 128 {
-            return Err((2, self.place));
+        // Request 7: "Number 2 stays with a second byte of 0, and number 33 takes a second byte of 128 or more, in the same turn and at
+        // the same place." That is, as document 01 has it for both, "the number's first byte".
+        match second {
+            0 => return Err((2, self.place)),
+            128.. => return Err((33, self.place)),
+            _ => self.place += 2,
         }
-        self.place += 2;
         Ok((first as usize - 128) + 128 * second as usize)
     }
 
-    /// "Numbers are read in order, with 1, 2, then the range."
+    /// "Numbers are read in order, with 1, 2, then the range." 33 has the turn of 2.
     fn number_within(&mut self, least: usize, most: usize, refusal: u8) -> Result<usize, Fault> {
         let place = self.place;
         let value = self.number()?;

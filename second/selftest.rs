@@ -2,15 +2,18 @@
 //   selftest vectors PROGRAM SESSIONS   recorded answers of the checking program and of sessions
 //   selftest known FILE                 known answers, a call a line
 //   selftest calls FILE                 known answers of calls that write into several buffers
-//   selftest barns                      the cases that document 01 names, as request 1 leaves them, and some with doubles
+//   selftest barns                      the cases that document 01 names, as requests 1 and 7 leave them, some with doubles, and numbers
+//                                       of two bytes
 //   selftest counts                     the plans on 4, 5 and 6 vertices, counted by grade: 4 and 5 as document 02 says, and each adds up
 //   selftest figures [7]                every plan on 4, 5 and 6 vertices (or 7): certify, check and connectivity agree
 //   selftest mend COUNT SEED            the lists for every plan on 4, 5 and 6 vertices and for COUNT others: what request 6 says of them,
 //                                       and the same lists by removal, by routes and by low points
 //   selftest certify COUNT SEED         the same for plans of every family, certificates chosen at random
 //   selftest outcomes COUNT SEED        generated cases; every refusal, every grade and every kind of taking back must occur
+//   selftest foreign COUNT SEED         good records with damaged numbers, of COUNT plans: the answers that are due from how they were made
 #![allow(dead_code)]
 mod counts;
+mod foreign;
 mod generate;
 mod known;
 mod mend;
@@ -37,10 +40,12 @@ fn main() {
         ["figures"] => figures(6),
         ["figures", "7"] => figures(7),
         ["mend", count, seed] => mended_plans(number(count) as usize, number(seed)),
+        ["foreign", count, seed] => foreign::compare(number(count), number(seed), known_answer),
         ["certify", count, seed] => certify_all(number(count), number(seed)),
         ["outcomes", count, seed] => outcomes(number(count), number(seed)),
         _ => {
-            eprintln!("selftest vectors PROGRAM SESSIONS, known|calls FILE, barns, counts, figures [7], or certify|mend|outcomes COUNT SEED");
+            eprintln!("selftest vectors PROGRAM SESSIONS, known|calls FILE, barns, counts, figures [7],");
+            eprintln!("or certify|foreign|mend|outcomes COUNT SEED");
             false
         }
     };
@@ -122,6 +127,10 @@ fn known_answer(call: &str, inputs: &[Vec<u8>]) -> String {
         },
         ("check", [plan, certificate]) => told(check(plan, certificate)),
         ("certify", [plan]) => known_certify(plan),
+        ("mend", [plan]) => match mend::mend(plan, |_| Vec::new()) {
+            Ok(_) => "mended".to_string(),
+            Err((number, place)) => told(Answer::PlanFault(number, place)),
+        },
         ("session", [script]) => known_session(script),
         ("program", [input]) => program_line(input),
         _ => "no such call".to_string(),
@@ -182,7 +191,7 @@ const A_BUILD: &str = "3 0 1 2 3 2 0 1 2 0 2 2 0 3 2 1 2 2 1 3 2 2 3";
 const FIVE: &str = "5 10 0 1 0 2 0 3 0 4 1 2 1 3 1 4 2 3 2 4 3 4";
 
 /// A name, a plan and a certificate, and their answer.
-const BARNS: [(&str, &str, &str, Answer); 23] = [
+const BARNS: [(&str, &str, &str, Answer); 38] = [
     ("A", "4 6 0 1 0 2 0 3 1 2 1 3 2 3", A_BUILD, Answer::Grade(3)),
     ("B", "4 5 0 1 0 2 0 3 1 2 1 3", "2 0 1 2 3 0 1 2 3 0 3 1 1 2", Answer::Grade(2)),
     ("C", "4 5 0 1 0 2 0 3 1 2 1 3", "3", Answer::CertificateFault(29, 0)),
@@ -203,11 +212,26 @@ const BARNS: [(&str, &str, &str, Answer); 23] = [
     ("plan", "128 1 0", "0 1 0", Answer::Grade(0)),
     ("plan", "129 1 0", "0 1 0", Answer::PlanFault(3, 0)),
     ("plan", "132 0", "0 1 0", Answer::PlanFault(2, 0)),
+    ("plan", "132", "0 1 0", Answer::PlanFault(1, 1)),
+    ("plan", "132 128", "0 1 0", Answer::PlanFault(33, 0)),
+    ("plan", "132 128 1", "0 1 0", Answer::PlanFault(33, 0)),
+    ("plan", "132 255", "0 1 0", Answer::PlanFault(33, 0)),
+    ("plan", "4 128 128", "0 1 0", Answer::PlanFault(33, 1)),
     ("plan", "4 129 4", "0 1 0", Answer::PlanFault(4, 1)),
     ("plan", "4 1 1 1", "0 1 0", Answer::PlanFault(5, 2)),
     ("plan", "4 2 0 1 0 1", "0 1 2", Answer::Grade(0)),
     ("plan", "4 2 0 2 0 1", "0 1 2", Answer::PlanFault(6, 4)),
     ("plan", "4 0 0", "0 1 0", Answer::PlanFault(7, 2)),
+    ("kind, padded", "4 0", "128 0", Answer::CertificateFault(2, 0)),
+    ("kind, too long", "4 0", "128 128", Answer::CertificateFault(33, 0)),
+    ("kind, too long", "4 0", "131 128", Answer::CertificateFault(33, 0)),
+    ("kind, cut off", "4 0", "128", Answer::CertificateFault(1, 1)),
+    ("in a side", "4 0", "0 2 1 131 128", Answer::CertificateFault(33, 3)),
+    ("in a pair", "4 3 0 1 1 2 2 3", "1 1 0 1 0 2 129 200 3 2", Answer::CertificateFault(33, 6)),
+    ("in an ear", "4 5 0 1 0 2 0 3 1 2 1 3", "2 0 1 2 3 0 129 128 2", Answer::CertificateFault(33, 6)),
+    ("in an ear, padded", "4 5 0 1 0 2 0 3 1 2 1 3", "2 0 1 2 3 0 129 0 2", Answer::CertificateFault(2, 6)),
+    ("in the four", "4 6 0 1 0 2 0 3 1 2 1 3 2 3", "3 0 129 129 2 3", Answer::CertificateFault(33, 2)),
+    ("in a path", "4 6 0 1 0 2 0 3 1 2 1 3 2 3", "3 0 1 2 3 2 0 129 255", Answer::CertificateFault(33, 7)),
     ("A, first and last doubled", "4 8 0 1 0 1 0 2 0 3 1 2 1 3 2 3 2 3", A_BUILD, Answer::Grade(3)),
     ("B, one doubled", "4 6 0 1 0 2 0 3 1 2 1 2 1 3", "2 0 1 2 3 0 1 2 3 0 3 1 1 2", Answer::Grade(2)),
     ("C, one doubled", "4 6 0 1 0 2 0 3 1 2 1 2 1 3", "3", Answer::CertificateFault(29, 0)),
@@ -452,8 +476,8 @@ fn outcomes(count: u64, seed: u64) -> bool {
     right &= met.told();
     let seen = |key| checked.contains_key(&key) || called.contains_key(&key);
     let mut due: Vec<(&str, u8)> = (0..4).map(|grade| ("grade", grade)).collect();
-    due.extend((1..8).chain([29]).map(|number| ("plan refused", number)));
-    due.extend([1, 2, 7, 8, 9].into_iter().chain(20..30).chain([31]).map(|number| ("certificate refused", number)));
+    due.extend((1..8).chain([29, 33]).map(|number| ("plan refused", number)));
+    due.extend([1, 2, 33, 7, 8, 9].into_iter().chain(20..30).chain([31]).map(|number| ("certificate refused", number)));
     for key in due.into_iter().filter(|&key| !seen(key)) {
         println!("MISSING: {} {}", key.0, key.1);
         right = false;

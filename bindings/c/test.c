@@ -51,7 +51,7 @@ static const uint8_t ROW[] = {4, 3, 0, 1, 1, 2, 2, 3};
 static const uint8_t UNSORTED[] = {4, 2, 0, 2, 0, 1};
 
 static void limits(void) {
-    IS(fikzarn_edition(), 6);
+    IS(fikzarn_edition(), 7);
     IS(fikzarn_min_boxes(), 4);
     IS(fikzarn_max_boxes(), 128);
     IS(fikzarn_max_cables(), 512);
@@ -361,6 +361,85 @@ static void sessions(void) {
     IS(fikzarn_session(script, 1, out, 0), FIKZARN_CUT);
 }
 
+/* A plan with a number out of its form, by every call that reads a plan: none writes a byte. */
+static void no_plan(Record plan, unsigned number, size_t place) {
+    const uint64_t fault = word(FIKZARN_PLAN_FAULT, number, place);
+    uint8_t script[64], out[FIKZARN_CERTIFICATE_ROOM];
+    memset(out, 170, sizeof out);
+    IS(fikzarn_plan(plan.bytes, plan.length, out, sizeof out), fault);
+    IS(fikzarn_certify(plan.bytes, plan.length, out, sizeof out), fault);
+    IS(fikzarn_certify(plan.bytes, plan.length, out, 0), fault);
+    IS(kept(out, 0, sizeof out, 170), sizeof out);
+    IS(fikzarn_certificate_length(plan.bytes, plan.length), fault);
+    IS(fikzarn_check(plan.bytes, plan.length, APART_SIDE, sizeof APART_SIDE), fault);
+    refused(plan, number, place);
+    /* A session that is opened on it, and closed. */
+    size_t at = part(script, 0, plan.bytes, plan.length);
+    script[at] = 'c';
+    IS(fikzarn_session(script, at + 1, out, sizeof out), FIKZARN_REPLAYED + 65536 * 2);
+    IS(fikzarn_answer(out, 0), fault);
+    IS(fikzarn_answer(out, 1), word(FIKZARN_CERTIFICATE_FAULT, 31, 0));
+    IS(kept(out, 16, sizeof out, 170), sizeof out - 16);
+}
+
+static void no_certificate(Record plan, Record certificate, unsigned number, size_t place) {
+    IS(fikzarn_check(plan.bytes, plan.length, certificate.bytes, certificate.length), word(FIKZARN_CERTIFICATE_FAULT, number, place));
+}
+
+#define BYTES(...) RECORD(((const uint8_t[]){__VA_ARGS__}))
+
+/* Barn G's session, with parts that have a number out of its form before the start and before the first path. */
+static void no_parts(void) {
+    const struct {
+        char call;
+        Record part;
+        uint64_t answer;
+    } calls[] = {
+        {'s', BYTES(0, 1, 2, 131, 0), word(FIKZARN_CERTIFICATE_FAULT, 2, 3)},
+        {'s', BYTES(0, 1, 2, 131, 128), word(FIKZARN_CERTIFICATE_FAULT, 33, 3)},
+        {'s', BYTES(0, 1, 2, 3, 131, 255, 0, 4, 1), word(FIKZARN_CERTIFICATE_FAULT, 33, 4)},
+        {'s', {FIVE_BUILD + 1, 23}, FIKZARN_ACCEPTED},
+        {'p', BYTES(130, 0, 4, 2), word(FIKZARN_CERTIFICATE_FAULT, 2, 0)},
+        {'p', BYTES(130, 128), word(FIKZARN_CERTIFICATE_FAULT, 33, 0)},
+        {'p', BYTES(2, 4, 130, 128, 0), word(FIKZARN_CERTIFICATE_FAULT, 33, 2)},
+        {'p', {FIVE_BUILD + 24, 3}, FIKZARN_ACCEPTED},
+    };
+    enum { CALLS = sizeof calls / sizeof *calls };
+    uint8_t script[128], out[8 * CALLS + 16];
+    size_t at = part(script, 0, FIVE, sizeof FIVE);
+    for (size_t i = 0; i < CALLS; i++) {
+        script[at] = (uint8_t)calls[i].call;
+        at = part(script, at + 1, calls[i].part.bytes, calls[i].part.length);
+    }
+    memset(out, 170, sizeof out);
+    IS(fikzarn_session(script, at, out, sizeof out), FIKZARN_REPLAYED + 65536 * (CALLS + 1));
+    for (size_t i = 0; i < CALLS; i++)
+        IS(fikzarn_answer(out, i + 1), calls[i].answer);
+    IS(kept(out, 8 * CALLS + 8, sizeof out, 170), 8);
+}
+
+/* A number's second byte is 0 (2), or is 128 or more (33), at the record's end too; where there is none it is 1. */
+static void numbers(void) {
+    no_plan(BYTES(132), 1, 1);
+    no_plan(BYTES(132, 0), 2, 0);
+    no_plan(BYTES(132, 0, 128, 128), 2, 0);
+    no_plan(BYTES(132, 128), 33, 0);
+    no_plan(BYTES(132, 128, 0, 0), 33, 0);
+    no_plan(BYTES(4, 131, 0, 0, 1), 2, 1);
+    no_plan(BYTES(4, 131, 128, 0, 1), 33, 1);
+    no_plan(BYTES(4, 1, 0, 129, 0), 2, 3);
+    no_plan(BYTES(4, 1, 0, 129, 255), 33, 3);
+    no_certificate(RECORD(APART), BYTES(128, 0, 1, 0), 2, 0);
+    no_certificate(RECORD(APART), BYTES(128, 128), 33, 0);
+    no_certificate(RECORD(APART), BYTES(0, 1, 128, 0), 2, 2);
+    no_certificate(RECORD(APART), BYTES(0, 1, 128, 128), 33, 2);
+    no_certificate(RECORD(ROW), BYTES(1, 1, 0, 1, 128, 255), 33, 4);
+    no_certificate(RECORD(SQUARE), BYTES(2, 0, 1, 130, 128), 33, 3);
+    no_certificate(RECORD(FOUR), BYTES(3, 0, 1, 2, 3, 130, 0, 0, 1), 2, 5);
+    no_certificate(RECORD(FOUR), BYTES(3, 0, 1, 2, 3, 130, 128, 0, 1), 33, 5);
+    no_parts();
+}
+
 /* Document 02's counts of four and five boxes; six boxes have 15 pairs. */
 static void counts(void) {
     const uint64_t four[] = {26, 28, 9, 1}, five[] = {296, 490, 212, 26};
@@ -391,6 +470,7 @@ int main(void) {
     mending();
     sessions();
     taken_back();
+    numbers();
     counts();
     printf("C: %u compared, %u differ\n", tested, failed);
     return failed != 0;

@@ -126,7 +126,13 @@ def _buffer(room):
 
 def plan(record, room=None):
     """Reads a whole plan record: accepted, or a plan fault. An accepted record is written again from the plan that was read, doubled
-    cables as often as they were there, where `room` bytes, by default as many as the record has, are enough for it."""
+    cables as often as they were there, where `room` bytes, by default as many as the record has, are enough for it.
+
+    A number's second byte is 0, or is 128 or more: padded, or too long.
+
+    >>> plan([132, 0]).answer.number, plan([132, 128]).answer.number
+    (2, 33)
+    """
     record = bytes(record)
     room = len(record) if room is None else room
     out = _buffer(room)

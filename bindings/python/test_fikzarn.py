@@ -47,7 +47,7 @@ def repeated(times, *others):
 class Calls(unittest.TestCase):
     def test_limits(self):
         limits = [fikzarn.edition(), fikzarn.min_boxes(), fikzarn.max_boxes(), fikzarn.max_cables(), fikzarn.certificate_room()]
-        self.assertEqual(limits, [6, 4, 128, 512, 1536])
+        self.assertEqual(limits, [7, 4, 128, 512, 1536])
         # n and m have up to two bytes each, a box has one.
         self.assertEqual(fikzarn.PLAN_ROOM, 4 + 2 * fikzarn.max_cables())
 
@@ -140,7 +140,7 @@ class Calls(unittest.TestCase):
             return lent[-1]
 
         with mock.patch.object(fikzarn, "_buffer", guarded):
-            for plan in (SMALLER[1], TWICE, FIVE_DOUBLED, repeated(508, 1, 2, 2, 3), UNSORTED):
+            for plan in (SMALLER[1], TWICE, FIVE_DOUBLED, repeated(508, 1, 2, 2, 3), UNSORTED, [132, 128]):
                 exact = [len(record) for record in fikzarn.mend(plan)[1:]]
                 for rooms in (exact, [room + 1 for room in exact], [*exact[:2], exact[2] // 2], [exact[0] // 2, *exact[1:]], 3 * [0]):
                     lent.clear()
@@ -176,6 +176,58 @@ class Calls(unittest.TestCase):
         answers = [ACCEPTED, none, ACCEPTED, none, *5 * [ACCEPTED], Answer(Case.GRADE, 3, 0), ACCEPTED, none, *2 * [ACCEPTED], none, held]
         self.assertEqual(fikzarn.session(counted(FIVE) + calls), (End.REPLAYED, [*answers, ACCEPTED, ACCEPTED]))
         self.assertEqual(fikzarn.session(counted(FIVE) + calls, room=71), (End.NO_ROOM, answers[:8]))
+
+    def test_numbers_out_of_form(self):
+        """A number's second byte is 0 (2), or is 128 or more (33), at the record's end too; where there is none it is 1. Every call that
+        reads a plan refuses it so."""
+        for plan, number, place in [
+            ([132], 1, 1),
+            ([132, 0], 2, 0),
+            ([132, 0, 128, 128], 2, 0),
+            ([132, 128], 33, 0),
+            ([132, 128, 0, 0], 33, 0),
+            ([4, 131, 0, 0, 1], 2, 1),
+            ([4, 131, 128, 0, 1], 33, 1),
+            ([4, 1, 0, 129, 0], 2, 3),
+            ([4, 1, 0, 129, 255], 33, 3),
+        ]:
+            fault = Answer(Case.PLAN_FAULT, number, place)
+            self.assertEqual(fikzarn.plan(plan), (fault, b""))
+            self.assertEqual(fikzarn.check(plan, [0, 1, 0]), fault)
+            self.assertEqual(fikzarn.certificate_length(plan), (fault, 0))
+            for room in (None, 0):
+                self.assertEqual(fikzarn.certify(plan, room), (fault, b""))
+            for rooms in (None, (0, 0, 0)):
+                self.assertEqual(fikzarn.mend(plan, rooms), (fault, b"", b"", b""))
+            answers = [fault, Answer(Case.CERTIFICATE_FAULT, 31, 0)]
+            self.assertEqual(fikzarn.session(counted(bytes(plan)) + b"c"), (End.REPLAYED, answers))
+
+    def test_certificates_out_of_form(self):
+        for plan, certificate, number, place in [
+            ([4, 0], [128, 0, 1, 0], 2, 0),
+            ([4, 0], [128, 128], 33, 0),
+            ([4, 0], [0, 1, 128, 0], 2, 2),
+            ([4, 0], [0, 1, 128, 128], 33, 2),
+            (FIVE, [2, 0, 1, 130, 128], 33, 3),
+            (FIVE, [3, 0, 1, 2, 3, 131, 0, 0, 4, 1], 2, 5),
+            (FIVE, [3, 0, 1, 2, 3, 131, 128, 0, 4, 1], 33, 5),
+        ]:
+            self.assertEqual(fikzarn.check(plan, certificate), Answer(Case.CERTIFICATE_FAULT, number, place))
+
+    def test_parts_out_of_form(self):
+        """Barn G's session, with parts that have a number out of its form before the start and before the first path."""
+        calls = [
+            (b"s", [0, 1, 2, 131, 0], Answer(Case.CERTIFICATE_FAULT, 2, 3)),
+            (b"s", [0, 1, 2, 131, 128], Answer(Case.CERTIFICATE_FAULT, 33, 3)),
+            (b"s", [0, 1, 2, 3, 131, 255, 0, 4, 1], Answer(Case.CERTIFICATE_FAULT, 33, 4)),
+            (b"s", FIVE_BUILD[1:24], ACCEPTED),
+            (b"p", [130, 0, 4, 2], Answer(Case.CERTIFICATE_FAULT, 2, 0)),
+            (b"p", [130, 128], Answer(Case.CERTIFICATE_FAULT, 33, 0)),
+            (b"p", [2, 4, 130, 128, 0], Answer(Case.CERTIFICATE_FAULT, 33, 2)),
+            (b"p", FIVE_BUILD[24:27], ACCEPTED),
+        ]
+        script = counted(FIVE) + b"".join(call + counted(bytes(part)) for call, part, _ in calls)
+        self.assertEqual(fikzarn.session(script), (End.REPLAYED, [ACCEPTED, *(answer for *_, answer in calls)]))
 
     def test_count(self):
         """Document 02's counts of four and five boxes; six boxes have 15 pairs. Some of the others have a size, or a grade, in their

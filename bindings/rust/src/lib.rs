@@ -100,6 +100,9 @@ impl fmt::Display for Answer {
 /// assert_eq!(plan(&[4, 2, 0, 1, 0, 1], &mut out), Answer::Accepted);
 /// assert_eq!(out, [4, 2, 0, 1, 0, 1, 7]);
 /// assert_eq!(plan(&[4, 2, 0, 2, 0, 1], &mut out), Answer::PlanFault(6, 4));
+/// // A number's second byte is 0, or is 128 or more: padded, or too long.
+/// assert_eq!(plan(&[132, 0], &mut out), Answer::PlanFault(2, 0));
+/// assert_eq!(plan(&[132, 128], &mut out), Answer::PlanFault(33, 0));
 /// ```
 pub fn plan(plan: &[u8], out: &mut [u8]) -> Answer {
     Answer::of(unsafe { foreign::fikzarn_plan(plan.as_ptr(), plan.len(), out.as_mut_ptr(), out.len()) })

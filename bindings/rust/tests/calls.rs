@@ -27,7 +27,7 @@ fn script(plan: &[u8]) -> Vec<u8> {
 
 #[test]
 fn limits() {
-    assert_eq!((edition(), min_boxes(), max_boxes(), max_cables()), (6, 4, 128, 512));
+    assert_eq!((edition(), min_boxes(), max_boxes(), max_cables()), (7, 4, 128, 512));
     assert_eq!(certificate_room(), CERTIFICATE_ROOM as u64);
     // n and m have up to two bytes each, a box has one.
     assert_eq!(PLAN_ROOM as u64, 4 + 2 * max_cables());
@@ -231,6 +231,76 @@ fn taken_back() {
     assert_eq!(out[144..], [170; 16]);
     let replay = session(&script, &mut out[..71]);
     assert_eq!((replay.end, replay.answers().len()), (End::NoRoom, 8));
+}
+
+/// A plan with a number out of its form, by every call that reads a plan: none writes a byte.
+fn no_plan(record: &[u8], number: u8, place: usize) {
+    let (fault, mut out) = (Answer::PlanFault(number, place), [170; CERTIFICATE_ROOM]);
+    assert_eq!(plan(record, &mut out), fault);
+    assert_eq!(certify(record, &mut out), Err(fault));
+    assert_eq!(certify(record, &mut []), Err(fault));
+    assert_eq!(out, [170; CERTIFICATE_ROOM]);
+    assert_eq!(certificate_length(record), Err(fault));
+    assert_eq!(check(record, &[0, 1, 0]), fault);
+    for rooms in [[0; 3], [PLAN_ROOM, PLAN_ROOM, CERTIFICATE_ROOM]] {
+        not_mended(record, rooms, number, place);
+    }
+    // A session that is opened on it, and closed.
+    let script = [counted(record), b"c".to_vec()].concat();
+    let replay = session(&script, &mut out);
+    assert_eq!(replay.end, End::Replayed);
+    assert!(replay.answers().eq([fault, Answer::CertificateFault(31, 0)]));
+    assert_eq!(out[16..], [170; CERTIFICATE_ROOM - 16]);
+}
+
+/// A number's second byte is 0 (2), or is 128 or more (33), at the record's end too; where there is none it is 1.
+#[test]
+fn numbers_out_of_form() {
+    no_plan(&[132], 1, 1);
+    no_plan(&[132, 0], 2, 0);
+    no_plan(&[132, 0, 128, 128], 2, 0);
+    no_plan(&[132, 128], 33, 0);
+    no_plan(&[132, 128, 0, 0], 33, 0);
+    no_plan(&[4, 131, 0, 0, 1], 2, 1);
+    no_plan(&[4, 131, 128, 0, 1], 33, 1);
+    no_plan(&[4, 1, 0, 129, 0], 2, 3);
+    no_plan(&[4, 1, 0, 129, 255], 33, 3);
+    let no_certificate = |plan: &[u8], certificate: &[u8], number, place| {
+        assert_eq!(check(plan, certificate), Answer::CertificateFault(number, place));
+    };
+    no_certificate(&[4, 0], &[128, 0, 1, 0], 2, 0);
+    no_certificate(&[4, 0], &[128, 128], 33, 0);
+    no_certificate(&[4, 0], &[0, 1, 128, 0], 2, 2);
+    no_certificate(&[4, 0], &[0, 1, 128, 128], 33, 2);
+    no_certificate(&FIVE, &[2, 0, 1, 130, 128], 33, 3);
+    no_certificate(&FIVE, &[3, 0, 1, 2, 3, 131, 0, 0, 4, 1], 2, 5);
+    no_certificate(&FIVE, &[3, 0, 1, 2, 3, 131, 128, 0, 4, 1], 33, 5);
+}
+
+/// Barn G's session, with parts that have a number out of its form before the start and before the first path.
+#[test]
+fn parts_out_of_form() {
+    use Answer::{Accepted, CertificateFault};
+    let calls = [
+        (b's', &[0, 1, 2, 131, 0][..], CertificateFault(2, 3)),
+        (b's', &[0, 1, 2, 131, 128], CertificateFault(33, 3)),
+        (b's', &[0, 1, 2, 3, 131, 255, 0, 4, 1], CertificateFault(33, 4)),
+        (b's', &FIVE_BUILD[1..24], Accepted),
+        (b'p', &[130, 0, 4, 2], CertificateFault(2, 0)),
+        (b'p', &[130, 128], CertificateFault(33, 0)),
+        (b'p', &[2, 4, 130, 128, 0], CertificateFault(33, 2)),
+        (b'p', &FIVE_BUILD[24..27], Accepted),
+    ];
+    let mut script = counted(&FIVE);
+    for (call, part, _) in calls {
+        script.push(call);
+        script.extend(counted(part));
+    }
+    let mut out = [170; 80];
+    let replay = session(&script, &mut out);
+    assert_eq!((replay.end, replay.answers().len()), (End::Replayed, 9));
+    assert!(replay.answers().skip(1).eq(calls.map(|(_, _, answer)| answer)));
+    assert_eq!(out[72..], [170; 8]);
 }
 
 /// Document 02's counts of four and five boxes; six boxes have 15 pairs. Some of the others have a size, or a grade, in their lowest bits.

@@ -53,12 +53,12 @@ in-list ns h = wider-listed (λ r. member-in r ns) h
 -- THE PLAN
 edge-by : (n : ℕ) (before : ℕ × ℕ) → By inPlan (edge n before)
 unfolding edge
-edge-by n before = let h : By inPlan number = number-listed refl refl in needs-listed (needs-listed (pair-listed h (λ lower. h)) _ _ refl) _ _ refl
+edge-by n before = let h : By inPlan number = number-listed refl refl refl in needs-listed (needs-listed (pair-listed h (λ lower. h)) _ _ refl) _ _ refl
 
 plan-by : By inPlan plan
 unfolding plan
 plan-by =
-    let h : By inPlan number = number-listed refl refl in
+    let h : By inPlan number = number-listed refl refl refl in
     into-listed (pair-listed (needs-listed h _ _ refl) (λ n. counted-listed _ (edge-by n) (needs-listed h _ _ refl) _)) _
 
 whole-by : {N : ℕ → Type 0} → ((r : ℕ) → In r inPlan → N r) → N 7 → Listed N (ended plan)
@@ -88,7 +88,7 @@ tests-by h a b c along ends new = needs-listed (needs-listed (needs-listed h _ _
 
 -- THE CERTIFICATE
 number-of : By inCertificate number
-number-of = number-listed refl refl
+number-of = number-listed refl refl refl
 
 vertex-of : (n : ℕ) → By inCertificate (vertex n)
 vertex-of n = vertex-by number-of refl n
@@ -154,7 +154,7 @@ startNumbers = listed.startAnswers .certificate
 start-by : (g : Graph) → Listed (λ r. In r startNumbers) (limited (g .n) (buildStart g))
 unfolding startIn startOn
 start-by g =
-    let h : By startNumbers number = number-listed refl refl in
+    let h : By startNumbers number = number-listed refl refl refl in
     let item : (st : BuildStart) → By startNumbers (startOn g st) = λ st. tests-by (path-by h refl (g .n) 2) refl refl refl _ _ _ in
     let all : By startNumbers (buildStart g) = pair-listed (four-by h refl refl (g .n)) (λ b. many-listed _ item _ _) in
     in-list startNumbers (limited-by (g .n) refl all)
@@ -165,7 +165,7 @@ pathNumbers = listed.pathAnswers .certificate
 build-path-by : (g : Graph) (b : Build) → Listed (λ r. In r pathNumbers) (limited (g .n) (buildPath g b))
 unfolding buildPath
 build-path-by g b =
-    let h : By pathNumbers number = number-listed refl refl in
+    let h : By pathNumbers number = number-listed refl refl refl in
     let all : By pathNumbers (buildPath g b) = needs-listed (tests-by (path-by h refl (g .n) 2) refl refl refl _ _ _) _ _ refl in
     in-list pathNumbers (limited-by (g .n) refl all)
 

@@ -1,34 +1,37 @@
--- REQUEST 1 keeps what checker, checking program, opening and maker gave for a plan record in the base edition, but for refusals by 6 and the maker's by 30. Assumes nothing.
-use Prim.Native.Nat.{ℕ, zero, suc, _<_, _≤_}
+-- REQUEST 1 keeps what checker, checking program, opening and maker gave for a plan record in the base edition, but for refusals by 6 and the maker's by 30, and request 7's 33 for 2. Assumes nothing.
+use Prim.Native.Nat.{ℕ, zero, suc, _+_, _<_, _≤_}
 use mathlib.Core.List.{List, [], _∷_}
 use mathlib.Core.Bool.{Bool, true, false, cond, _&&_, _||_}
-use mathlib.Core.Path.{_≡_, refl, ap, subst, _∙_}
+use mathlib.Core.Path.{_≡_, refl, sym, ap, subst, _∙_}
 use mathlib.Core.Logic.{_⊎_, inl, inr, ⊎-elim}
 use native.Mathlib.Omega.{arith}
 use lib.Dec.{ltb, leb, eqb}
 use lib.ListN.{length}
 use borrow.Author.Tests.{ltb-true, eqb-true, le-leb}
 use Rattle.record.specs.Read.{Read, Read.Got, Read.Refused, Reader, Each, onRead, many, _needs⟨_⟩_, _▸_, _▹_, into, within, ended}
-use Rattle.record.specs.Number.{number}
 use Rattle.record.proofs.Laws.{on-got, carry, each-same, ended-got}
 use Rattle.record.proofs.Loops.{needs-true}
 use Rattle.record.proofs.Bounds.{within-true}
 use Rattle.connectivity.specs.Build.{furtherCount}
 use Rattle.connectivity.proofs.Lists.{and-true}
 use Rattle.connectivity.proofs.Edges.{EdgeBefore, AscendingEdges, ascending-nodup, fromEdges-count}
-use Rattle.reading.specs.Plan.{Plan, EdgeAllowed, proper, follows, edge, plan}
-use Rattle.reading.specs.Code.{graphOf, wholePlan}
+use Rattle.reading.specs.Plan.{Plan, EdgeAllowed, proper, follows, plan}
+use Rattle.reading.specs.Code.{graphOf}
 use Rattle.graph.specs.declared.GraphTable.{GraphTable}
-use Rattle.record.specs.declared.Answer.{Answer}
-use Rattle.record.specs.declared.Answer.the-variants.{Accepted}
+use Rattle.record.specs.declared.Answer.the-variants.{Accepted, PlanFault}
 use Rattle.reading.proofs.EdgeTests.{each-proper}
-use Rattle.sessions.specs.Session.{opening, onOpening}
-use Rattle.checker.specs.Check.{onPlan, onLeading, checkOf, gradeOf}
+use Rattle.sessions.specs.declared.Opened.{Opened}
+use Rattle.sessions.specs.Session.{noSession, openedOn, onOpening, opening}
+use Rattle.checker.specs.Check.{checkOf, gradeOf}
 use Rattle.claims.specs.Session.{pairCount}
-use Rattle.claims.specs.Doubles.{comesAfter, baseEdge, basePlan, baseOpening, BaseKept}
+use Rattle.claims.specs.Doubles.{comesAfter, baseEdge, basePlan, baseOpening, openedBefore, BaseKept}
+use Rattle.claims.specs.Earlier as earlier
+use Rattle.claims.specs.Earlier.{number, edge}
+use Rattle.claims.specs.Numbers.{readBefore}
 use Rattle.claims.specs.Lengths.{EarlierKept}
 use Rattle.claims.proofs.Maker.{answer-on, graph-on}
-use Rattle.claims.proofs.Lengths.{bytes-stay}
+use Rattle.claims.proofs.Lengths.{stays-on}
+use Rattle.claims.proofs.Kept.{plan-same, whole-same, on-plan-same, on-leading-same}
 
 -- ---- two readings of a record
 
@@ -77,9 +80,9 @@ edge-but : (n : ℕ) (before : ℕ × ℕ) (s : List ℕ) (at : ℕ) → ButFor 
 unfolding baseEdge edge
 edge-but n before s at = needs-but ((number ▸ λ lower. number) needs⟨ 5 ⟩ proper n) 6 (comesAfter before) (follows before) (after-follows before) s at
 
--- both editions read a plan alike, unless the base refuses it by 6
-plan-but : (s : List ℕ) → ButFor 6 (basePlan s 0) (plan s 0)
-unfolding basePlan plan into _▸_ _▹_
+-- editions 1 to 6 read a plan as the base did, unless the base refuses it by 6
+plan-but : (s : List ℕ) → ButFor 6 (basePlan s 0) (earlier.plan s 0)
+unfolding basePlan earlier.plan into _▸_ _▹_
 plan-but s =
     on-but 6 _ _ _ _ (on-but 6 head head _ _ (inl refl) (λ n mid.
     on-but 6 _ _ _ _ (on-but 6 (count mid) (count mid) _ _ (inl refl) (λ m at. many-but 6 (baseEdge n) (edge n) (λ before e. e) (edge-but n) m (0, 0) s at)) (λ l next. inl refl)))
@@ -92,9 +95,9 @@ plan-but s =
     count mid = (number needs⟨ 4 ⟩ within 0 512) s mid
 
 -- .. and so a whole record
-ended-but : (P : List ℕ) → ButFor 6 (ended basePlan P 0) (ended plan P 0)
+ended-but : (P : List ℕ) → ButFor 6 (ended basePlan P 0) (ended earlier.plan P 0)
 unfolding ended
-ended-but P = on-but 6 (basePlan P 0) (plan P 0) _ _ (plan-but P) (λ p next. inl refl)
+ended-but P = on-but 6 (basePlan P 0) (earlier.plan P 0) _ _ (plan-but P) (λ p next. inl refl)
 
 -- ---- the plans that the base edition accepted
 
@@ -156,9 +159,29 @@ module _ (s : List ℕ) {p : Plan} {next : ℕ} (e : basePlan s 0 ≡ Got p next
         once = ascending-nodup (p .edges) (strict-ascends (p .n) (0, 0) (p .edges) (h .1));
       }
 
-base-opens : (P : List ℕ) → ((q : ℕ) → ¬ (ended basePlan P 0 ≡ Refused 6 q)) → opening P ≡ baseOpening (ended basePlan P 0)
+-- and in edition 7's numbers
+whole-but : (P : List ℕ) → ((q : ℕ) → ¬ (ended basePlan P 0 ≡ Refused 6 q)) → readBefore (ended plan P 0) ≡ ended basePlan P 0
+whole-but P n = sym (whole-same P) ∙ but-same (ended-but P) n
+
+leading-but : (s : List ℕ) → ((q : ℕ) → ¬ (basePlan s 0 ≡ Refused 6 q)) → readBefore (plan s 0) ≡ basePlan s 0
+leading-but s n = sym (plan-same s) ∙ but-same (plan-but s) n
+
+before-got : {A : Type 0} (x : Read A) {v : A} {next : ℕ} → readBefore x ≡ Got v next → x ≡ Got v next
+before-got (Got w n) e = e
+before-got (Refused r p) e = let z : _≡_ {A = ℕ} 0 1 = cc in absurd (omega arith)
+
+opening-same : (x : Read Plan) → openedBefore (onOpening x) ≡ onOpening (readBefore x)
+opening-same (Got p next) = go (ltb (graphOf p .d) (p .n + 2))
+  where
+    go : (b : Bool) → openedBefore (cond b (record { answer = PlanFault 29 0; session = noSession }) (record { answer = Accepted; session = openedOn (graphOf p) }))
+        ≡ cond b (record { answer = PlanFault 29 0; session = noSession }) (record { answer = Accepted; session = openedOn (graphOf p) })
+    go true = refl
+    go false = refl
+opening-same (Refused r q) = refl
+
+base-opens : (P : List ℕ) → ((q : ℕ) → ¬ (ended basePlan P 0 ≡ Refused 6 q)) → openedBefore (opening P) ≡ baseOpening (ended basePlan P 0)
 unfolding opening graphOf
-base-opens P n = ap (λ (x : Read Plan). onOpening x) (but-same (ended-but P) n) ∙ on (ended basePlan P 0) refl
+base-opens P n = opening-same (ended plan P 0) ∙ ap (λ (x : Read Plan). onOpening x) (whole-but P n) ∙ on (ended basePlan P 0) refl
   where
     on : (x : Read Plan) → ended basePlan P 0 ≡ x → onOpening x ≡ baseOpening x
     on (Got p next) h = rw (base-counts P (ended-got basePlan h .0))
@@ -168,12 +191,13 @@ base-opens P n = ap (λ (x : Read Plan). onOpening x) (but-same (ended-but P) n)
 pub base-kept : BaseKept
 unfolding checkOf gradeOf
 base-kept = record {
-  whole = λ P n. but-same (ended-but P) n;
-  leading = λ s n. but-same (plan-but s) n;
+  whole = whole-but;
+  leading = leading-but;
   counts = λ s p next h. (base-counts s h, ap (λ (d : ℕ). furtherCount d (p .n)) (base-counts s h));
-  checks = λ P C n. ap (λ (x : Read Plan). onPlan x C) (but-same (ended-but P) n);
-  grades = λ s n. ap (λ (x : Read Plan). onLeading x s) (but-same (plan-but s) n);
+  checks = λ P C n. sym (on-plan-same (ended plan P 0) C) ∙ ap (λ (x : Read Plan). earlier.onPlan x C) (whole-but P n);
+  grades = λ s n. sym (on-leading-same (plan s 0) s) ∙ ap (λ (x : Read Plan). earlier.onLeading x s) (leading-but s n);
   opens = base-opens;
-  makes = λ P bp buffer p next h. let e = but-got (ended-but P) h ∙ h in
-      subst (λ (g : GraphTable). EarlierKept P buffer Accepted g) (graph-on P e) (subst (λ (a : Answer). EarlierKept P buffer a (wholePlan P .plan .graph)) (answer-on P e) (bytes-stay P bp buffer));
+  makes = λ P bp buffer p next h.
+      let e = before-got (ended plan P 0) (sym (whole-same P) ∙ but-got (ended-but P) h ∙ h) in
+      subst (λ (g : GraphTable). EarlierKept P buffer Accepted g) (graph-on P e) (stays-on P bp buffer (answer-on P e));
 }

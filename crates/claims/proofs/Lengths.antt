@@ -20,6 +20,7 @@ use Rattle.certificates.proofs.Lengths.{numbers-bytes, bytes-count, numbers-cou
 use Rattle.graph.specs.declared.GraphTable.{GraphTable}
 use Rattle.reading.specs.Plan.{Plan, plan}
 use Rattle.reading.specs.Code.{wholePlan, planRead}
+use Rattle.reading.specs.declared.PlanRead.{PlanRead}
 use Rattle.reading.proofs.Plans.{accepted}
 use Rattle.checker.specs.Check.{planGraph, checkOf}
 use Rattle.certifier.specs.declared.Made.{Made}
@@ -29,10 +30,12 @@ use Rattle.certifier.proofs.Drafts.{length-most}
 use Rattle.claims.specs.Answers as listed
 use Rattle.claims.specs.Answers.{OneOf}
 use Rattle.claims.specs.Demands.{RefusedKeeps, RoomNamed}
+use Rattle.claims.specs.Numbers.{answerBefore, madeBefore}
 use Rattle.claims.specs.Lengths.{CertificatesCounted, MakersCounted, Measured, LengthsMeasured, earlierMade, earlierFilled, EarlierKept, BytesStay}
 use Rattle.claims.proofs.Checking.{plan-simple}
 use Rattle.claims.proofs.Maker.{writes-certified, maker-writes}
 use Rattle.claims.proofs.Answers.{demand1-answers}
+use Rattle.claims.proofs.Kept.{reads-same}
 
 -- ---- how many numbers and bytes
 
@@ -54,7 +57,7 @@ some-number (tree c first pairs S) = omega arith
 some-number (ears c d first later S) = omega arith
 some-number (build p q r s start further) = omega arith
 
-length-faults : (P : List ℕ) (r q : ℕ) → (lengthFrom P .answer ≡ PlanFault r q) ↔ (wholePlan P .answer ≡ PlanFault r q)
+pub length-faults : (P : List ℕ) (r q : ℕ) → (lengthFrom P .answer ≡ PlanFault r q) ↔ (wholePlan P .answer ≡ PlanFault r q)
 unfolding lengthBy planRead
 length-faults P r q = go (ended plan P 0)
   where
@@ -141,25 +144,25 @@ refused-keeps P buffer = record {
 -- ---- what stays
 
 -- beside an accepted plan and a buffer that was long enough
-stays-on : (P : List ℕ) → Bytes P → (buffer : List ℕ) → wholePlan P .answer ≡ Accepted → EarlierKept P buffer Accepted (wholePlan P .plan .graph)
+pub stays-on : (P : List ℕ) → Bytes P → (buffer : List ℕ) → wholePlan P .answer ≡ Accepted → EarlierKept P buffer Accepted (wholePlan P .plan .graph)
 unfolding lengthBy recordBy
 stays-on P bp buffer e n = go (ltb (length buffer) 1536) refl
   where
     g : GraphTable
     g = wholePlan P .plan .graph
 
-    go : (b : Bool) → ltb (length buffer) 1536 ≡ b → (madeFrom P buffer ≡ earlierMade buffer Accepted g) × (filledFrom P buffer ≡ earlierFilled buffer Accepted g)
+    go : (b : Bool) → ltb (length buffer) 1536 ≡ b → (madeBefore (madeFrom P buffer) ≡ earlierMade buffer Accepted g) × (filledFrom P buffer ≡ earlierFilled buffer Accepted g)
     go true t = absurd (n 0 (rw t))
     go false t =
         let l : 1536 ≤ length buffer = ltb-false _ _ t in
         let w = made-room P buffer (omega (arith, length-most P bp)) in
-        (w .0 ∙ rw (t, e), w .1 ∙ rw (t, e))
+        (ap madeBefore (w .0) ∙ rw (t, e), w .1 ∙ rw (t, e))
 
 pub bytes-stay : BytesStay
-bytes-stay P bp buffer = go (wholePlan P .answer) refl
+bytes-stay P bp buffer = subst (λ (x : PlanRead). EarlierKept P buffer (x .answer) (x .plan .graph)) (sym (reads-same P)) (go (wholePlan P .answer) refl)
   where
-    go : (a : Answer) → wholePlan P .answer ≡ a → EarlierKept P buffer a (wholePlan P .plan .graph)
+    go : (a : Answer) → wholePlan P .answer ≡ a → EarlierKept P buffer (answerBefore a) (wholePlan P .plan .graph)
     go Accepted e n = stays-on P bp buffer e n
     go (Grade k) e n = let h = subst (λ (a : Answer). OneOf listed.readingAnswers (length P) 0 a) e (demand1-answers .reading P) in absurd h
-    go (PlanFault r q) e n = fault-kept P buffer r q e
+    go (PlanFault r q) e n = let w = fault-kept P buffer r q e in (ap madeBefore (w .0), w .1)
     go (CertificateFault r q) e n = let h = subst (λ (a : Answer). OneOf listed.readingAnswers (length P) 0 a) e (demand1-answers .reading P) .0 in absurd h

@@ -32,7 +32,7 @@ use Rattle.claims.proofs.Maker.{maker-writes}
 use Rattle.claims.proofs.Lengths.{refused-keeps}
 
 -- THE CHECKING PROGRAM answers what the checker answers to the two records apart, with the plan's counts
-program-checks : (p : Plan) → Allowed p → (C : List ℕ) → _≡_ {A = Graded} (gradeOf (planBytes p ++ C)) (record { answer = checkOf (planBytes p) C; n = p .n; m = length (p .edges) })
+pub program-checks : (p : Plan) → Allowed p → (C : List ℕ) → _≡_ {A = Graded} (gradeOf (planBytes p ++ C)) (record { answer = checkOf (planBytes p) C; n = p .n; m = length (p .edges) })
 unfolding gradeOf checkOf
 program-checks p a C = rw (leads-back plan-law p C a, drop-append-seam (planBytes p) C, ended-back plan-law {v = p} refl a)
 

@@ -8,7 +8,7 @@ use Rattle.certificates.specs.Records.{vertex, sideVertex, side, pair, vertexLi
 use Rattle.checker.specs.Check.{checkOf, certificateAnswer, gradeOf}
 use Rattle.lines.specs.Lines.{digitsIn}
 use Rattle.gradeline.specs.Line.{gradeLine}
-use Rattle.claims.specs.Starred.{starred, doubled, besideLink, AllAnswered, BarnAPrinted, BackTold}
+use Rattle.claims.specs.Starred.{starred, doubled, foreign, besideLink, AllAnswered, BarnAPrinted, BackTold, ForeignTold}
 
 pub all-starred : AllAnswered starred
 unfolding _needs⟨_⟩_ _▸_ _▹_ into many check ended folded number numberIn higherGroups edge plan someBelow allBelow anyLink each along distinct vertex sideVertex side pair vertexList path ear startPath furtherPath branchFour start certificate checkOf certificateAnswer
@@ -18,6 +18,11 @@ all-starred = (refl, (refl, (refl, (refl, (refl, (refl, (refl, (refl, (refl, (re
 pub doubled-answered : AllAnswered doubled
 unfolding _needs⟨_⟩_ _▸_ _▹_ into many check ended folded number numberIn higherGroups edge plan someBelow allBelow anyLink each along distinct vertex sideVertex side pair vertexList path ear startPath furtherPath branchFour start certificate checkOf certificateAnswer
 doubled-answered = (refl, (refl, (refl, (refl, tt))))
+
+-- and those of request 7
+pub foreign-answered : AllAnswered foreign
+unfolding _needs⟨_⟩_ _▸_ _▹_ into many check ended folded number numberIn higherGroups edge plan someBelow allBelow anyLink each along distinct vertex sideVertex side pair vertexList path ear startPath furtherPath branchFour start certificate checkOf certificateAnswer
+foreign-answered = (refl, (refl, (refl, (refl, (refl, (refl, (refl, (refl, (refl, (refl, (refl, tt)))))))))))
 
 -- barn A as the checking program prints it
 pub barn-a-printed : BarnAPrinted
@@ -33,3 +38,8 @@ beside-link = refl
 pub back-told : BackTold
 unfolding _needs⟨_⟩_ _▸_ _▹_ into many ended folded number numberIn higherGroups edge plan allBelow anyLink each along distinct vertex vertexList path startPath furtherPath branchFour start
 back-told = refl
+
+-- and request 7 in a session
+pub foreign-told : ForeignTold
+unfolding _needs⟨_⟩_ _▸_ _▹_ into many ended folded number numberIn higherGroups edge plan allBelow anyLink each along distinct vertex vertexList path startPath furtherPath branchFour start
+foreign-told = refl

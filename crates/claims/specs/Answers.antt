@@ -26,10 +26,10 @@ OneOf l m c (CertificateFault r p) = In r (l .certificate) × (p ≤ c)
 
 -- the numbers of a plan's faults but for 7, and all of a certificate's
 abbrev pub inPlan : List ℕ
-inPlan = 1 ∷ 2 ∷ 3 ∷ 4 ∷ 5 ∷ 6 ∷ []
+inPlan = 1 ∷ 2 ∷ 33 ∷ 3 ∷ 4 ∷ 5 ∷ 6 ∷ []
 
 abbrev pub inCertificate : List ℕ
-inCertificate = 1 ∷ 2 ∷ 7 ∷ 8 ∷ 9 ∷ 20 ∷ 21 ∷ 22 ∷ 23 ∷ 24 ∷ 25 ∷ 26 ∷ 27 ∷ 28 ∷ 29 ∷ []
+inCertificate = 1 ∷ 2 ∷ 33 ∷ 7 ∷ 8 ∷ 9 ∷ 20 ∷ 21 ∷ 22 ∷ 23 ∷ 24 ∷ 25 ∷ 26 ∷ 27 ∷ 28 ∷ 29 ∷ []
 
 abbrev pub allGrades : List ℕ
 allGrades = 0 ∷ 1 ∷ 2 ∷ 3 ∷ []
@@ -59,10 +59,10 @@ abbrev pub openingAnswers : Answers
 openingAnswers = answers true [] (7 ∷ 29 ∷ inPlan) []
 
 abbrev pub startAnswers : Answers
-startAnswers = answers true [] [] (1 ∷ 2 ∷ 9 ∷ 20 ∷ 24 ∷ 25 ∷ 26 ∷ 31 ∷ [])
+startAnswers = answers true [] [] (1 ∷ 2 ∷ 33 ∷ 9 ∷ 20 ∷ 24 ∷ 25 ∷ 26 ∷ 31 ∷ [])
 
 abbrev pub pathAnswers : Answers
-pathAnswers = answers true [] [] (1 ∷ 2 ∷ 9 ∷ 24 ∷ 25 ∷ 26 ∷ 27 ∷ 31 ∷ [])
+pathAnswers = answers true [] [] (1 ∷ 2 ∷ 33 ∷ 9 ∷ 24 ∷ 25 ∷ 26 ∷ 27 ∷ 31 ∷ [])
 
 -- "its record at fault is the certificate"
 abbrev pub backAnswers : Answers

@@ -1,5 +1,5 @@
 -- REQUEST 4 AND THE OTHER CALLS: edition 3's session, which counted the paths that had come after the start; every list of calls without taking back is
--- answered as there. The readers, and `pairCount`, `due` and `closingAnswer`, are today's: none of them has moved since edition 3.
+-- answered as there, but that 33 was 2 (request 7). The readers are those of specs/Earlier, and `pairCount`, `due` and `closingAnswer` today's: none of them has moved since edition 3.
 use Prim.Native.Nat.{ℕ, suc, _+_}
 use mathlib.Core.List.{List, [], _∷_}
 use mathlib.Core.Bool.{cond}
@@ -11,13 +11,14 @@ use Rattle.record.specs.declared.Answer.{Answer}
 use Rattle.record.specs.declared.Answer.the-variants.{Accepted, PlanFault, CertificateFault}
 use Rattle.connectivity.specs.Path.{Path}
 use Rattle.connectivity.specs.Build.{taken}
-use Rattle.reading.specs.Plan.{Plan, plan}
-use Rattle.certificates.specs.Records.{start as startRead, furtherPath}
+use Rattle.reading.specs.Plan.{Plan}
 use Rattle.sessions.specs.Session.{opening}
 use Rattle.checker.specs.Check.{planGraph}
 use Rattle.claims.specs.Session.{pairCount, due, closingAnswer}
 use Rattle.claims.specs.Calls as now
 use Rattle.claims.specs.Calls.{Heard, heard}
+use Rattle.claims.specs.Earlier.{plan, start as startRead, furtherPath}
+use Rattle.claims.specs.Numbers.{answerBefore, heardBefore}
 
 -- what a session was: with the links of the build, how many paths had come after the start
 pub data State : Type 0 where
@@ -89,6 +90,8 @@ abbrev pub heardOn : State → List Call → List Heard
 heardOn z [] = []
 heardOn z (c ∷ cs) = record { answer = calledOn z c .answer; unread = calledOn z c .unread } ∷ heardOn (calledOn z c .state) cs
 
--- what was heard of an opening and of each call after it is what is heard of today's
+-- what was heard of an opening and of each call after it is what is heard of today's, in that edition's numbers
 abbrev pub OthersKept : Type 0
-OthersKept = (P : List ℕ) → Bytes P → (calls : List Call) → (opening P .answer ≡ openCall P .answer) × (heard (opening P .session) (today calls) ≡ heardOn (openCall P .state) calls)
+OthersKept =
+    (P : List ℕ) → Bytes P → (calls : List Call)
+    → (answerBefore (opening P .answer) ≡ openCall P .answer) × (heardBefore (heard (opening P .session) (today calls)) ≡ heardOn (openCall P .state) calls)

@@ -18,6 +18,8 @@ use Rattle.checker.specs.Check.{planGraph, checkOf}
 use Rattle.certifier.specs.declared.Made.{Made}
 use Rattle.certifier.specs.Made.{certificateOf, gradeMade, made, lengthFrom, madeFrom, filledFrom}
 use Rattle.claims.specs.Certified.{Certified}
+use Rattle.claims.specs.Earlier as earlier
+use Rattle.claims.specs.Numbers.{madeBefore}
 use Rattle.claims.specs.Demands.{Writes}
 
 -- Every accepted certificate, whoever wrote it: its record is that of its numbers; they are as many as document 02 says for its kind; and
@@ -48,8 +50,8 @@ pub record Measured (P : List ℕ) : Type 0 where
 abbrev pub LengthsMeasured : Type 0
 LengthsMeasured = (P : List ℕ) → Bytes P → Measured P
 
--- The maker of the editions before: for an accepted plan 30 at 0 where the buffer has less than 1,536 bytes. Its certificate was
--- `certificateOf`, which did not move.
+-- The maker of the editions before, from what reading the plan answered there: for an accepted plan 30 at 0 where the buffer has less than 1,536 bytes. Its
+-- certificate was `certificateOf`, which did not move.
 abbrev pub earlierMade : List ℕ → Answer → GraphTable → Made
 earlierMade buffer Accepted g = cond (ltb (length buffer) 1536) (made (PlanFault 30 0) 0) (made (Grade (gradeMade g)) (length (certificateOf g)))
 earlierMade buffer (Grade k) g = made (Grade k) 0
@@ -62,10 +64,10 @@ earlierFilled buffer (Grade k) g = buffer
 earlierFilled buffer (PlanFault r p) g = buffer
 earlierFilled buffer (CertificateFault r p) g = buffer
 
--- Unless those editions gave 30, the maker answers what they answered, and leaves in the buffer what they left.
+-- Unless those editions gave 30, the maker answers what they answered, but that 33 was 2 (request 7), and leaves in the buffer what they left.
 abbrev pub EarlierKept : List ℕ → List ℕ → Answer → GraphTable → Type 0
 EarlierKept P buffer a g =
-    ((q : ℕ) → ¬ (earlierMade buffer a g .answer ≡ PlanFault 30 q)) → (madeFrom P buffer ≡ earlierMade buffer a g) × (filledFrom P buffer ≡ earlierFilled buffer a g)
+    ((q : ℕ) → ¬ (earlierMade buffer a g .answer ≡ PlanFault 30 q)) → (madeBefore (madeFrom P buffer) ≡ earlierMade buffer a g) × (filledFrom P buffer ≡ earlierFilled buffer a g)
 
 abbrev pub BytesStay : Type 0
-BytesStay = (P : List ℕ) → Bytes P → (buffer : List ℕ) → EarlierKept P buffer (wholePlan P .answer) (wholePlan P .plan .graph)
+BytesStay = (P : List ℕ) → Bytes P → (buffer : List ℕ) → EarlierKept P buffer (earlier.wholePlan P .answer) (earlier.wholePlan P .plan .graph)

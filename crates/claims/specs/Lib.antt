@@ -1,6 +1,8 @@
 pub mod Certified
 pub mod Session
 pub mod Calls
+pub mod Earlier
+pub mod Numbers
 pub mod Starred
 pub mod Answers
 pub mod Exports

@@ -68,6 +68,22 @@ doubled =
     example doubledB (3 ∷ 0 ∷ 1 ∷ 2 ∷ 3 ∷ 0 ∷ 1 ∷ 2 ∷ 3 ∷ 0 ∷ 3 ∷ 1 ∷ 1 ∷ 2 ∷ []) (CertificateFault 29 0) ∷
     example (4 ∷ 2 ∷ 0 ∷ 2 ∷ 0 ∷ 1 ∷ []) [] (PlanFault 6 4) ∷ []
 
+-- request 7 of document 02: numbers that go on after their second byte, at a record's end too, beside padded ones and one that the record's end cuts; the plan's n and m, and in certificates of
+-- each kind the kind, the side's count, a box of a pair, an ear's length, and a box of a start path
+abbrev pub foreign : List Example
+foreign =
+    example (132 ∷ 128 ∷ []) [] (PlanFault 33 0) ∷
+    example (132 ∷ []) [] (PlanFault 1 1) ∷
+    example (4 ∷ 128 ∷ 255 ∷ 0 ∷ []) [] (PlanFault 33 1) ∷
+    example (4 ∷ 128 ∷ 0 ∷ []) [] (PlanFault 2 1) ∷
+    example (4 ∷ 0 ∷ []) (128 ∷ 128 ∷ 1 ∷ 0 ∷ []) (CertificateFault 33 0) ∷
+    example (4 ∷ 0 ∷ []) (0 ∷ 129 ∷ 0 ∷ 0 ∷ []) (CertificateFault 2 1) ∷
+    example (4 ∷ 0 ∷ []) (0 ∷ 129 ∷ 129 ∷ 0 ∷ []) (CertificateFault 33 1) ∷
+    example (4 ∷ 3 ∷ 0 ∷ 1 ∷ 1 ∷ 2 ∷ 2 ∷ 3 ∷ []) (1 ∷ 1 ∷ 0 ∷ 1 ∷ 128 ∷ 200 ∷ []) (CertificateFault 33 4) ∷
+    example planB (2 ∷ 0 ∷ 1 ∷ 2 ∷ 131 ∷ 128 ∷ []) (CertificateFault 33 4) ∷
+    example (exampleA .plan) (3 ∷ 0 ∷ 1 ∷ 2 ∷ 3 ∷ 2 ∷ 0 ∷ 129 ∷ 0 ∷ []) (CertificateFault 2 7) ∷
+    example (exampleA .plan) (3 ∷ 0 ∷ 1 ∷ 2 ∷ 3 ∷ 2 ∷ 0 ∷ 129 ∷ 128 ∷ []) (CertificateFault 33 7) ∷ []
+
 -- the checker answers each as said
 abbrev pub AllAnswered : List Example → Type 0
 AllAnswered [] = Unit {0}
@@ -103,3 +119,11 @@ BackTold = told (openCall complete5 .state) (
     ≡ CertificateFault 31 0 ∷ Accepted ∷ CertificateFault 31 0
     ∷ CertificateFault 27 0 ∷ Accepted ∷ Accepted ∷ Accepted ∷ Accepted ∷ CertificateFault 31 0 ∷ CertificateFault 27 0
     ∷ Accepted ∷ Accepted ∷ Accepted ∷ Grade 3 ∷ Accepted ∷ CertificateFault 31 0 ∷ Accepted ∷ Grade 3 ∷ []
+
+-- request 7 in a session, on barn G's plan: a start and a path, each with a number that goes on after its second byte and with a padded one; refused, they may be tried again
+abbrev pub ForeignTold : Type 0
+ForeignTold = told (openCall complete5 .state) (
+    start (0 ∷ 1 ∷ 130 ∷ 130 ∷ []) ∷ start (0 ∷ 1 ∷ 130 ∷ 0 ∷ []) ∷ start (0 ∷ 1 ∷ 2 ∷ 3 ∷ 3 ∷ 0 ∷ 4 ∷ 1 ∷ 2 ∷ 0 ∷ 2 ∷ 2 ∷ 0 ∷ 3 ∷ 2 ∷ 1 ∷ 2 ∷ 2 ∷ 1 ∷ 3 ∷ 2 ∷ 2 ∷ 3 ∷ [])
+    ∷ path (130 ∷ 128 ∷ []) ∷ path (2 ∷ 2 ∷ 132 ∷ 0 ∷ []) ∷ path (2 ∷ 2 ∷ 132 ∷ 255 ∷ []) ∷ path (2 ∷ 2 ∷ 4 ∷ []) ∷ [])
+    ≡ CertificateFault 33 2 ∷ CertificateFault 2 2 ∷ Accepted
+    ∷ CertificateFault 33 0 ∷ CertificateFault 2 2 ∷ CertificateFault 33 2 ∷ Accepted ∷ []

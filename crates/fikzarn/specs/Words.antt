@@ -42,4 +42,4 @@ replayWord r = word (r .status) 0 (r .count)
 
 -- the edition of the format
 abbrev pub edition : ℕ
-edition = 6
+edition = 7

@@ -134,7 +134,7 @@ pub extern "C" fn fikzarn_mend(
 pub extern "C" fn fikzarn_edition() -> u64
     ensures { λ r. ⌜ r ≡ edition ⌝ }
 {
-    6
+    7
 }
 
 #[no_mangle]

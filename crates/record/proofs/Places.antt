@@ -62,15 +62,15 @@ placed-number s at h zero = h
 placed-number s at h (suc k) =
     placed-byte s at (group (higherGroups k at) s at) (λ i. placed-group s at (getD s at 0) (higherGroups k at) i (placed-higher s at h k (at + 1)))
 
-pub number-listed : {N : ℕ → Type 0} → N 1 → N 2 → Listed N number
+pub number-listed : {N : ℕ → Type 0} → N 1 → N 2 → N 33 → Listed N number
 unfolding number
-number-listed {N} one two = record { ends = λ s at h. go s (numberIn maxGroups s at) (placed-number s at h maxGroups) }
+number-listed {N} one two long = record { ends = λ s at h. go s (numberIn maxGroups s at) (placed-number s at h maxGroups) }
   where
     go : (s : List ℕ) (x : Number) → Placed s x → Ends N s (asRead x)
     go s (Value v next) p = p
     go s (Ended q) p = (one, p)
     go s (Padded q) p = (two, p)
-    go s (Overlong q) p = (two, p)
+    go s (Overlong q) p = (long, p)
 
 -- what goes on, and what is tested
 module _ (N : ℕ → Type 0) (s : List ℕ) where

@@ -44,12 +44,13 @@ numberLimit = 128 ^ maxGroups
 abbrev pub numberAt : List ℕ → ℕ → Number
 numberAt s at = numberIn maxGroups s at
 
--- document 01's number and place for each fault: 1 at the record's length, 2 at the number's first byte
+-- the papers' number and place for each fault: 1 at the record's length; at the number's first byte 2 for a second byte of 0, and by request 7 of document 02
+-- "number 33 takes a second byte of 128 or more"
 abbrev pub faultNumber : Number → ℕ
 faultNumber (Value v next) = 0
 faultNumber (Ended p) = 1
 faultNumber (Padded p) = 2
-faultNumber (Overlong p) = 2
+faultNumber (Overlong p) = 33
 
 abbrev pub faultPlace : Number → ℕ
 faultPlace (Value v next) = 0

@@ -1,4 +1,4 @@
--- Reading a record: from a place on, a value and the place after it, or a refusal with document 01's number and its place.
+-- Reading a record: from a place on, a value and the place after it, or a refusal with the papers' number and its place.
 use Prim.Native.Nat.{ℕ, zero, suc, _<_}
 use mathlib.Core.List.{List, [], _∷_}
 use mathlib.Core.Bool.{Bool, cond, _&&_}

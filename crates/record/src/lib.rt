@@ -23,7 +23,7 @@ impl Number {
     pub const LIMIT: u16 = Number::GROUP * Number::GROUP;
 }
 
-// An answer: accepted without a grade; a grade; or the record at fault with document 01's number and a place.
+// An answer: accepted without a grade; a grade; or the record at fault with the papers' number and a place.
 pub enum Answer {
     Accepted,
     Grade(u8),
@@ -61,7 +61,7 @@ pub fn read_number(s: &[u8], at: usize) -> Number
     Number::Overlong(at)
 }
 
-// Document 01's number for what is wrong with a number, and where; 0 and 0 for a number that was read.
+// The papers' number for what is wrong with a number, and where; 0 and 0 for a number that was read.
 pub fn fault_number(x: Number) -> u8
     ensures { λ r. ⌜ r ≡ faultNumber x ⌝ }
 {
@@ -69,7 +69,7 @@ pub fn fault_number(x: Number) -> u8
         Number::Value(_, _) => 0,
         Number::Ended(_) => 1,
         Number::Padded(_) => 2,
-        Number::Overlong(_) => 2,
+        Number::Overlong(_) => 33,
     }
 }
 
