@@ -20,7 +20,6 @@ use Rattle.reading.specs.Code.{graphOf}
 use Rattle.graph.specs.declared.GraphTable.{GraphTable}
 use Rattle.record.specs.declared.Answer.the-variants.{Accepted, PlanFault}
 use Rattle.reading.proofs.EdgeTests.{each-proper}
-use Rattle.sessions.specs.declared.Opened.{Opened}
 use Rattle.sessions.specs.Session.{noSession, openedOn, onOpening, opening}
 use Rattle.checker.specs.Check.{checkOf, gradeOf}
 use Rattle.claims.specs.Session.{pairCount}

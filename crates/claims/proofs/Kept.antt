@@ -15,16 +15,14 @@ use Rattle.connectivity.specs.Path.{Path}
 use Rattle.graph.specs.Limits.{maxEdges}
 use Rattle.graph.specs.declared.GraphTable.{GraphTable}
 use Rattle.reading.specs.declared.PlanRead.{PlanRead}
-use Rattle.reading.specs.Plan.{Plan, plan}
+use Rattle.reading.specs.Plan.{Plan, plan, planBytes}
 use Rattle.reading.specs.Code.{planRead, wholePlan}
 use Rattle.certificates.specs.Tests.{allBelow, isBranch}
 use Rattle.certificates.specs.Records.{start as readStart, furtherPath, certificate}
-use Rattle.sessions.specs.Session.{opening}
-use Rattle.checker.specs.declared.Graded.{Graded}
 use Rattle.checker.specs.Check.{planGraph, onCertificate, certificateAnswer, onPlan, checkOf, onLeading, gradeOf}
 use Rattle.certifier.specs.declared.Made.{Made}
 use Rattle.certifier.specs.Made.{made, lengthBy, lengthFrom, recordBy, recordFrom, fitted, madeFrom, filledBy, filledFrom}
-use Rattle.mending.specs.Mend.{listOf, Records, refusal, mendRecords, recordsOf, recordsRead, recordsFrom, Outcome, haveRoom, wrote, tooShort, mendFrom}
+use Rattle.mending.specs.Mend.{listOf, listPlan, mendedPlan, Records, refusal, mendRecords, recordsOf, recordsRead, recordsFrom, Outcome, haveRoom, wrote, tooShort, mendFrom}
 use Rattle.claims.specs.Session as of
 use Rattle.claims.specs.Session.{State, State.never, State.waiting, State.building, Gives, pairCount, due}
 use Rattle.claims.specs.Calls.{Call, Call.start, Call.path, Call.back, Call.close, Heard, calledOn, heardOn}
@@ -111,8 +109,11 @@ fitted-same buffer m = go (ltb (length buffer) (m .length))
 makes-same : (P buffer : List ℕ) → earlier.madeFrom P buffer ≡ madeBefore (madeFrom P buffer)
 makes-same P buffer = ap (fitted buffer) (measures-same P) ∙ fitted-same buffer (lengthFrom P)
 
+record-same : (P : List ℕ) → earlier.recordFrom P ≡ recordFrom P
+record-same P = ap (λ (x : PlanRead). recordBy (x .answer) (x .plan .graph)) (reads-same P) ∙ by-same (wholePlan P .answer) (wholePlan P .plan .graph) .1
+
 fills-same : (P buffer : List ℕ) → earlier.filledFrom P buffer ≡ filledFrom P buffer
-fills-same P buffer = ap (filledBy buffer) (ap (λ (x : PlanRead). recordBy (x .answer) (x .plan .graph)) (reads-same P) ∙ by-same (wholePlan P .answer) (wholePlan P .plan .graph) .1)
+fills-same P buffer = ap (filledBy buffer) (record-same P)
 
 -- ---- mending
 
@@ -121,13 +122,14 @@ recordsBefore x = record { answer = answerBefore (x .answer); list = x .list; me
 
 records-same : (P : List ℕ) → earlier.recordsFrom P ≡ recordsBefore (recordsFrom P)
 unfolding recordsRead recordsOf
-records-same P = ap (λ (x : Read Plan). recordsRead x) (whole-same P) ∙ go (ended plan P 0)
+records-same P = ap (λ (x : Read Plan). earlier.recordsRead x) (whole-same P) ∙ go (ended plan P 0)
   where
-    test : (p : Plan) (b : Bool) → cond b (refusal 32 0) (mendRecords p) ≡ recordsBefore (cond b (refusal 32 0) (mendRecords p))
+    test : (p : Plan) (b : Bool) → cond b (refusal 32 0) (earlier.mendRecords p) ≡ recordsBefore (cond b (refusal 32 0) (mendRecords p))
     test p true = refl
-    test p false = refl
+    test p false =
+        ap (λ (c : List ℕ). record { answer = Grade 3; list = planBytes (listPlan p); mended = planBytes (mendedPlan p); certificate = c }) (record-same (planBytes (mendedPlan p)))
 
-    go : (x : Read Plan) → recordsRead (readBefore x) ≡ recordsBefore (recordsRead x)
+    go : (x : Read Plan) → earlier.recordsRead (readBefore x) ≡ recordsBefore (recordsRead x)
     go (Got p next) = test p (ltb maxEdges (length (p .edges) + length (listOf p)))
     go (Refused r q) = refl
 

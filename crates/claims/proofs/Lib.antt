@@ -20,6 +20,7 @@ pub mod Editions
 pub mod Doubles
 pub mod Mending
 pub mod MendWords
+pub mod Groups
 pub mod Turns
 pub mod Readers
 pub mod Kept

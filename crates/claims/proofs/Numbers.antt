@@ -1,6 +1,6 @@
 -- REQUEST 7: every call answers 2 or 33 at p exactly where it reads a number at p that is padded, or that goes on after its second byte. Assumes nothing.
-use Prim.Native.Nat.{ℕ, _+_, _-_, _<_, _≤_}
-use mathlib.Core.List.{List, [], _∷_, _++_}
+use Prim.Native.Nat.{ℕ, zero, suc, _+_, _<_, _≤_}
+use mathlib.Core.List.{List, _++_}
 use mathlib.Core.Bool.{Bool, true, false, cond}
 use mathlib.Core.Path.{_≡_, refl, sym, ap, _∙_, subst, fun-ext}
 use mathlib.Core.Logic.{_⊎_, inl, inr, _↔_, _≢_}
@@ -8,31 +8,30 @@ use native.Mathlib.Omega.{arith}
 use lib.ListN.{length, getD, take, drop}
 use lib.Dec.{ltb}
 use Rattle.record.specs.Read.{Read, Read.Got, Read.Refused, Reader, Bytes, onRead, ended}
-use Rattle.record.specs.Number.{number}
+use Rattle.record.specs.Number.{number, numberAt, asRead}
 use Rattle.record.specs.declared.Answer.{Answer}
-use Rattle.record.specs.declared.Answer.the-variants.{Accepted, Grade, PlanFault, CertificateFault}
+use Rattle.record.specs.declared.Answer.the-variants.{Accepted, PlanFault, CertificateFault}
 use Rattle.connectivity.specs.Certificate.{Certificate}
-use Rattle.connectivity.specs.Path.{Path}
 use Rattle.graph.specs.Limits.{maxEdges}
 use Rattle.reading.specs.Plan.{Plan, Allowed, plan, planBytes}
 use Rattle.reading.specs.Code.{graphOf, planRead, wholePlan}
 use Rattle.certificates.specs.Records.{start as readStart, furtherPath, certificate as readCertificate}
 use Rattle.sessions.specs.declared.Opened.{Opened}
-use Rattle.sessions.specs.declared.Session.{Session}
 use Rattle.sessions.specs.Session.{opening, onOpening, noSession, openedOn, startStep, pathStep}
 use Rattle.checker.specs.Check.{planGraph, onCertificate, certificateAnswer, onPlan, checkOf, onLeading, gradeOf}
 use Rattle.checker.specs.declared.Graded.{Graded}
 use Rattle.certifier.specs.declared.Made.{Made}
-use Rattle.certifier.specs.Made.{lengthFrom, madeFrom}
+use Rattle.certifier.specs.Made.{madeFrom}
 use Rattle.certifier.proofs.Room.{made-room, made-none, by-room}
-use Rattle.mending.specs.Mend.{listOf, refusal, Records, mendRecords, recordsOf, recordsRead, recordsFrom, mendFrom}
+use Rattle.mending.specs.Mend.{listOf, refusal, mendRecords, recordsOf, recordsRead, recordsFrom, mendFrom}
 use Rattle.mending.proofs.Fits.{mend-either}
 use Rattle.claims.specs.Session as of
 use Rattle.claims.specs.Session.{State, State.never, State.waiting, State.building, due}
 use Rattle.claims.specs.Calls.{Call, Call.start, Call.path, sessionAfter}
 use Rattle.claims.specs.Back.{stateAfter}
 use Rattle.claims.specs.Numbers.{Pads, GoesOn, ReadsAt, Tells, NumbersTold}
-use Rattle.claims.proofs.Turns.{Seen, Seen.none, Seen.one, Seen.half, Seen.pads, Seen.two, Seen.over, see, read-pads, read-over, OfNumber, Turn, got-refused, refused-number}
+use Rattle.claims.proofs.Groups.{padded-there, padded-back, too-long-there, too-long-back}
+use Rattle.claims.proofs.Turns.{OfNumber, Turn, got-refused, refused-number, read-padded, read-overlong}
 use Rattle.claims.proofs.Readers.{plan-turns, certificate-turns, start-turns, further-turns}
 use Rattle.claims.proofs.Demand1.{At, agree, at-after, opens-at}
 use Rattle.claims.proofs.Lengths.{length-faults, refused-keeps}
@@ -42,27 +41,26 @@ use Rattle.claims.proofs.Printed.{program-checks}
 -- ---- the number at p
 
 -- 2 is given for a padded number, 33 for one that goes on after its second byte
-pads-there : (s : List ℕ) (p : ℕ) → number s p ≡ Refused 2 p → Pads s p
-pads-there s p e = go (number s p) (see s p) e
-  where
-    go : (x : Read ℕ) → Seen s p x → x ≡ Refused 2 p → Pads s p
-    go x (none h) e = let z = refused-number e .0 in absurd (omega arith)
-    go x (one h a) e = absurd (got-refused e)
-    go x (half h a) e = let z = refused-number e .0 in absurd (omega arith)
-    go x (pads h a b) e = (h, a, b)
-    go x (two h a b c) e = absurd (got-refused e)
-    go x (over h a b) e = let z = refused-number e .0 in absurd (omega arith)
+number-pads : (s : List ℕ) (p : ℕ) → (number s p ≡ Refused 2 p) ↔ Pads s p
+unfolding number
+number-pads s p = (λ e. padded-there p s p (read-padded (numberAt s p) e), λ x. ap asRead (padded-back p s (x .0) (x .1) (x .2)))
 
-goes-on-there : (s : List ℕ) (p : ℕ) → number s p ≡ Refused 33 p → GoesOn s p
-goes-on-there s p e = go (number s p) (see s p) e
+number-goes-on : (s : List ℕ) (p : ℕ) → (number s p ≡ Refused 33 p) ↔ GoesOn s p
+unfolding number
+number-goes-on s p = (
+  λ e.
+      let r = too-long-there 1 p s p (read-overlong (numberAt s p) e) in
+      let a : (p + 0 < length s) × (128 ≤ getD s (p + 0) 0) = r 0 (omega arith) in
+      let b : (p + 1 < length s) × (128 ≤ getD s (p + 1) 0) = r 1 (omega arith) in
+      let z : p + 0 ≡ p = omega arith in
+      (b .0, rw z at (a .1), b .1),
+  λ x. ap asRead (too-long-back 1 p s (two x)),
+)
   where
-    go : (x : Read ℕ) → Seen s p x → x ≡ Refused 33 p → GoesOn s p
-    go x (none h) e = let z = refused-number e .0 in absurd (omega arith)
-    go x (one h a) e = absurd (got-refused e)
-    go x (half h a) e = let z = refused-number e .0 in absurd (omega arith)
-    go x (pads h a b) e = let z = refused-number e .0 in absurd (omega arith)
-    go x (two h a b c) e = absurd (got-refused e)
-    go x (over h a b) e = (h, a, b)
+    two : GoesOn s p → (i : ℕ) → i < 2 → (p + i < length s) × (128 ≤ getD s (p + i) 0)
+    two x zero h = let i = x .0 in let z : p + 0 ≡ p = omega arith in rw z (let y : p < length s = omega arith in y, x .1)
+    two x (suc zero) h = (x .0, x .2)
+    two x (suc (suc i)) h = absurd (omega arith)
 
 -- ---- a call that reads by F, from the record's start
 
@@ -85,8 +83,8 @@ module _ {A : Type 0} {F₀ F : List ℕ → Read A} (h : Turn 0 F₀ F) {call :
 
   tells : Tells call fault
   tells = record {
-    padded = λ s p. (λ e. let t = told s p 2 (inl refl) e in (t .0, pads-there s p (t .1)), λ x. let y = x .1 in let i = y .0 in tells-back s p 2 (inl refl) (omega arith) (x .0) (read-pads s p (y .0) (y .1) (y .2)));
-    too-long = λ s p. (λ e. let t = told s p 33 (inr refl) e in (t .0, goes-on-there s p (t .1)), λ x. let y = x .1 in let i = y .0 in tells-back s p 33 (inr refl) (omega arith) (x .0) (read-over s p (y .0) (y .1) (y .2)));
+    padded = λ s p. (λ e. let t = told s p 2 (inl refl) e in (t .0, number-pads s p .0 (t .1)), λ x. let y = x .1 in let i = y .0 in tells-back s p 2 (inl refl) (omega arith) (x .0) (number-pads s p .1 y));
+    too-long = λ s p. (λ e. let t = told s p 33 (inr refl) e in (t .0, number-goes-on s p .0 (t .1)), λ x. let y = x .1 in let i = y .0 in tells-back s p 33 (inr refl) (omega arith) (x .0) (number-goes-on s p .1 y));
   }
 
 -- a call that never gives such a fault

@@ -1,11 +1,10 @@
 -- The readers of plans, certificates, starts and paths, now and before request 7: each passes the faults of numbers on. Assumes nothing.
-use Prim.Native.Nat.{ℕ, zero, suc, _-_}
+use Prim.Native.Nat.{ℕ, zero, suc}
 use mathlib.Core.List.{List}
 use mathlib.Core.Bool.{Bool}
-use mathlib.Core.Path.{_≡_, refl}
+use mathlib.Core.Path.{refl}
 use lib.Dec.{leb}
 use Rattle.record.specs.Read.{Reader, _needs⟨_⟩_}
-use Rattle.record.specs.Number.{number}
 use Rattle.connectivity.specs.Graph.{Graph}
 use Rattle.connectivity.specs.Path.{Path}
 use Rattle.reading.specs.Plan.{edge, plan}

@@ -1,84 +1,23 @@
 -- What every reader does with the faults of a number: it stops there and passes the fault on, and before that it needs no byte from there on; and what it gave before request 7. One law for
 -- each way of putting readers together. Assumes nothing.
-use Prim.Native.Nat.{ℕ, zero, suc, _+_, _-_, _*_, _<_, _≤_}
+use Prim.Native.Nat.{ℕ, zero, suc, _-_, _<_, _≤_}
 use mathlib.Core.List.{List, [], _∷_}
 use mathlib.Core.Bool.{Bool, true, false, cond, not, _||_}
 use mathlib.Core.Path.{_≡_, refl, sym, ap, _∙_, subst}
-use mathlib.Core.Logic.{_⊎_, inl, inr, ⊎-elim, _≢_}
+use mathlib.Core.Logic.{_⊎_, inl, inr, _≢_}
 use native.Mathlib.Omega.{arith}
 use lib.ListN.{length, getD, take, length-take}
 use lib.Seq.{getD-take}
 use lib.Dec.{ltb, eqb}
-use borrow.Author.Tests.{ltb-true, ltb-false, eqb-true, eqb-false, lt-ltb, le-ltb, eq-eqb, ne-eqb}
+use borrow.Author.Tests.{ltb-true, ltb-false, ne-eqb}
 use Rattle.record.specs.Read.{Read, Read.Got, Read.Refused, Reader, onRead, _needs⟨_⟩_, _▸_, _▹_, into, many, counted, check}
-use Rattle.record.specs.Number.{number, numberAt, numberIn, higherGroups, asRead}
+use Rattle.record.specs.Number.{number, numberAt, asRead}
 use Rattle.record.specs.declared.Number.{Number}
 use Rattle.record.specs.declared.Number.the-variants.{Value, Ended, Padded, Overlong}
 use Rattle.record.proofs.Laws.{on-got, carry}
 use Rattle.claims.specs.Earlier as earlier
 use Rattle.claims.specs.Numbers.{numberBefore, readBefore}
-
--- ---- the number at a place
-
--- what stands there
-pub data Seen (s : List ℕ) (at : ℕ) : Read ℕ → Type 0 where
-  none : length s ≤ at → Seen s at (Refused 1 (length s))
-  one : at < length s → getD s at 0 < 128 → Seen s at (Got (getD s at 0) (at + 1))
-  half : at + 1 ≡ length s → 128 ≤ getD s at 0 → Seen s at (Refused 1 (length s))
-  pads : at + 1 < length s → 128 ≤ getD s at 0 → getD s (at + 1) 0 ≡ 0 → Seen s at (Refused 2 at)
-  two : at + 1 < length s → 128 ≤ getD s at 0 → 0 < getD s (at + 1) 0 → getD s (at + 1) 0 < 128
-      → Seen s at (Got (getD s at 0 - 128 + getD s (at + 1) 0 * 128) (at + 1 + 1))
-  over : at + 1 < length s → 128 ≤ getD s at 0 → 128 ≤ getD s (at + 1) 0 → Seen s at (Refused 33 at)
-
-module _ (s : List ℕ) (at : ℕ) where
-  read-none : length s ≤ at → number s at ≡ Refused 1 (length s)
-  unfolding number numberIn
-  read-none h = rw (le-ltb at (length s) h)
-
-  read-one : at < length s → getD s at 0 < 128 → number s at ≡ Got (getD s at 0) (at + 1)
-  unfolding number numberIn
-  read-one h a = rw (lt-ltb at (length s) h, lt-ltb (getD s at 0) 128 a)
-
-  read-half : at < length s → length s ≤ at + 1 → 128 ≤ getD s at 0 → number s at ≡ Refused 1 (length s)
-  unfolding number numberIn higherGroups
-  read-half h i a = rw (lt-ltb at (length s) h, le-ltb (getD s at 0) 128 a, le-ltb (at + 1) (length s) i)
-
-  pub read-pads : at + 1 < length s → 128 ≤ getD s at 0 → getD s (at + 1) 0 ≡ 0 → number s at ≡ Refused 2 at
-  unfolding number numberIn higherGroups
-  read-pads h a b = let i : at < length s = omega arith in rw (lt-ltb at (length s) i, le-ltb (getD s at 0) 128 a, lt-ltb (at + 1) (length s) h, b)
-
-  read-two : at + 1 < length s → 128 ≤ getD s at 0 → 0 < getD s (at + 1) 0 → getD s (at + 1) 0 < 128
-      → number s at ≡ Got (getD s at 0 - 128 + getD s (at + 1) 0 * 128) (at + 1 + 1)
-  unfolding number numberIn higherGroups
-  read-two h a b c =
-      let i : at < length s = omega arith in
-      rw (lt-ltb at (length s) i, le-ltb (getD s at 0) 128 a, lt-ltb (at + 1) (length s) h, ne-eqb (getD s (at + 1) 0) 0 (λ e. omega arith), lt-ltb (getD s (at + 1) 0) 128 c)
-
-  pub read-over : at + 1 < length s → 128 ≤ getD s at 0 → 128 ≤ getD s (at + 1) 0 → number s at ≡ Refused 33 at
-  unfolding number numberIn higherGroups
-  read-over h a b =
-      let i : at < length s = omega arith in
-      rw (lt-ltb at (length s) i, le-ltb (getD s at 0) 128 a, lt-ltb (at + 1) (length s) h, ne-eqb (getD s (at + 1) 0) 0 (λ e. omega arith), le-ltb (getD s (at + 1) 0) 128 b)
-
-  pub see : Seen s at (number s at)
-  see = first (ltb at (length s)) refl (ltb (getD s at 0) 128) refl
-    where
-      second : at < length s → 128 ≤ getD s at 0 → (b : Bool) → ltb (at + 1) (length s) ≡ b → (c : Bool) → eqb (getD s (at + 1) 0) 0 ≡ c → (d : Bool) → ltb (getD s (at + 1) 0) 128 ≡ d → Seen s at (number s at)
-      second i a false e c f d g = let h : length s ≤ at + 1 = ltb-false _ _ e in subst (Seen s at) (sym (read-half i h a)) (half (omega arith) a)
-      second i a true e true f d g = let h : at + 1 < length s = ltb-true _ _ e in let z : getD s (at + 1) 0 ≡ 0 = eqb-true _ _ f in subst (Seen s at) (sym (read-pads h a z)) (pads h a z)
-      second i a true e false f true g =
-          let h : at + 1 < length s = ltb-true _ _ e in
-          let n = eqb-false (getD s (at + 1) 0) 0 f in
-          let z : 0 < getD s (at + 1) 0 = omega arith in
-          let y : getD s (at + 1) 0 < 128 = ltb-true _ _ g in
-          subst (Seen s at) (sym (read-two h a z y)) (two h a z y)
-      second i a true e false f false g =
-          let h : at + 1 < length s = ltb-true _ _ e in let y : 128 ≤ getD s (at + 1) 0 = ltb-false _ _ g in subst (Seen s at) (sym (read-over h a y)) (over h a y)
-
-      first : (b : Bool) → ltb at (length s) ≡ b → (c : Bool) → ltb (getD s at 0) 128 ≡ c → Seen s at (number s at)
-      first false e c f = let h : length s ≤ at = ltb-false _ _ e in subst (Seen s at) (sym (read-none h)) (none h)
-      first true e true f = let h : at < length s = ltb-true _ _ e in let a : getD s at 0 < 128 = ltb-true _ _ f in subst (Seen s at) (sym (read-one h a)) (one h a)
-      first true e false f = second (ltb-true _ _ e) (ltb-false _ _ f) (ltb (at + 1) (length s)) refl (eqb (getD s (at + 1) 0) 0) refl (ltb (getD s (at + 1) 0) 128) refl
+use Rattle.claims.proofs.Groups.{Grouped, number-grouped, number-there, number-none}
 
 -- ---- readings that begin at a place
 
@@ -122,13 +61,47 @@ stands-join {s} {a} {b} {c} x y =
     go false e h = let i : c ≤ b = ltb-false _ _ e in let j = y .up in let z : b ≡ c = omega arith in subst (λ (k : ℕ). getD s (k - 1) 0 < 128) z (x .ends (omega arith))
 
 -- ---- a number
+
 pub refused-number : {A : Type 0} {r t p q : ℕ} → _≡_ {A = Read A} (Refused r p) (Refused t q) → (r ≡ t) × (p ≡ q)
 refused-number e = (cc, cc)
 
 pub got-refused : {A : Type 0} {v : A} {next r p : ℕ} → _≡_ {A = Read A} (Got v next) (Refused r p) → ⊥
 got-refused e = let z : _≡_ {A = ℕ} 0 1 = cc in omega arith
 
+-- what was read of a number, and its faults
+read-value : (x : Number) {v next : ℕ} → asRead x ≡ Got v next → x ≡ Value v next
+read-value (Value w n) {v} {next} e = carry (λ (a b : ℕ). _≡_ {A = Number} (Value w n) (Value a b)) e refl
+read-value (Ended p) e = absurd (got-refused (sym e))
+read-value (Padded p) e = absurd (got-refused (sym e))
+read-value (Overlong p) e = absurd (got-refused (sym e))
+
+read-ended : (x : Number) {q : ℕ} → asRead x ≡ Refused 1 q → x ≡ Ended q
+read-ended (Value w n) e = absurd (got-refused e)
+read-ended (Ended p) e = ap Ended (refused-number e .1)
+read-ended (Padded p) e = let z = refused-number e .0 in absurd (omega arith)
+read-ended (Overlong p) e = let z = refused-number e .0 in absurd (omega arith)
+
+pub read-padded : (x : Number) {p : ℕ} → asRead x ≡ Refused 2 p → x ≡ Padded p
+read-padded (Value w n) e = absurd (got-refused e)
+read-padded (Ended q) e = let z = refused-number e .0 in absurd (omega arith)
+read-padded (Padded q) e = ap Padded (refused-number e .1)
+read-padded (Overlong q) e = let z = refused-number e .0 in absurd (omega arith)
+
+pub read-overlong : (x : Number) {p : ℕ} → asRead x ≡ Refused 33 p → x ≡ Overlong p
+read-overlong (Value w n) e = absurd (got-refused e)
+read-overlong (Ended q) e = let z = refused-number e .0 in absurd (omega arith)
+read-overlong (Padded q) e = let z = refused-number e .0 in absurd (omega arith)
+read-overlong (Overlong q) e = ap Overlong (refused-number e .1)
+
+read-fault : (x : Number) (r : ℕ) {p : ℕ} → OfNumber r → asRead x ≡ Refused r p → (x ≡ Padded p) ⊎ (x ≡ Overlong p)
+read-fault x r {p} (inl o) e = inl (read-padded x (e ∙ ap (λ (k : ℕ). Refused k p) o))
+read-fault x r {p} (inr o) e = inr (read-overlong x (e ∙ ap (λ (k : ℕ). Refused k p) o))
+
+-- one group at least, and at most as many as document 01 allows
 module _ (at : ℕ) where
+  h : Grouped at at (λ s. numberAt s at)
+  h = number-grouped 1 at
+
   number-same : (s : List ℕ) → earlier.number s at ≡ readBefore (number s at)
   unfolding number earlier.number
   number-same s = go (numberAt s at)
@@ -140,96 +113,51 @@ module _ (at : ℕ) where
       go (Overlong p) = refl
 
   number-stands : (s : List ℕ) {v next : ℕ} → number s at ≡ Got v next → Stands s at next
-  number-stands s {v} {next} e = go (number s at) (see s at) e
-    where
-      go : (x : Read ℕ) → Seen s at x → x ≡ Got v next → Stands s at next
-      go x (one h a) e = carry (λ w n. Stands s at n) e (record { up = omega arith; within = λ i. omega arith; ends = λ i. let z : at + 1 - 1 ≡ at = omega arith in rw z a })
-      go x (two h a b c) e =
-          carry (λ w n. Stands s at n) e (record { up = omega arith; within = λ i. omega arith; ends = λ i. let z : at + 1 + 1 - 1 ≡ at + 1 = omega arith in rw z c })
-      go x (none h) e = absurd (got-refused (sym e))
-      go x (half h a) e = absurd (got-refused (sym e))
-      go x (pads h a b) e = absurd (got-refused (sym e))
-      go x (over h a b) e = absurd (got-refused (sym e))
+  unfolding number
+  number-stands s e = let r = h .value s (read-value (numberAt s at) e) in let u = r .0 in record { up = omega arith; within = λ i. r .1; ends = λ i. r .2 }
 
   -- where the first p bytes hold what is read, they read alike
   number-cut : (s : List ℕ) (p : ℕ) {v next : ℕ} → number s at ≡ Got v next → next ≤ p → number (take p s) at ≡ Got v next
-  number-cut s p {v} {next} e k = go (number s at) (see s at) e
-    where
-      go : (x : Read ℕ) → Seen s at x → x ≡ Got v next → number (take p s) at ≡ Got v next
-      go x (one h a) e =
-          let n : at + 1 ≡ next = cc in
-          let g = getD-take p s at 0 (omega arith) in
-          let l = length-take p s in
-          let i : at < length (take p s) = omega arith in
-          let b : getD (take p s) at 0 < 128 = omega arith in
-          read-one (take p s) at i b ∙ rw g e
-      go x (two h a b c) e =
-          let n : at + 1 + 1 ≡ next = cc in
-          let g = getD-take p s at 0 (omega arith) in
-          let f = getD-take p s (at + 1) 0 (omega arith) in
-          let l = length-take p s in
-          let i : at + 1 < length (take p s) = omega arith in
-          read-two (take p s) at i (omega arith) (omega arith) (omega arith) ∙ rw (g, f) e
-      go x (none h) e = absurd (got-refused (sym e))
-      go x (half h a) e = absurd (got-refused (sym e))
-      go x (pads h a b) e = absurd (got-refused (sym e))
-      go x (over h a b) e = absurd (got-refused (sym e))
+  unfolding number
+  number-cut s p {v} {next} e k =
+      let x = read-value (numberAt s at) e in
+      let n = h .value s x .1 in
+      let l = length-take p s in
+      ap asRead (h .alike s (take p s) x (λ i j. getD-take p s i 0 (omega arith)) (omega arith))
 
   number-grown : (s : List ℕ) (p : ℕ) {v next : ℕ} → number (take p s) at ≡ Got v next → number s at ≡ Got v next
-  number-grown s p {v} {next} e = go (number (take p s) at) (see (take p s) at) e
-    where
-      go : (x : Read ℕ) → Seen (take p s) at x → x ≡ Got v next → number s at ≡ Got v next
-      go x (one h a) e =
-          let l = length-take p s in
-          let g = getD-take p s at 0 (omega arith) in
-          read-one s at (omega arith) (omega arith) ∙ rw (← g) e
-      go x (two h a b c) e =
-          let l = length-take p s in
-          let g = getD-take p s at 0 (omega arith) in
-          let f = getD-take p s (at + 1) 0 (omega arith) in
-          read-two s at (omega arith) (omega arith) (omega arith) (omega arith) ∙ rw (← g, ← f) e
-      go x (none h) e = absurd (got-refused (sym e))
-      go x (half h a) e = absurd (got-refused (sym e))
-      go x (pads h a b) e = absurd (got-refused (sym e))
-      go x (over h a b) e = absurd (got-refused (sym e))
-
-  -- without its bytes the record ends before it
-  number-ends : (s : List ℕ) → at < length s → number (take at s) at ≡ Refused 1 at
-  number-ends s h = let l = length-take at s in let n : length (take at s) ≡ at = omega arith in read-none (take at s) at (omega arith) ∙ rw n
+  unfolding number
+  number-grown s p {v} {next} e =
+      let x = read-value (numberAt (take p s) at) e in
+      let n = h .value (take p s) x .1 in
+      let l = length-take p s in
+      ap asRead (h .alike (take p s) s x (λ i j. sym (getD-take p s i 0 (omega arith))) (omega arith))
 
   number-fault : (s : List ℕ) (r p : ℕ) → OfNumber r → number s at ≡ Refused r p → (number s p ≡ Refused r p) × (number (take p s) at ≡ Refused 1 p) × (Stands s at p)
-  number-fault s r p o e = go (number s at) (see s at) e
-    where
-      there : at < length s → at ≡ p → (number s p ≡ Refused r p) × (number (take p s) at ≡ Refused 1 p) × (Stands s at p)
-      there h z = (rw (← z) (e ∙ rw (← z)), rw (← z) (number-ends s h), rw (← z) (stands-none s at))
-
-      go : (x : Read ℕ) → Seen s at x → x ≡ Refused r p → (number s p ≡ Refused r p) × (number (take p s) at ≡ Refused 1 p) × (Stands s at p)
-      go x (none h) e = let z = refused-number e .0 in absurd (⊎-elim (λ e. omega arith) (λ e. omega arith) o)
-      go x (one h a) e = absurd (got-refused e)
-      go x (half h a) e = let z = refused-number e .0 in absurd (⊎-elim (λ e. omega arith) (λ e. omega arith) o)
-      go x (pads h a b) e = there (omega arith) (refused-number e .1)
-      go x (two h a b c) e = absurd (got-refused e)
-      go x (over h a b) e = there (omega arith) (refused-number e .1)
+  unfolding number
+  number-fault s r p o e =
+      let x = read-fault (numberAt s at) r o e in
+      let z : p ≡ at = h .fault s p x in
+      let i : at < length s = number-there 1 at s p x in
+      let l = length-take p s in
+      let n : length (take p s) ≡ p = omega arith in
+      (rw z (e ∙ rw z), ap asRead (number-none 1 at (take p s) (omega arith)) ∙ ap (Refused 1) n, rw z (stands-none s at))
 
   number-due : (s : List ℕ) (p : ℕ) {q r t : ℕ} → number (take p s) at ≡ Refused 1 q → at ≤ p → p ≤ length s → (at < p → getD s (p - 1) 0 < 128) → number s p ≡ Refused r t → number s at ≡ Refused r t
-  number-due s p {q} {r} {t} e i j k f = go (number (take p s) at) (see (take p s) at) e
+  unfolding number
+  number-due s p {q} {r} {t} e i j k f =
+      let l = length-take p s in
+      let n : length (take p s) ≡ p = omega arith in
+      go (ltb at p) refl n (h .ended (take p s) (read-ended (numberAt (take p s) at) e) .1)
     where
-      l : length (take p s) ≡ p
-      l = omega (arith, length-take p s)
-
-      go : (x : Read ℕ) → Seen (take p s) at x → x ≡ Refused 1 q → number s at ≡ Refused r t
-      go x (none h) e = let m = l in let z : at ≡ p = omega arith in rw z f
-      go x (one h a) e = absurd (got-refused e)
-      go x (half h a) e =
-          let m = l in
-          let y : at < p = omega arith in
-          let z : p - 1 ≡ at = omega arith in
-          let g = getD-take p s at 0 y in
-          let b : getD s at 0 < 128 = rw (← z) (k y) in
+      go : (b : Bool) → ltb at p ≡ b → length (take p s) ≡ p → (at < length (take p s) → 128 ≤ getD (take p s) (length (take p s) - 1) 0) → asRead (numberAt s at) ≡ Refused r t
+      go false c n byte = let y : p ≤ at = ltb-false _ _ c in let z : at ≡ p = omega arith in rw z f
+      go true c n byte =
+          let y : at < p = ltb-true _ _ c in
+          let b : 128 ≤ getD (take p s) (p - 1) 0 = rw n at (byte (omega arith)) in
+          let g = getD-take p s (p - 1) 0 (omega arith) in
+          let d = k y in
           absurd (omega arith)
-      go x (pads h a b) e = let z = refused-number e .0 in absurd (omega arith)
-      go x (two h a b c) e = absurd (got-refused e)
-      go x (over h a b) e = let z = refused-number e .0 in absurd (omega arith)
 
 pub number-turns : Turns earlier.number number
 number-turns at = record { same = number-same at; stands = number-stands at; cut = number-cut at; grown = number-grown at; fault = number-fault at; due = number-due at }

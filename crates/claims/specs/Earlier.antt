@@ -1,5 +1,5 @@
 -- BEFORE REQUEST 7: the readers and the calls as edition 6 had them. A number that goes on after its second byte was refused 2 there, as a padded one. All that is written
--- here reads numbers; what reads none, the tests, the figures, the records that are written, is today's and has not moved.
+-- here reads numbers; what reads none, such as the tests, the figures and the list of a mend, is today's and has not moved.
 use Prim.Native.Nat.{ℕ, zero, suc, _+_, _-_}
 use mathlib.Core.List.{List, [], _∷_}
 use mathlib.Core.Bool.{Bool, cond, not, _||_}
@@ -10,7 +10,7 @@ use Rattle.record.specs.Number.{numberAt}
 use Rattle.record.specs.declared.Number.{Number}
 use Rattle.record.specs.declared.Number.the-variants.{Value, Ended, Padded, Overlong}
 use Rattle.record.specs.declared.Answer.{Answer}
-use Rattle.record.specs.declared.Answer.the-variants.{PlanFault}
+use Rattle.record.specs.declared.Answer.the-variants.{Grade, PlanFault}
 use Rattle.connectivity.specs.Lists.{member}
 use Rattle.connectivity.specs.Graph.{Graph, edgeCount}
 use Rattle.connectivity.specs.Path.{Path}
@@ -18,7 +18,7 @@ use Rattle.connectivity.specs.Build.{taken, final, furtherCount}
 use Rattle.connectivity.specs.Certificate.{Certificate, Certificate.separation, Certificate.tree, Certificate.ears, Certificate.build}
 use Rattle.graph.specs.Limits.{minVertices, maxVertices, maxEdges}
 use Rattle.reading.specs.declared.PlanRead.{PlanRead}
-use Rattle.reading.specs.Plan.{Plan, proper, follows}
+use Rattle.reading.specs.Plan.{Plan, proper, follows, planBytes}
 use Rattle.reading.specs.Code.{planRead}
 use Rattle.certificates.specs.Tests.{nobody, with, allBelow, bothHold, noEdgeBetween, pathAlong, pathNew, earAlong, earEnds, earNew, earTaken, Start, startEnds, startTaken, isBranch, inBuild, endsIn, endsApart}
 use Rattle.certificates.specs.Records.{linkOf, firstEar, laterEars, starting}
@@ -26,7 +26,7 @@ use Rattle.checker.specs.declared.Graded.{Graded}
 use Rattle.checker.specs.Check.{planGraph, onCertificate}
 use Rattle.certifier.specs.declared.Made.{Made}
 use Rattle.certifier.specs.Made.{lengthBy, recordBy, fitted, filledBy}
-use Rattle.mending.specs.Mend.{Records, recordsRead, Outcome, haveRoom, wrote, tooShort}
+use Rattle.mending.specs.Mend.{listOf, listPlan, mendedPlan, Records, refusal, Outcome, haveRoom, wrote, tooShort}
 use Rattle.claims.specs.Session.{State, State.never, State.waiting, State.building, Gives, refuses, onPlanRead, onStartRead, onPathRead, due, backCall, closeCall}
 use Rattle.claims.specs.Calls.{Call, Call.start as starts, Call.path as goes, Call.back as takes-back, Call.close as closes, Heard}
 
@@ -133,11 +133,24 @@ gradeOf s = onLeading (plan s 0) s
 abbrev pub lengthFrom : List ℕ → Made
 lengthFrom s = lengthBy (wholePlan s .answer) (wholePlan s .plan .graph)
 
+abbrev pub recordFrom : List ℕ → List ℕ
+recordFrom s = recordBy (wholePlan s .answer) (wholePlan s .plan .graph)
+
 abbrev pub madeFrom : List ℕ → List ℕ → Made
 madeFrom s buffer = fitted buffer (lengthFrom s)
 
 abbrev pub filledFrom : List ℕ → List ℕ → List ℕ
-filledFrom s buffer = filledBy buffer (recordBy (wholePlan s .answer) (wholePlan s .plan .graph))
+filledFrom s buffer = filledBy buffer (recordFrom s)
+
+abbrev pub mendRecords : Plan → Records
+mendRecords p = record { answer = Grade 3; list = planBytes (listPlan p); mended = planBytes (mendedPlan p); certificate = recordFrom (planBytes (mendedPlan p)) }
+
+abbrev pub recordsOf : Plan → Records
+recordsOf p = cond (ltb maxEdges (length (p .edges) + length (listOf p))) (refusal 32 0) (mendRecords p)
+
+abbrev pub recordsRead : Read Plan → Records
+recordsRead (Got p next) = recordsOf p
+recordsRead (Refused r q) = refusal r q
 
 abbrev pub recordsFrom : List ℕ → Records
 recordsFrom s = recordsRead (ended plan s 0)

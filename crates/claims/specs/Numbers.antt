@@ -12,7 +12,6 @@ use Rattle.record.specs.declared.Answer.the-variants.{Accepted, Grade, PlanFaul
 use Rattle.reading.specs.declared.PlanRead.{PlanRead}
 use Rattle.reading.specs.Plan.{Plan, Allowed, planBytes}
 use Rattle.reading.specs.Code.{wholePlan}
-use Rattle.sessions.specs.declared.Session.{Session}
 use Rattle.sessions.specs.Session.{opening, startStep, pathStep}
 use Rattle.checker.specs.declared.Graded.{Graded}
 use Rattle.checker.specs.Check.{checkOf, gradeOf}
