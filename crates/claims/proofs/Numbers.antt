@@ -29,7 +29,7 @@ use Rattle.claims.specs.Session as of
 use Rattle.claims.specs.Session.{State, State.never, State.waiting, State.building, due}
 use Rattle.claims.specs.Calls.{Call, Call.start, Call.path, sessionAfter}
 use Rattle.claims.specs.Back.{stateAfter}
-use Rattle.claims.specs.Numbers.{Pads, GoesOn, ReadsAt, Tells, NumbersTold}
+use Rattle.claims.specs.Numbers.{Pads, GoesOn, ReadsAt, TellsApart, NumbersTold}
 use Rattle.claims.proofs.Groups.{padded-there, padded-back, too-long-there, too-long-back}
 use Rattle.claims.proofs.Turns.{OfNumber, Turn, got-refused, refused-number, read-padded, read-overlong}
 use Rattle.claims.proofs.Readers.{plan-turns, certificate-turns, start-turns, further-turns}
@@ -81,14 +81,14 @@ module _ {A : Type 0} {F₀ F : List ℕ → Read A} (h : Turn 0 F₀ F) {call :
   tells-back : (s : List ℕ) (p r : ℕ) → OfNumber r → p ≤ length s → ReadsAt call fault s p → number s p ≡ Refused r p → call s ≡ fault r p
   tells-back s p r o i x f = k s r p (inr o) .1 (h .due s p (k (take p s) 1 p (inl refl) .0 (x .due)) (omega arith) i (x .begins) f)
 
-  tells : Tells call fault
+  tells : TellsApart call fault
   tells = record {
     padded = λ s p. (λ e. let t = told s p 2 (inl refl) e in (t .0, number-pads s p .0 (t .1)), λ x. let y = x .1 in let i = y .0 in tells-back s p 2 (inl refl) (omega arith) (x .0) (number-pads s p .1 y));
     too-long = λ s p. (λ e. let t = told s p 33 (inr refl) e in (t .0, number-goes-on s p .0 (t .1)), λ x. let y = x .1 in let i = y .0 in tells-back s p 33 (inr refl) (omega arith) (x .0) (number-goes-on s p .1 y));
   }
 
 -- a call that never gives such a fault
-silent : {call : List ℕ → Answer} {fault : ℕ → ℕ → Answer} → ((s : List ℕ) (r p : ℕ) → Numbered r → call s ≡ fault r p → ⊥) → Tells call fault
+silent : {call : List ℕ → Answer} {fault : ℕ → ℕ → Answer} → ((s : List ℕ) (r p : ℕ) → Numbered r → call s ≡ fault r p → ⊥) → TellsApart call fault
 silent n = record {
   padded = λ s p. (λ e. absurd (n s 2 p (inr (inl refl)) e), λ x. absurd (n (take p s) 1 p (inl refl) (x .0 .due)));
   too-long = λ s p. (λ e. absurd (n s 33 p (inr (inr refl)) e), λ x. absurd (n (take p s) 1 p (inl refl) (x .0 .due)));
@@ -135,7 +135,7 @@ chain : {X Y Z : Type 0} → X ↔ Y → Y ↔ Z → X ↔ Z
 chain a b = (λ x. b .0 (a .0 x), λ z. a .1 (b .1 z))
 
 -- a call that reads a whole plan, and whose answer is a function of what was read
-plan-tells : {call : List ℕ → Answer} → ((P : List ℕ) (r p : ℕ) → Numbered r → (call P ≡ PlanFault r p) ↔ (ended plan P 0 ≡ Refused r p)) → Tells call PlanFault
+plan-tells : {call : List ℕ → Answer} → ((P : List ℕ) (r p : ℕ) → Numbered r → (call P ≡ PlanFault r p) ↔ (ended plan P 0 ≡ Refused r p)) → TellsApart call PlanFault
 plan-tells k = tells (plan-turns 0) (λ P r p o. chain (k P r p o) (ended-passes plan P r p o))
 
 -- ---- the plan
@@ -198,37 +198,37 @@ mending-is list mended certificate P r p o = (
 
 -- ---- the certificate
 
-certificate-tells : (p : Plan) → Tells (λ C. certificateAnswer p C) CertificateFault
+certificate-tells : (p : Plan) → TellsApart (λ C. certificateAnswer p C) CertificateFault
 unfolding certificateAnswer
 certificate-tells p = tells (certificate-turns (planGraph p) 0) (λ C r q o.
     chain (by-cases certificate-apart onCertificate (λ r q. refl) r q (λ c next e. let z : _≡_ {A = ℕ} 0 1 = cc in omega arith) (ended (readCertificate (planGraph p)) C 0))
     (ended-passes (readCertificate (planGraph p)) C r q o))
 
-checker-tells : (P : List ℕ) → Tells (λ C. checkOf P C) CertificateFault
+checker-tells : (P : List ℕ) → TellsApart (λ C. checkOf P C) CertificateFault
 unfolding checkOf
 checker-tells P = go (ended plan P 0)
   where
-    go : (x : Read Plan) → Tells (λ C. onPlan x C) CertificateFault
+    go : (x : Read Plan) → TellsApart (λ C. onPlan x C) CertificateFault
     go (Got p next) = certificate-tells p
     go (Refused r q) = silent (λ s n t o e. let z : _≡_ {A = ℕ} 0 1 = cc in omega arith)
 
-behind-tells : (p : Plan) → Allowed p → Tells (λ C. gradeOf (planBytes p ++ C) .answer) CertificateFault
-behind-tells p a = subst (λ (call : List ℕ → Answer). Tells call CertificateFault) (fun-ext (λ C. sym (ap (λ (x : Graded). x .answer) (program-checks p a C)))) (checker-tells (planBytes p))
+behind-tells : (p : Plan) → Allowed p → TellsApart (λ C. gradeOf (planBytes p ++ C) .answer) CertificateFault
+behind-tells p a = subst (λ (call : List ℕ → Answer). TellsApart call CertificateFault) (fun-ext (λ C. sym (ap (λ (x : Graded). x .answer) (program-checks p a C)))) (checker-tells (planBytes p))
 
 -- ---- the session, by the documents' one
 
-start-tells : (z : State) → Tells (λ part. of.startCall z part .answer) CertificateFault
+start-tells : (z : State) → TellsApart (λ part. of.startCall z part .answer) CertificateFault
 start-tells never = silent (λ s n t o e. other 31 n (λ z. omega arith) (λ z. omega arith) (λ z. omega arith) o (certificate-apart 31 0 n t e .0))
 start-tells (waiting p) = tells (start-turns (planGraph p) 0) (λ part r q o.
     by-cases certificate-apart (λ x. of.onStartRead p part x .answer) (λ r q. refl) r q (λ x next e. let z : _≡_ {A = ℕ} 0 1 = cc in omega arith) (readStart (planGraph p) part 0))
 start-tells (building p links earlier) = silent (λ s n t o e. other 31 n (λ z. omega arith) (λ z. omega arith) (λ z. omega arith) o (certificate-apart 31 0 n t e .0))
 
-path-tells : (z : State) → Tells (λ part. of.pathCall z part .answer) CertificateFault
+path-tells : (z : State) → TellsApart (λ part. of.pathCall z part .answer) CertificateFault
 path-tells never = silent (λ s n t o e. other 31 n (λ z. omega arith) (λ z. omega arith) (λ z. omega arith) o (certificate-apart 31 0 n t e .0))
 path-tells (waiting p) = silent (λ s n t o e. other 31 n (λ z. omega arith) (λ z. omega arith) (λ z. omega arith) o (certificate-apart 31 0 n t e .0))
 path-tells (building p links earlier) = go (ltb (length earlier) (due p))
   where
-    go : (b : Bool) → Tells (λ part. cond b (of.onPathRead p links earlier part (furtherPath (planGraph p) links part 0)) (of.refuses (building p links earlier) part 31 0) .answer) CertificateFault
+    go : (b : Bool) → TellsApart (λ part. cond b (of.onPathRead p links earlier part (furtherPath (planGraph p) links part 0)) (of.refuses (building p links earlier) part 31 0) .answer) CertificateFault
     go true = tells (further-turns (planGraph p) links 0) (λ part r q o.
         by-cases certificate-apart (λ x. of.onPathRead p links earlier part x .answer) (λ r q. refl) r q (λ x next e. let z : _≡_ {A = ℕ} 0 1 = cc in omega arith) (furtherPath (planGraph p) links part 0))
     go false = silent (λ s n t o e. other 31 n (λ z. omega arith) (λ z. omega arith) (λ z. omega arith) o (certificate-apart 31 0 n t e .0))
@@ -240,11 +240,11 @@ module _ (P : List ℕ) (bytes : Bytes P) (calls : List Call) where
   there : At (sessionAfter (opening P .session) calls) state
   there = at-after calls (opening P .session) (of.openCall P .state) (opens-at P bytes .state)
 
-  starts-told : Tells (λ part. startStep (sessionAfter (opening P .session) calls) part .answer) CertificateFault
-  starts-told = subst (λ (call : List ℕ → Answer). Tells call CertificateFault) (fun-ext (λ part. sym (agree _ state there (start part) .answer))) (start-tells state)
+  starts-told : TellsApart (λ part. startStep (sessionAfter (opening P .session) calls) part .answer) CertificateFault
+  starts-told = subst (λ (call : List ℕ → Answer). TellsApart call CertificateFault) (fun-ext (λ part. sym (agree _ state there (start part) .answer))) (start-tells state)
 
-  paths-told : Tells (λ part. pathStep (sessionAfter (opening P .session) calls) part .answer) CertificateFault
-  paths-told = subst (λ (call : List ℕ → Answer). Tells call CertificateFault) (fun-ext (λ part. sym (agree _ state there (path part) .answer))) (path-tells state)
+  paths-told : TellsApart (λ part. pathStep (sessionAfter (opening P .session) calls) part .answer) CertificateFault
+  paths-told = subst (λ (call : List ℕ → Answer). TellsApart call CertificateFault) (fun-ext (λ part. sym (agree _ state there (path part) .answer))) (path-tells state)
 
 -- EVERY CALL THAT READS NUMBERS TELLS THE TWO APART
 pub numbers-told : NumbersTold

@@ -36,24 +36,24 @@ pub record ReadsAt (call : List ℕ → Answer) (fault : ℕ → ℕ → Answer)
 
 -- "Number 2 stays with a second byte of 0, and number 33 takes a second byte of 128 or more, in the same turn and at the same place.": the call answers 2 or 33 at p exactly
 -- where it reads a number at p that is padded, or that goes on after its second byte.
-pub record Tells (call : List ℕ → Answer) (fault : ℕ → ℕ → Answer) : Type 0 where
+pub record TellsApart (call : List ℕ → Answer) (fault : ℕ → ℕ → Answer) : Type 0 where
   pub padded : (s : List ℕ) (p : ℕ) → (call s ≡ fault 2 p) ↔ (ReadsAt call fault s p × Pads s p)
   pub too-long : (s : List ℕ) (p : ℕ) → (call s ≡ fault 33 p) ↔ (ReadsAt call fault s p × GoesOn s p)
 
 -- "Everything that reads numbers passes the difference on, sessions included.": reading a plan; the checker, for the plan and for certificates of every kind; the checking program, for the
 -- plan at the front of its input and for what comes behind it; the maker, with a buffer or asked for the length alone; mending; opening; a start and a path, after any list of session calls.
 pub record NumbersTold : Type 0 where
-  pub reading : Tells (λ P. wholePlan P .answer) PlanFault
-  pub plan-checked : (C : List ℕ) → Tells (λ P. checkOf P C) PlanFault
-  pub certificate-checked : (P : List ℕ) → Tells (λ C. checkOf P C) CertificateFault
-  pub plan-leading : Tells (λ s. gradeOf s .answer) PlanFault
-  pub certificate-behind : (p : Plan) → Allowed p → Tells (λ C. gradeOf (planBytes p ++ C) .answer) CertificateFault
-  pub making : (buffer : List ℕ) → Tells (λ P. madeFrom P buffer .answer) PlanFault
-  pub measuring : Tells (λ P. lengthFrom P .answer) PlanFault
-  pub mending : (list mended certificate : List ℕ) → Tells (λ P. mendFrom P list mended certificate .answer .answer) PlanFault
-  pub plan-opened : Tells (λ P. opening P .answer) PlanFault
-  pub starting : (P : List ℕ) → Bytes P → (calls : List Call) → Tells (λ part. startStep (sessionAfter (opening P .session) calls) part .answer) CertificateFault
-  pub pathing : (P : List ℕ) → Bytes P → (calls : List Call) → Tells (λ part. pathStep (sessionAfter (opening P .session) calls) part .answer) CertificateFault
+  pub reading : TellsApart (λ P. wholePlan P .answer) PlanFault
+  pub plan-checked : (C : List ℕ) → TellsApart (λ P. checkOf P C) PlanFault
+  pub certificate-checked : (P : List ℕ) → TellsApart (λ C. checkOf P C) CertificateFault
+  pub plan-leading : TellsApart (λ s. gradeOf s .answer) PlanFault
+  pub certificate-behind : (p : Plan) → Allowed p → TellsApart (λ C. gradeOf (planBytes p ++ C) .answer) CertificateFault
+  pub making : (buffer : List ℕ) → TellsApart (λ P. madeFrom P buffer .answer) PlanFault
+  pub measuring : TellsApart (λ P. lengthFrom P .answer) PlanFault
+  pub mending : (list mended certificate : List ℕ) → TellsApart (λ P. mendFrom P list mended certificate .answer .answer) PlanFault
+  pub plan-opened : TellsApart (λ P. opening P .answer) PlanFault
+  pub starting : (P : List ℕ) → Bytes P → (calls : List Call) → TellsApart (λ part. startStep (sessionAfter (opening P .session) calls) part .answer) CertificateFault
+  pub pathing : (P : List ℕ) → Bytes P → (calls : List Call) → TellsApart (λ part. pathStep (sessionAfter (opening P .session) calls) part .answer) CertificateFault
 
 -- NOTHING ELSE CHANGES. A number of a refusal, an answer, and what holds one, as edition 6 (specs/Earlier) gave it: 33 was 2, and all the rest is the same.
 abbrev pub numberBefore : ℕ → ℕ
