@@ -253,34 +253,56 @@ pub too-long-back : (k at : ℕ) (s : List ℕ) → Runs (suc k) s at → number
 unfolding numberIn
 too-long-back k at s r = let f = runs-less k s at r in long-back at s true k at (higher-back at s k (at + 1) (f .2)) (f .0) (f .1)
 
--- the second byte of a padded number of at most two groups is 0
-module _ (at : ℕ) (s : List ℕ) where
-  second-there : (p : ℕ) → higherGroups 1 at s (at + 1) ≡ Padded p → (at + 1 < length s) × (getD s (at + 1) 0 ≡ 0)
+-- .. and a number is padded exactly where some such bytes, fewer than it may have, are followed by a byte of 0
+module _ (start : ℕ) (s : List ℕ) where
+  kept : (y : Number) (f : ℕ → ℕ → ℕ) {p : ℕ} → onHigher y (λ v next. Value (f v next) next) ≡ Padded p → y ≡ Padded p
+  kept (Value v next) f e = absurd (apart 0 2 refl refl (λ z. omega arith) e)
+  kept (Ended q) f e = e
+  kept (Padded q) f e = e
+  kept (Overlong q) f e = e
+
+  -- j bytes, then 0
+  abbrev Zero : ℕ → ℕ → Type 0
+  Zero j at = (Runs j s at) × (at + j < length s) × (getD s (at + j) 0 ≡ 0)
+
+  zero-more : (j at : ℕ) → at < length s → 128 ≤ getD s at 0 → Zero j (at + 1) → Zero (suc j) at
+  zero-more j at i a x = let z : at + suc j ≡ at + 1 + j = omega arith in (runs-more j s at i a (x .0), rw z (x .1), rw z (x .2))
+
+  zero-less : (j at : ℕ) → Zero (suc j) at → (at < length s) × (128 ≤ getD s at 0) × (Zero j (at + 1))
+  zero-less j at x = let r = runs-less j s at (x .0) in let z : at + suc j ≡ at + 1 + j = omega arith in (r .0, r .1, (r .2, rw (← z) (x .1), rw (← z) (x .2)))
+
+  pad-there : (k at p : ℕ) → higherGroups k start s at ≡ Padded p → (j : ℕ) × (j < k) × (Zero j at)
   unfolding higherGroups
-  second-there p e = go (higherGroups 1 at s (at + 1)) (see false 0 at s (at + 1)) e
+  pad-there zero at p e = absurd (apart 3 2 refl refl (λ z. omega arith) e)
+  pad-there (suc k) at p e = go (pad-there k (at + 1) p) (higherGroups (suc k) start s at) (see false k start s at) e
     where
-      go : (x : Number) → Group false 0 at s (at + 1) x → x ≡ Padded p → (at + 1 < length s) × (getD s (at + 1) 0 ≡ 0)
-      go x (none i) e = absurd (apart 1 2 refl refl (λ z. omega arith) e)
-      go x (pad i b c) e = (i, b)
-      go x (last i a t) e = absurd (apart 0 2 refl refl (λ z. omega arith) e)
-      go x (more i a) e = absurd (apart 3 2 refl refl (λ z. omega arith) e)
+      go : (higherGroups k start s (at + 1) ≡ Padded p → (j : ℕ) × (j < k) × (Zero j (at + 1))) → (x : Number) → Group false k start s at x → x ≡ Padded p → (j : ℕ) × (j < suc k) × (Zero j at)
+      go above x (none i) e = absurd (apart 1 2 refl refl (λ z. omega arith) e)
+      go above x (pad i b c) e = let z : at + 0 ≡ at = omega arith in (0, let y : 0 < suc k = omega arith in y, (λ l h. absurd (omega arith), rw z i, rw z b))
+      go above x (last i a t) e = absurd (apart 0 2 refl refl (λ z. omega arith) e)
+      go above x (more i a) e =
+          let r = above (kept (higherGroups k start s (at + 1)) (λ w mid. getD s at 0 - 128 + w * 128) e) in
+          let h = r .1 in
+          (suc (r .0), let y : suc (r .0) < suc k = omega arith in y, zero-more (r .0) at i a (r .2))
 
-  pub padded-there : (p : ℕ) → numberIn 2 s at ≡ Padded p → (at + 1 < length s) × (128 ≤ getD s at 0) × (getD s (at + 1) 0 ≡ 0)
-  unfolding numberIn
-  padded-there p e = go (numberIn 2 s at) (see true 1 at s at) e
-    where
-      kept : (y : Number) → onHigher y (λ v next. Value (getD s at 0 - 128 + v * 128) next) ≡ Padded p → y ≡ Padded p
-      kept (Value v next) e = absurd (apart 0 2 refl refl (λ z. omega arith) e)
-      kept (Ended q) e = e
-      kept (Padded q) e = e
-      kept (Overlong q) e = e
+  pad-back : (k at j : ℕ) → j < k → Zero j at → higherGroups k start s at ≡ Padded start
+  unfolding higherGroups
+  pad-back zero at j h x = absurd (omega arith)
+  pad-back (suc k) at zero h x = let z : at + 0 ≡ at = omega arith in at-pad false k start s at (rw (← z) (x .1)) (rw (← z) (x .2)) refl
+  pad-back (suc k) at (suc j) h x = let r = zero-less j at x in at-more false k start s at (r .0) (r .1) ∙ rw (pad-back k (at + 1) j (omega arith) (r .2))
 
-      go : (x : Number) → Group true 1 at s at x → x ≡ Padded p → (at + 1 < length s) × (128 ≤ getD s at 0) × (getD s (at + 1) 0 ≡ 0)
-      go x (none i) e = absurd (apart 1 2 refl refl (λ z. omega arith) e)
-      go x (pad i b c) e = let z : _≡_ {A = ℕ} 0 1 = cc in absurd (omega arith)
-      go x (last i a t) e = absurd (apart 0 2 refl refl (λ z. omega arith) e)
-      go x (more i a) e = let r = second-there p (kept (higherGroups 1 at s (at + 1)) e) in (r .0, a, r .1)
+pub padded-there : (k at : ℕ) (s : List ℕ) (p : ℕ) → numberIn (suc k) s at ≡ Padded p → (j : ℕ) × (j < k) × (Zero at s (suc j) at)
+unfolding numberIn
+padded-there k at s p e = go (numberIn (suc k) s at) (see true k at s at) e
+  where
+    go : (x : Number) → Group true k at s at x → x ≡ Padded p → (j : ℕ) × (j < k) × (Zero at s (suc j) at)
+    go x (none i) e = absurd (apart 1 2 refl refl (λ z. omega arith) e)
+    go x (pad i b c) e = let z : _≡_ {A = ℕ} 0 1 = cc in absurd (omega arith)
+    go x (last i a t) e = absurd (apart 0 2 refl refl (λ z. omega arith) e)
+    go x (more i a) e =
+        let r = pad-there at s k (at + 1) p (kept at s (higherGroups k at s (at + 1)) (λ w mid. getD s at 0 - 128 + w * 128) e) in
+        (r .0, r .1, zero-more at s (r .0) at i a (r .2))
 
-  pub padded-back : at + 1 < length s → 128 ≤ getD s at 0 → getD s (at + 1) 0 ≡ 0 → numberIn 2 s at ≡ Padded at
-  unfolding numberIn higherGroups
-  padded-back h a b = at-more true 1 at s at (omega arith) a ∙ rw (at-pad false 0 at s (at + 1) h b refl)
+pub padded-back : (k at : ℕ) (s : List ℕ) (j : ℕ) → j < k → Zero at s (suc j) at → numberIn (suc k) s at ≡ Padded at
+unfolding numberIn
+padded-back k at s j h x = let r = zero-less at s j at x in at-more true k at s at (r .0) (r .1) ∙ rw (pad-back at s k (at + 1) j h (r .2))

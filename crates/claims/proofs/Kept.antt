@@ -16,13 +16,15 @@ use Rattle.graph.specs.Limits.{maxEdges}
 use Rattle.graph.specs.declared.GraphTable.{GraphTable}
 use Rattle.reading.specs.declared.PlanRead.{PlanRead}
 use Rattle.reading.specs.Plan.{Plan, plan, planBytes}
-use Rattle.reading.specs.Code.{planRead, wholePlan}
+use Rattle.reading.specs.Code.{planRead, wholePlan, leadingPlan}
 use Rattle.certificates.specs.Tests.{allBelow, isBranch}
 use Rattle.certificates.specs.Records.{start as readStart, furtherPath, certificate}
 use Rattle.checker.specs.Check.{planGraph, onCertificate, certificateAnswer, onPlan, checkOf, onLeading, gradeOf}
 use Rattle.certifier.specs.declared.Made.{Made}
 use Rattle.certifier.specs.Made.{made, lengthBy, lengthFrom, recordBy, recordFrom, fitted, madeFrom, filledBy, filledFrom}
 use Rattle.mending.specs.Mend.{listOf, listPlan, mendedPlan, Records, refusal, mendRecords, recordsOf, recordsRead, recordsFrom, Outcome, haveRoom, wrote, tooShort, mendFrom}
+use Rattle.writing.specs.Write.{withPlan}
+use Rattle.fikzarn.specs.Words.{rewritten, planRewritten}
 use Rattle.claims.specs.Session as of
 use Rattle.claims.specs.Session.{State, State.never, State.waiting, State.building, Gives, pairCount, due}
 use Rattle.claims.specs.Calls.{Call, Call.start, Call.path, Call.back, Call.close, Heard, calledOn, heardOn}
@@ -60,6 +62,23 @@ reads-same P = ap (λ (x : Read Plan). planRead x) (whole-same P) ∙ go (ended 
     go (Got p next) = refl
     go (Refused r p) = refl
 
+pub leads-same : (s : List ℕ) → earlier.leadingPlan s ≡ planBefore (leadingPlan s)
+unfolding planRead
+leads-same s = ap (λ (x : Read Plan). planRead x) (plan-same s) ∙ go (plan s 0)
+  where
+    go : (x : Read Plan) → planRead (readBefore x) ≡ planBefore (planRead x)
+    go (Got p next) = refl
+    go (Refused r p) = refl
+
+rewrites-same : (P buffer : List ℕ) → earlier.planRewritten P buffer ≡ planRewritten P buffer
+rewrites-same P buffer = ap (λ (x : PlanRead). rewritten (x .answer) buffer (withPlan buffer (x .plan))) (reads-same P) ∙ go (wholePlan P .answer)
+  where
+    go : (a : Answer) → rewritten (answerBefore a) buffer (withPlan buffer (wholePlan P .plan)) ≡ rewritten a buffer (withPlan buffer (wholePlan P .plan))
+    go Accepted = refl
+    go (Grade k) = refl
+    go (PlanFault r p) = refl
+    go (CertificateFault r p) = refl
+
 -- ---- checking
 
 certificate-same : (p : Plan) (C : List ℕ) → earlier.certificateAnswer p C ≡ answerBefore (certificateAnswer p C)
@@ -74,7 +93,7 @@ pub on-plan-same : (x : Read Plan) (C : List ℕ) → earlier.onPlan (readBefore
 on-plan-same (Got p next) C = certificate-same p C
 on-plan-same (Refused r q) C = refl
 
-checks-same : (P C : List ℕ) → earlier.checkOf P C ≡ answerBefore (checkOf P C)
+pub checks-same : (P C : List ℕ) → earlier.checkOf P C ≡ answerBefore (checkOf P C)
 unfolding checkOf
 checks-same P C = ap (λ (x : Read Plan). earlier.onPlan x C) (whole-same P) ∙ on-plan-same (ended plan P 0) C
 
@@ -82,7 +101,7 @@ pub on-leading-same : (x : Read Plan) (s : List ℕ) → earlier.onLeading (read
 on-leading-same (Got p next) s = ap (λ (a : Answer). record { answer = a; n = p .n; m = length (p .edges) }) (certificate-same p (drop next s))
 on-leading-same (Refused r q) s = refl
 
-grades-same : (s : List ℕ) → earlier.gradeOf s ≡ gradedBefore (gradeOf s)
+pub grades-same : (s : List ℕ) → earlier.gradeOf s ≡ gradedBefore (gradeOf s)
 unfolding gradeOf
 grades-same s = ap (λ (x : Read Plan). earlier.onLeading x s) (plan-same s) ∙ on-leading-same (plan s 0) s
 
@@ -106,7 +125,7 @@ fitted-same buffer m = go (ltb (length buffer) (m .length))
     go true = refl
     go false = refl
 
-makes-same : (P buffer : List ℕ) → earlier.madeFrom P buffer ≡ madeBefore (madeFrom P buffer)
+pub makes-same : (P buffer : List ℕ) → earlier.madeFrom P buffer ≡ madeBefore (madeFrom P buffer)
 makes-same P buffer = ap (fitted buffer) (measures-same P) ∙ fitted-same buffer (lengthFrom P)
 
 record-same : (P : List ℕ) → earlier.recordFrom P ≡ recordFrom P
@@ -144,7 +163,7 @@ module _ (list mended certificate : List ℕ) where
       go true = refl
       go false = refl
 
-  mends-same : (P : List ℕ) → earlier.mendFrom P list mended certificate ≡ outcomeBefore (mendFrom P list mended certificate)
+  pub mends-same : (P : List ℕ) → earlier.mendFrom P list mended certificate ≡ outcomeBefore (mendFrom P list mended certificate)
   unfolding mendFrom
   mends-same P = ap mendBy (records-same P) ∙ mend-by-same (recordsFrom P)
 
@@ -231,7 +250,7 @@ sessions-same P bytes calls =
 number-kept : (r : ℕ) → r ≢ 33 → cond (eqb r 33) 2 r ≡ r
 number-kept r n = rw (ne-eqb r 33 n)
 
-unless-33 : (a : Answer) → ((p : ℕ) → ¬ (a ≡ PlanFault 33 p)) → ((p : ℕ) → ¬ (a ≡ CertificateFault 33 p)) → answerBefore a ≡ a
+pub unless-33 : (a : Answer) → ((p : ℕ) → ¬ (a ≡ PlanFault 33 p)) → ((p : ℕ) → ¬ (a ≡ CertificateFault 33 p)) → answerBefore a ≡ a
 unless-33 Accepted m n = refl
 unless-33 (Grade k) m n = refl
 unless-33 (PlanFault r p) m n = ap (λ (k : ℕ). PlanFault k p) (number-kept r (λ e. m p (ap (λ (k : ℕ). PlanFault k p) e)))
@@ -241,6 +260,8 @@ unless-33 (CertificateFault r p) m n = ap (λ (k : ℕ). CertificateFault k p) (
 pub others-same : OthersSame
 others-same = record {
   reads = reads-same;
+  leads = leads-same;
+  rewrites = rewrites-same;
   checks = checks-same;
   grades = grades-same;
   makes = makes-same;

@@ -1,6 +1,6 @@
 -- REQUEST 7: every call answers 2 or 33 at p exactly where it reads a number at p that is padded, or that goes on after its second byte. Assumes nothing.
 use Prim.Native.Nat.{ℕ, zero, suc, _+_, _<_, _≤_}
-use mathlib.Core.List.{List, _++_}
+use mathlib.Core.List.{List, [], _++_}
 use mathlib.Core.Bool.{Bool, true, false, cond}
 use mathlib.Core.Path.{_≡_, refl, sym, ap, _∙_, subst, fun-ext}
 use mathlib.Core.Logic.{_⊎_, inl, inr, _↔_, _≢_}
@@ -12,30 +12,39 @@ use Rattle.record.specs.Number.{number, numberAt, asRead}
 use Rattle.record.specs.declared.Answer.{Answer}
 use Rattle.record.specs.declared.Answer.the-variants.{Accepted, PlanFault, CertificateFault}
 use Rattle.connectivity.specs.Certificate.{Certificate}
+use Rattle.connectivity.specs.Lists.{In}
 use Rattle.graph.specs.Limits.{maxEdges}
 use Rattle.reading.specs.Plan.{Plan, Allowed, plan, planBytes}
+use Rattle.reading.specs.declared.PlanRead.{PlanRead}
 use Rattle.reading.specs.Code.{graphOf, planRead, wholePlan}
+use Rattle.reading.proofs.Plans.{accepts}
 use Rattle.certificates.specs.Records.{start as readStart, furtherPath, certificate as readCertificate}
 use Rattle.sessions.specs.declared.Opened.{Opened}
 use Rattle.sessions.specs.Session.{opening, onOpening, noSession, openedOn, startStep, pathStep}
 use Rattle.checker.specs.Check.{planGraph, onCertificate, certificateAnswer, onPlan, checkOf, onLeading, gradeOf}
 use Rattle.checker.specs.declared.Graded.{Graded}
 use Rattle.certifier.specs.declared.Made.{Made}
-use Rattle.certifier.specs.Made.{madeFrom}
+use Rattle.certifier.specs.Made.{made, lengthFrom, madeFrom}
 use Rattle.certifier.proofs.Room.{made-room, made-none, by-room}
-use Rattle.mending.specs.Mend.{listOf, refusal, mendRecords, recordsOf, recordsRead, recordsFrom, mendFrom}
+use Rattle.mending.specs.Mend.{listOf, refusal, mendRecords, recordsOf, recordsRead, recordsFrom, Outcome, mendFrom}
 use Rattle.mending.proofs.Fits.{mend-either}
 use Rattle.claims.specs.Session as of
 use Rattle.claims.specs.Session.{State, State.never, State.waiting, State.building, due}
 use Rattle.claims.specs.Calls.{Call, Call.start, Call.path, sessionAfter}
 use Rattle.claims.specs.Back.{stateAfter}
-use Rattle.claims.specs.Numbers.{Pads, GoesOn, ReadsAt, TellsApart, NumbersTold}
-use Rattle.claims.proofs.Groups.{padded-there, padded-back, too-long-there, too-long-back}
+use Rattle.claims.specs.Answers as listed
+use Rattle.claims.specs.Answers.{OneOf}
+use Rattle.claims.specs.Numbers.{Pads, GoesOn, ReadsAt, TellsApart, NumbersTold, Without, SameWithout}
+use Rattle.claims.proofs.Groups.{Runs, padded-there, padded-back, too-long-there, too-long-back}
 use Rattle.claims.proofs.Turns.{OfNumber, Turn, got-refused, refused-number, read-padded, read-overlong}
 use Rattle.claims.proofs.Readers.{plan-turns, certificate-turns, start-turns, further-turns}
 use Rattle.claims.proofs.Demand1.{At, agree, at-after, opens-at}
+use Rattle.claims.proofs.Answers.{demand1-answers}
+use Rattle.claims.proofs.Demands.{plan-faults-first}
+use Rattle.claims.proofs.Kept.{reads-same, checks-same, grades-same, makes-same, measures-same, mends-same, sessions-same, unless-33}
 use Rattle.claims.proofs.Lengths.{length-faults, refused-keeps}
 use Rattle.claims.proofs.Mending.{refused-mends}
+use Rattle.claims.proofs.MendWords.{mend-answers}
 use Rattle.claims.proofs.Printed.{program-checks}
 
 -- ---- the number at p
@@ -43,7 +52,18 @@ use Rattle.claims.proofs.Printed.{program-checks}
 -- 2 is given for a padded number, 33 for one that goes on after its second byte
 number-pads : (s : List ℕ) (p : ℕ) → (number s p ≡ Refused 2 p) ↔ Pads s p
 unfolding number
-number-pads s p = (λ e. padded-there p s p (read-padded (numberAt s p) e), λ x. ap asRead (padded-back p s (x .0) (x .1) (x .2)))
+number-pads s p = (λ e. there (padded-there 1 p s p (read-padded (numberAt s p) e)), λ x. ap asRead (padded-back 1 p s 0 (omega arith) (one x, x .0, x .2)))
+  where
+    there : (j : ℕ) × (j < 1) × ((Runs (suc j) s p) × (p + suc j < length s) × (getD s (p + suc j) 0 ≡ 0)) → Pads s p
+    there (zero, h, (r, i, b)) =
+        let a : (p + 0 < length s) × (128 ≤ getD s (p + 0) 0) = r 0 (omega arith) in
+        let z : p + 0 ≡ p = omega arith in
+        (i, rw z at (a .1), b)
+    there (suc j, h, x) = absurd (omega arith)
+
+    one : Pads s p → Runs 1 s p
+    one x zero h = let i = x .0 in let z : p + 0 ≡ p = omega arith in rw z (let y : p < length s = omega arith in y, x .1)
+    one x (suc i) h = absurd (omega arith)
 
 number-goes-on : (s : List ℕ) (p : ℕ) → (number s p ≡ Refused 33 p) ↔ GoesOn s p
 unfolding number
@@ -248,8 +268,10 @@ module _ (P : List ℕ) (bytes : Bytes P) (calls : List Call) where
 
 -- EVERY CALL THAT READS NUMBERS TELLS THE TWO APART
 pub numbers-told : NumbersTold
+unfolding planRead
 numbers-told = record {
   reading = plan-tells (λ P r p o. reading-is P r p);
+  leading = tells (plan-turns 0) (λ s r p o. by-cases plan-apart (λ x. planRead x .answer) (λ r p. refl) r p (λ v next e. let z : _≡_ {A = ℕ} 0 1 = cc in omega arith) (plan s 0));
   plan-checked = λ C. plan-tells (λ P r p o. checked-is C P r p);
   certificate-checked = checker-tells;
   plan-leading = tells (plan-turns 0) (λ s r p o. leading-is s r p);
@@ -261,3 +283,53 @@ numbers-told = record {
   starting = starts-told;
   pathing = paths-told;
 }
+
+-- ---- records without such a number
+
+without-33 : {call : List ℕ → Answer} {fault : ℕ → ℕ → Answer} → TellsApart call fault → (s : List ℕ) → Without call fault s → (p : ℕ) → ¬ (call s ≡ fault 33 p)
+without-33 t s w p e = w p (t .too-long s p .0 e)
+
+-- an answer to a call that has no certificate
+plan-alone : (l : listed.Answers) (m : ℕ) (a : Answer) → l .certificate ≡ [] → OneOf l m 0 a → (p : ℕ) → ¬ (a ≡ CertificateFault 33 p)
+plan-alone l m a n h p e = subst (λ (ns : List ℕ). In 33 ns) n (subst (λ (x : Answer). OneOf l m 0 x) e h .0)
+
+behind-33 : (p : Plan) → Allowed p → (C : List ℕ) (q : ℕ) → ¬ (gradeOf (planBytes p ++ C) .answer ≡ PlanFault 33 q)
+behind-33 p a C q e =
+    let f = plan-faults-first (planBytes p) C 33 q .0 (sym (ap (λ (x : Graded). x .answer) (program-checks p a C)) ∙ e) in
+    let g : wholePlan (planBytes p) .answer ≡ Accepted = ap (λ (x : PlanRead). x .answer) (accepts p a) in
+    let z : _≡_ {A = ℕ} 0 1 = cc in
+    omega arith
+
+pub same-without : SameWithout
+same-without = record {
+  reads = λ P w.
+      reads-same P ∙ ap (λ (a : Answer). record { answer = a; plan = wholePlan P .plan; next = wholePlan P .next })
+      (unless-33 (wholePlan P .answer) (without-33 (numbers-told .reading) P w) (plan-alone listed.readingAnswers (length P) (wholePlan P .answer) refl (demand1-answers .reading P)));
+  checks = λ P C v w. checks-same P C ∙ unless-33 (checkOf P C) (without-33 (numbers-told .plan-checked C) P v) (without-33 (numbers-told .certificate-checked P) C w);
+  grades = λ p a C w.
+      let s = planBytes p ++ C in
+      grades-same s ∙ ap (λ (x : Answer). record { answer = x; n = gradeOf s .n; m = gradeOf s .m })
+      (unless-33 (gradeOf s .answer) (behind-33 p a C) (without-33 (numbers-told .certificate-behind p a) C w));
+  makes = λ P b buffer w.
+      makes-same P buffer ∙ ap (λ (a : Answer). made a (madeFrom P buffer .length))
+      (unless-33 (madeFrom P buffer .answer) (without-33 (numbers-told .making buffer) P w) (plan-alone listed.makingAnswers (length P) (madeFrom P buffer .answer) refl (demand1-answers .making P b buffer)));
+  measures = λ P b w.
+      measures-same P ∙ ap (λ (a : Answer). made a (lengthFrom P .length))
+      (unless-33 (lengthFrom P .answer) (without-33 (numbers-told .measuring) P w) (plan-alone listed.measuringAnswers (length P) (lengthFrom P .answer) refl (demand1-answers .measuring P b)));
+  mends = λ P list mended certificate w.
+      let o = mendFrom P list mended certificate in
+      mends-same list mended certificate P ∙ ap (told-with o)
+      (unless-33 (o .answer .answer) (without-33 (numbers-told .mending list mended certificate) P w)
+      (plan-alone listed.mendingAnswers (length P) (o .answer .answer) refl (mend-answers P list mended certificate)));
+  opens = λ P b w.
+      sessions-same P b [] .opens
+      ∙ unless-33 (opening P .answer) (without-33 (numbers-told .plan-opened) P w) (plan-alone listed.openingAnswers (length P) (opening P .answer) refl (demand1-answers .opening P));
+}
+  where
+    told-with : Outcome → Answer → Outcome
+    told-with o a = record {
+      answer = record { answer = a; list = o .answer .list; mended = o .answer .mended; certificate = o .answer .certificate };
+      list = o .list;
+      mended = o .mended;
+      certificate = o .certificate;
+    }

@@ -65,7 +65,7 @@ openedBefore x = record { answer = answerBefore (x .answer); session = x .sessio
 -- A record is read as the base edition read it, but that 33 was 2 (request 7), whole or with bytes behind it, unless that edition refused it by 6: so every record that
 -- it accepted is accepted, as the same plan, and every other refusal has its number and place. The plan of a record that it accepted has as many
 -- pairs as cables, so what counted cables counts the same. Unless that edition refused the plan by 6, the checker, the checking program and
--- opening answer what they answered there; and for a plan that it accepted the maker answers and writes what it did, unless that was 30.
+-- opening answer, in that edition's numbers, what they answered there; and for a plan that it accepted the maker answers and writes what it did, unless that was 30.
 pub record BaseKept : Type 0 where
   pub whole : (P : List ℕ) → ((q : ℕ) → ¬ (ended basePlan P 0 ≡ Refused 6 q)) → readBefore (ended plan P 0) ≡ ended basePlan P 0
   pub leading : (s : List ℕ) → ((q : ℕ) → ¬ (basePlan s 0 ≡ Refused 6 q)) → readBefore (plan s 0) ≡ basePlan s 0

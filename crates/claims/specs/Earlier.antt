@@ -27,6 +27,8 @@ use Rattle.checker.specs.Check.{planGraph, onCertificate}
 use Rattle.certifier.specs.declared.Made.{Made}
 use Rattle.certifier.specs.Made.{lengthBy, recordBy, fitted, filledBy}
 use Rattle.mending.specs.Mend.{listOf, listPlan, mendedPlan, Records, refusal, Outcome, haveRoom, wrote, tooShort}
+use Rattle.writing.specs.Write.{withPlan}
+use Rattle.fikzarn.specs.Words.{rewritten}
 use Rattle.claims.specs.Session.{State, State.never, State.waiting, State.building, Gives, refuses, onPlanRead, onStartRead, onPathRead, due, backCall, closeCall}
 use Rattle.claims.specs.Calls.{Call, Call.start as starts, Call.path as goes, Call.back as takes-back, Call.close as closes, Heard}
 
@@ -83,8 +85,11 @@ furtherPath g links = path (g .n) 2 needs⟨ 24 ⟩ pathAlong g needs⟨ 25 ⟩ 
 unfoldable pub branchFour : ℕ → Reader (ℕ × (ℕ × (ℕ × ℕ)))
 branchFour n = vertex n ▸ λ p. vertex n needs⟨ 20 ⟩ leb (suc p) ▸ λ q. vertex n needs⟨ 20 ⟩ leb (suc q) ▸ λ r. vertex n needs⟨ 20 ⟩ leb (suc r)
 
+abbrev pub startPaths : Graph → ℕ × (ℕ × (ℕ × ℕ)) → Reader (List Path)
+startPaths g b = many (startPath g) startTaken 6 (starting b)
+
 unfoldable pub start : Graph → Reader ((ℕ × (ℕ × (ℕ × ℕ))) × List Path)
-start g = branchFour (g .n) ▸ λ b. many (startPath g) startTaken 6 (starting b)
+start g = branchFour (g .n) ▸ startPaths g
 
 abbrev pub body : Graph → ℕ → Reader Certificate
 body g zero = into separation (side g nobody)
@@ -108,9 +113,15 @@ body g (suc (suc (suc (suc k)))) = λ s at. Refused 8 at
 unfoldable pub certificate : Graph → Reader Certificate
 certificate g = number needs⟨ 8 ⟩ within 0 3 needs⟨ 29 ⟩ (λ k. ltb k 3 || leb (g .n + 2) (edgeCount g)) ▹ body g
 
--- READING A PLAN, CHECKING, THE CHECKING PROGRAM
+-- READING A PLAN, WRITING IT AGAIN, CHECKING, THE CHECKING PROGRAM
 abbrev pub wholePlan : List ℕ → PlanRead
 wholePlan s = planRead (ended plan s 0)
+
+abbrev pub leadingPlan : List ℕ → PlanRead
+leadingPlan s = planRead (plan s 0)
+
+abbrev pub planRewritten : List ℕ → List ℕ → List ℕ
+planRewritten s buffer = rewritten (wholePlan s .answer) buffer (withPlan buffer (wholePlan s .plan))
 
 abbrev pub certificateAnswer : Plan → List ℕ → Answer
 certificateAnswer p c = onCertificate (ended (certificate (planGraph p)) c 0)

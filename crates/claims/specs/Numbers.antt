@@ -11,13 +11,14 @@ use Rattle.record.specs.declared.Answer.{Answer}
 use Rattle.record.specs.declared.Answer.the-variants.{Accepted, Grade, PlanFault, CertificateFault}
 use Rattle.reading.specs.declared.PlanRead.{PlanRead}
 use Rattle.reading.specs.Plan.{Plan, Allowed, planBytes}
-use Rattle.reading.specs.Code.{wholePlan}
+use Rattle.reading.specs.Code.{wholePlan, leadingPlan}
 use Rattle.sessions.specs.Session.{opening, startStep, pathStep}
 use Rattle.checker.specs.declared.Graded.{Graded}
 use Rattle.checker.specs.Check.{checkOf, gradeOf}
 use Rattle.certifier.specs.declared.Made.{Made}
 use Rattle.certifier.specs.Made.{made, lengthFrom, madeFrom, filledFrom}
 use Rattle.mending.specs.Mend.{Outcome, mendFrom}
+use Rattle.fikzarn.specs.Words.{planRewritten}
 use Rattle.claims.specs.Calls.{Call, sessionAfter, Heard, heard}
 use Rattle.claims.specs.Earlier as earlier
 
@@ -40,10 +41,11 @@ pub record TellsApart (call : List ℕ → Answer) (fault : ℕ → ℕ → Answ
   pub padded : (s : List ℕ) (p : ℕ) → (call s ≡ fault 2 p) ↔ (ReadsAt call fault s p × Pads s p)
   pub too-long : (s : List ℕ) (p : ℕ) → (call s ≡ fault 33 p) ↔ (ReadsAt call fault s p × GoesOn s p)
 
--- "Everything that reads numbers passes the difference on, sessions included.": reading a plan; the checker, for the plan and for certificates of every kind; the checking program, for the
+-- "Everything that reads numbers passes the difference on, sessions included.": reading a plan, whole or with bytes behind it; the checker, for the plan and for certificates of every kind; the checking program, for the
 -- plan at the front of its input and for what comes behind it; the maker, with a buffer or asked for the length alone; mending; opening; a start and a path, after any list of session calls.
 pub record NumbersTold : Type 0 where
   pub reading : TellsApart (λ P. wholePlan P .answer) PlanFault
+  pub leading : TellsApart (λ s. leadingPlan s .answer) PlanFault
   pub plan-checked : (C : List ℕ) → TellsApart (λ P. checkOf P C) PlanFault
   pub certificate-checked : (P : List ℕ) → TellsApart (λ C. checkOf P C) CertificateFault
   pub plan-leading : TellsApart (λ s. gradeOf s .answer) PlanFault
@@ -95,10 +97,11 @@ pub record SessionBefore (P : List ℕ) (calls : List Call) : Type 0 where
   pub opens : earlier.openCall P .answer ≡ answerBefore (opening P .answer)
   pub answers : earlier.heardOn (earlier.openCall P .state) calls ≡ heardBefore (heard (opening P .session) calls)
 
--- Every call answered, told, wrote and left unread what it does now, but that it said 2 where it says 33 now. So an answer that is not 33, as that to every record in which no number that is
--- read goes on after its second byte, is the same as before.
+-- Every call answered, told, wrote and left unread what it does now, but that it said 2 where it says 33 now. So an answer that is not 33 is the same as before.
 pub record OthersSame : Type 0 where
   pub reads : (P : List ℕ) → earlier.wholePlan P ≡ planBefore (wholePlan P)
+  pub leads : (s : List ℕ) → earlier.leadingPlan s ≡ planBefore (leadingPlan s)
+  pub rewrites : (P buffer : List ℕ) → earlier.planRewritten P buffer ≡ planRewritten P buffer
   pub checks : (P C : List ℕ) → earlier.checkOf P C ≡ answerBefore (checkOf P C)
   pub grades : (s : List ℕ) → earlier.gradeOf s ≡ gradedBefore (gradeOf s)
   pub makes : (P buffer : List ℕ) → earlier.madeFrom P buffer ≡ madeBefore (madeFrom P buffer)
@@ -107,3 +110,16 @@ pub record OthersSame : Type 0 where
   pub mends : (P list mended certificate : List ℕ) → earlier.mendFrom P list mended certificate ≡ outcomeBefore (mendFrom P list mended certificate)
   pub sessions : (P : List ℕ) → Bytes P → (calls : List Call) → SessionBefore P calls
   pub unless-33 : (a : Answer) → ((p : ℕ) → ¬ (a ≡ PlanFault 33 p)) → ((p : ℕ) → ¬ (a ≡ CertificateFault 33 p)) → answerBefore a ≡ a
+
+-- So a record in which the call reads no number that goes on after its second byte gets the same answer as before.
+abbrev pub Without : (List ℕ → Answer) → (ℕ → ℕ → Answer) → List ℕ → Type 0
+Without call fault s = (p : ℕ) → ¬ (ReadsAt call fault s p × GoesOn s p)
+
+pub record SameWithout : Type 0 where
+  pub reads : (P : List ℕ) → Without (λ P. wholePlan P .answer) PlanFault P → earlier.wholePlan P ≡ wholePlan P
+  pub checks : (P C : List ℕ) → Without (λ P. checkOf P C) PlanFault P → Without (λ C. checkOf P C) CertificateFault C → earlier.checkOf P C ≡ checkOf P C
+  pub grades : (p : Plan) → Allowed p → (C : List ℕ) → Without (λ C. gradeOf (planBytes p ++ C) .answer) CertificateFault C → earlier.gradeOf (planBytes p ++ C) ≡ gradeOf (planBytes p ++ C)
+  pub makes : (P : List ℕ) → Bytes P → (buffer : List ℕ) → Without (λ P. madeFrom P buffer .answer) PlanFault P → earlier.madeFrom P buffer ≡ madeFrom P buffer
+  pub measures : (P : List ℕ) → Bytes P → Without (λ P. lengthFrom P .answer) PlanFault P → earlier.lengthFrom P ≡ lengthFrom P
+  pub mends : (P list mended certificate : List ℕ) → Without (λ P. mendFrom P list mended certificate .answer .answer) PlanFault P → earlier.mendFrom P list mended certificate ≡ mendFrom P list mended certificate
+  pub opens : (P : List ℕ) → Bytes P → Without (λ P. opening P .answer) PlanFault P → earlier.openCall P .answer ≡ opening P .answer

@@ -1,4 +1,4 @@
--- The starred barns and plans of document 01, with the one that request 1 changes, as records with their answers, and a session with what it is told.
+-- The starred barns and plans of document 01, with the one that request 1 changes, and records of requests 1 and 7, with their answers; and sessions of requests 4 and 7 with what they are told.
 use Prim.Native.Nat.{ℕ}
 use mathlib.Core.List.{List, [], _∷_, _++_}
 use mathlib.Core.Path.{_≡_}

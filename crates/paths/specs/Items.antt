@@ -7,7 +7,7 @@ use Rattle.record.specs.declared.Answer.the-variants.{Accepted, CertificateFaul
 use Rattle.vertexset.specs.Set.{capacity}
 use Rattle.paths.specs.declared.Item.{Item}
 
--- a value and the place after it; or document 01's number and place for the certificate's fault
+-- a value and the place after it; or the papers' number and place for the certificate's fault
 abbrev pub taken : ℕ → ℕ → Item
 taken v next = record { answer = Accepted; value = v; next = next }
 

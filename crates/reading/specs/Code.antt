@@ -51,7 +51,7 @@ noPlan = record { graph = noGraph; m = 0; ends = noEnds }
 abbrev pub refusedPlan : ℕ → ℕ → PlanRead
 refusedPlan r p = record { answer = PlanFault r p; plan = noPlan; next = 0 }
 
--- document 01's number and place for what was read: the plan and the place after it, or the plan's fault
+-- the papers' number and place for what was read: the plan and the place after it, or the plan's fault
 unfoldable pub planRead : Read Plan → PlanRead
 planRead (Got p next) = record { answer = Accepted; plan = tableOf p; next = next }
 planRead (Refused r p) = refusedPlan r p
@@ -111,7 +111,7 @@ byValue h rows ends = record { answer = h .answer; plan = withArrays (h .answer)
 abbrev pub keyOf : ℕ × ℕ → ℕ
 keyOf e = e .0 * 65536 + e .1
 
--- document 01's number and place for one edge
+-- the papers' number and place for one edge
 unfoldable pub edgeRead : Read (ℕ × ℕ) → Edge
 edgeRead (Got e next) = Joins (e .0) (e .1) next
 edgeRead (Refused r p) = Fault r p

@@ -15,7 +15,7 @@ use Rattle.script.specs.declared.Part.the-variants.{Within, Cut}
 use Rattle.script.specs.declared.Replayed.{Replayed}
 use Rattle.script.specs.Script.{partAt}
 
--- an answer as one word: the case in the lowest byte, document 01's number or the grade in the next, the place in the six above
+-- an answer as one word: the case in the lowest byte, the papers' number or the grade in the next, the place in the six above
 abbrev pub word : ℕ → ℕ → ℕ → ℕ
 word kind number place = kind + 256 * number + 65536 * (place % 281474976710656)
 

@@ -47,7 +47,7 @@ unfoldable pub sideTested : Graph → (ℕ → Bool) → (ℕ → Bool) → ℕ 
 sideTested g removed side at next =
     cond (bothHold (g .n) removed side) (cond (noEdgeBetween g removed side) (taken 0 next) (refused 23 at)) (refused 22 at)
 
--- document 01's number and place for a pair: the new vertex and the place after the pair, or the fault
+-- the papers' number and place for a pair: the new vertex and the place after the pair, or the fault
 unfoldable pub pairRead : Read (ℕ × ℕ) → Item
 pairRead (Got p next) = taken (p .0) next
 pairRead (Refused r p) = refused r p
