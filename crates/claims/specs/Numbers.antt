@@ -111,7 +111,7 @@ pub record OthersSame : Type 0 where
   pub sessions : (P : List ℕ) → Bytes P → (calls : List Call) → SessionBefore P calls
   pub unless-33 : (a : Answer) → ((p : ℕ) → ¬ (a ≡ PlanFault 33 p)) → ((p : ℕ) → ¬ (a ≡ CertificateFault 33 p)) → answerBefore a ≡ a
 
--- So a record in which the call reads no number that goes on after its second byte gets the same answer as before.
+-- So a record in which the call reads no number that goes on after its second byte gets the same answer as before. (Of a start and a path `OthersSame` says it by the answer: where it is not 33.)
 abbrev pub Without : (List ℕ → Answer) → (ℕ → ℕ → Answer) → List ℕ → Type 0
 Without call fault s = (p : ℕ) → ¬ (ReadsAt call fault s p × GoesOn s p)
 
