@@ -1,4 +1,6 @@
 // Builds for grade 3: what reading and taking a path does, taking it back, the start, and a certificate of kind 3.
+#![tactic(auto)]
+
 ghost use Rattle.std.specs.Prelude.{◌≡◌, suc, ◌≤◌, ◌<◌, leb, length};
 ghost use Rattle.record.specs.Read.{◌needs⟨◌⟩◌, led, folded};
 ghost use Rattle.record.specs.Loop.{runs};
@@ -19,14 +21,14 @@ use record::Answer;
 use vertexset::VertexSet;
 
 // The branch vertices of a build, and all vertices that are in.
-#[derive(Drop)]
+#[derive(Clone, Copy)]
 pub struct Sets {
     pub branch: VertexSet,
     pub built: VertexSet,
 }
 
 // A build: its vertices, the way along its links, and which branch vertices a link joins.
-#[derive(Drop)]
+#[derive(Clone, Copy)]
 pub struct Build {
     pub sets: Sets,
     pub pointers: [u16; Link::POINTERS],
@@ -34,7 +36,7 @@ pub struct Build {
 }
 
 // The sets of a build after a path was read, and where reading goes on or its fault.
-#[derive(Drop)]
+#[derive(Clone, Copy)]
 pub struct Taken {
     pub end: Item,
     pub sets: Sets,
@@ -42,7 +44,7 @@ pub struct Taken {
 
 // What taking a path in did to a build: the path's two ends, the vertex before the last one on it, and which of its ends it raised,
 // where it split a link.
-#[derive(Drop)]
+#[derive(Clone, Copy)]
 pub struct Trace {
     pub first: u16,
     pub last: u16,
@@ -52,34 +54,34 @@ pub struct Trace {
 }
 
 // What `Taken` has, and the trace that the path leaves.
-#[derive(Drop)]
+#[derive(Clone, Copy)]
 pub struct Traced {
     pub taken: Taken,
     pub trace: Trace,
 }
 
 // The vertices that are in with those inside a path, and the last of these.
-#[derive(Drop)]
+#[derive(Clone, Copy)]
 struct Inside {
     built: VertexSet,
     last: u16,
 }
 
 // A path that entered, and the vertex before the last one on it.
-#[derive(Drop)]
+#[derive(Clone, Copy)]
 struct Entered {
     taken: Taken,
     before: u16,
 }
 
 // The two ends of a path of the start.
-#[derive(Drop)]
+#[derive(Clone, Copy)]
 struct Between {
     a: u16,
     b: u16,
 }
 
-#[derive(Drop)]
+#[derive(Clone, Copy)]
 struct Four {
     end: Item,
     p: u16,

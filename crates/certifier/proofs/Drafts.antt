@@ -4,8 +4,7 @@ use mathlib.Core.Path.{◌≡◌, refl, sym, ap, subst, ◌∙◌}
 use mathlib.Core.Logic.{inl, inr}
 use mathlib.Core.List.{List, [], ◌∷◌}
 use native.Mathlib.Omega.{arith}
-use types.Run.{OneOf}
-use denote.Enum.Declared.{tag_of}
+use Rattle.record.proofs.Faults.{NotAccepted}
 use lib.ListN.{length, get_or, take}
 use Rattle.record.specs.Number.{number_bytes, list_bytes}
 use Rattle.record.specs.Read.{Bytes}
@@ -37,14 +36,12 @@ module _ (s : List ℕ) {h : PlanHead} (e : h ≡ head_of (whole_plan s)) where
   drafted : {d : Draft} → d ≡ draft_by h.answer (whole_plan s).plan.graph → d ≡ draft_from s
   drafted {d} k = subst (λ (y : PlanHead). d ≡ draft_by y.answer (whole_plan s).plan.graph) e k
 
-  pub draft_refused : {d : Draft} → OneOf (1 ∷ 2 ∷ 3 ∷ []) (tag_of the_type h.answer) → d ≡ draft_of h.answer [] → d ≡ draft_from s
+  pub draft_refused : {d : Draft} → NotAccepted h.answer → d ≡ draft_of h.answer [] → d ≡ draft_from s
   unfolding draft_by
   draft_refused k j = drafted (j ∙ go h.answer (whole_plan s).plan.graph k)
     where
-      go : (a : Answer) (g : GraphTable) → OneOf (1 ∷ 2 ∷ 3 ∷ []) (tag_of the_type a) → draft_of a [] ≡ draft_by a g
-      go Accepted g (inl i) = absurd (omega arith)
-      go Accepted g (inr (inl i)) = absurd (omega arith)
-      go Accepted g (inr (inr i)) = absurd (omega arith)
+      go : (a : Answer) (g : GraphTable) → NotAccepted a → draft_of a [] ≡ draft_by a g
+      go Accepted g i = absurd (i refl)
       go (Grade v) g i = refl
       go (PlanFault n p) g i = refl
       go (CertificateFault n p) g i = refl

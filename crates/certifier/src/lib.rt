@@ -1,4 +1,6 @@
 // The certifier (document 01: the maker): from an accepted plan and a lent buffer, a certificate that the checker accepts; and how long it is.
+#![tactic(auto)]
+
 ghost use Rattle.std.specs.Prelude.{◌≡◌, [], ◌∷◌, ◌++◌, ◌+◌, ◌*◌, ◌≤◌, length, take, drop};
 ghost use Rattle.record.specs.Number.{number_bytes, list_bytes};
 ghost use Rattle.record.specs.Write.{overwritten};
@@ -20,14 +22,14 @@ use starting::Start;
 use vertexset::VertexSet;
 
 // The numbers of a certificate.
-#[derive(Drop)]
+#[derive(Clone, Copy)]
 struct Numbers {
     items: [u16; Numbers::ROOM],
     count: usize,
 }
 
 // What is decided before a byte is written: the answer with room, and the numbers of the certificate; none on refusal.
-#[derive(Drop)]
+#[derive(Clone, Copy)]
 struct Draft {
     answer: Answer,
     items: [u16; Numbers::ROOM],
@@ -35,7 +37,7 @@ struct Draft {
 }
 
 // The answer, and the length of the certificate; 0 beside a refusal.
-#[derive(Drop)]
+#[derive(Clone, Copy)]
 pub struct Made {
     pub answer: Answer,
     pub length: usize,
@@ -191,6 +193,8 @@ fn build_numbers(four: VertexSet, list: &[u16]) -> Numbers
 }
 
 // The certificate of a build, or of the cut that it met.
+// A call of its own: inlined, its locals would lie on the stack beside those of all callers.
+#[inline(never)]
 fn build_certificate<'a>(
     rows: &'a [u64; GraphTable::ROW_WORDS],
     space: &'a mut [u16],

@@ -1,4 +1,6 @@
 // What the maker's program prints, written into a lent buffer.
+#![tactic(auto)]
+
 ghost use Rattle.std.specs.Prelude.{◌≡◌, ◌≤◌, length};
 ghost use Rattle.lines.specs.Lines.{place_after, written};
 ghost use Rattle.certifybytes.specs.Bytes.{room, certify_bytes};

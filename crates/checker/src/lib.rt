@@ -1,4 +1,6 @@
 // The checker: a plan record and a certificate record in, an answer out.
+#![tactic(auto)]
+
 ghost use Rattle.std.specs.Prelude.{◌≡◌, ◌≤◌, ◌<◌, ◌+◌, ◌||◌, ltb, leb};
 ghost use Rattle.vertexset.specs.Set.{capacity};
 ghost use Rattle.graph.specs.Rows.{rows_graph};
@@ -10,7 +12,7 @@ use paths::Item;
 use record::{Answer, Number};
 
 // The answer to a plan with a certificate behind it, and the plan's numbers of vertices and edges.
-#[derive(Drop)]
+#[derive(Clone, Copy)]
 pub struct Graded {
     pub answer: Answer,
     pub n: u16,

@@ -204,6 +204,7 @@ merged-times e (d ∷ es) ms =
 
 -- so it stands in them where it stands in one of both
 stands : (e : ℕ × ℕ) (l : List (ℕ × ℕ)) → In e l → 0 < times e l
+stands e [] x = elim x [ ]
 stands e (d ∷ l) (inl i) = omega (arith, times-cons e d l, ap one (same_pair_lem e d (sym i)))
 stands e (d ∷ l) (inr m) = omega (arith, times-cons e d l, stands e l m)
 

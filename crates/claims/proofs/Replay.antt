@@ -8,7 +8,7 @@ use native.Mathlib.Omega.{arith}
 use lib.ListN.{length, drop, length-drop}
 use lib.Seq.{drop-drop}
 use borrow.Author.Tests.{lt-ltb, le-ltb, eq-eqb}
-use Rattle.record.specs.Read.{Read, Read.Got, Read.Refused, Bytes, ended}
+use Rattle.record.specs.Read.{Read, Read.Got, Read.Refused, Reader, Bytes, ended}
 use Rattle.record.specs.Number.{number}
 use Rattle.record.specs.declared.Answer.TheVariants.{Accepted, Grade, CertificateFault}
 use Rattle.record.proofs.Laws.{carry}
@@ -30,6 +30,14 @@ use Rattle.claims.specs.Session.{pair_count, due}
 use Rattle.claims.specs.Calls.{Finishes, session_on, Replayed}
 use Rattle.claims.proofs.Checking.{plan-simple, plan-few, on_certificate_lem, record_read, checked}
 use Rattle.claims.proofs.Sessions.{Opens, Opens.refused, Opens.accepted, opens, Building, start-step, start-building, path-step, path-building, closing-is, closed}
+
+-- what holds of no call, and of a call where it holds of those that follow, holds of them all
+calls_by : {S A : Type 0} {item : S → Reader A} {after : S → A → S} (F : S → List ℕ → List A → ℕ → Type 0)
+    → ((st : S) (part : List ℕ) → F st part [] 0)
+    → ((st : S) (part : List ℕ) (a : A) (l : List A) (k m : ℕ) → item st part 0 ≡ Got a k → F (after st a) (drop k part) l m → F st part (a ∷ l) (k + m))
+    → (st : S) (part : List ℕ) (l : List A) (m : ℕ) → Calls item after st part l m → F st part l m
+calls_by F none one st part [] m no_call = none st part
+calls_by F none one st part (a ∷ l) m (call {k = k} {m = j} e c) = one st part a l k j e (calls_by F none one _ (drop k part) l j c)
 
 -- a step that was accepted had something to read
 accepted_got : {A : Type 0} (on : Read A → Stepped) → ((n at : ℕ) → (on (Refused n at)).answer ≡ CertificateFault n at) → (x : Read A) → (on x).answer ≡ Accepted → (a : A) × (next : ℕ) × (x ≡ Got a next)
@@ -67,13 +75,27 @@ module _ (p : Plan) (al : Allowed p) where
       → path_step s part ≡ on_path s (Got P next)
   path-got {s} {links} h few part P next e = rw (path-step p al h part, lt-ltb s.taken (due p) few, e)
 
-  calls_finish : {s : Session} {links : List Path} → Building p s links → (part : List ℕ) (further : List Path) (m : ℕ) → Calls (further_path (plan_graph p)) taken links part further m
-      → s.taken + length further ≡ due p → all_below p.n (is_branch (final links further)) ≡ true → length part ≤ m → Finishes (length further) s part
-  calls_finish {s} h part [] m no_call t all left = (closing-is p al h ∙ rw (eq-eqb s.taken (due p) (omega arith), all), none_left part left)
-  calls_finish {s} h part (P ∷ l) m (call {k = k} {m = j} e c) t all left =
+  -- what is to be shown of these calls
+  Finishing : List Path → List ℕ → List Path → ℕ → Type 0
+  Finishing links part further m = (s : Session) → Building p s links → s.taken + length further ≡ due p → all_below p.n (is_branch (final links further)) ≡ true
+      → length part ≤ m → Finishes (length further) s part
+
+  finishing-none : (links : List Path) (part : List ℕ) → Finishing links part [] 0
+  unfolding Finishing
+  finishing-none links part s h t all left = (closing-is p al h ∙ rw (eq-eqb s.taken (due p) (omega arith), all), none_left part left)
+
+  finishing-one : (links : List Path) (part : List ℕ) (P : Path) (l : List Path) (k j : ℕ) → further_path (plan_graph p) links part 0 ≡ Got P k
+      → Finishing (taken links P) (drop k part) l j → Finishing links part (P ∷ l) (k + j)
+  unfolding Finishing
+  finishing-one links part P l k j e rest s h t all left =
       let z = path-got h (omega arith) part P k e in
       let few : length (drop k part) ≤ j = omega (arith, length-drop k part) in
-      (ap (λ (x : Stepped). x.answer) z, rw z (calls_finish (path-building p al h part P k e) (drop k part) l j c (omega arith) all few))
+      (ap (λ (x : Stepped). x.answer) z, rw z (rest _ (path-building p al h part P k e) (omega arith) all few))
+
+  calls_finish : {s : Session} {links : List Path} → Building p s links → (part : List ℕ) (further : List Path) (m : ℕ) → Calls (further_path (plan_graph p)) taken links part further m
+      → s.taken + length further ≡ due p → all_below p.n (is_branch (final links further)) ≡ true → length part ≤ m → Finishes (length further) s part
+  unfolding Finishing
+  calls_finish {s} {links} h part further m calls t all left = calls_by Finishing finishing-none finishing-one links part further m calls s h t all left
 
   -- k paths at the front of a part, by which the build is finished
   abbrev Found : List Path → ℕ → List ℕ → Type 0

@@ -66,9 +66,12 @@ shared_two P M nd e hP hM =
     let r = on a.0 a.1 b.0 b.1 u v (edge_same a.0 a.1 b.0 b.1 (sym a.3 ∙ b.3)) in
     (a.0, a.1, consecutive_differ P a.0 a.1 nd a.2, consecutive_left P a.0 a.1 a.2, consecutive_right P a.0 a.1 a.2, r.0, r.1)
   where
+    also : {x u : ℕ} → x ≡ u → In u (vertices M) → In x (vertices M)
+    also e h = subst (λ (k : ℕ). In k (vertices M)) (sym e) h
+
     on : (x y u v : ℕ) → In u (vertices M) → In v (vertices M) → SamePair x y u v → In x (vertices M) × In y (vertices M)
-    on x y u v hu hv (inl e) = (rw e.0 hu, rw e.1 hv)
-    on x y u v hu hv (inr e) = (rw e.0 hv, rw e.1 hu)
+    on x y u v hu hv (inl e) = (also e.0 hu, also e.1 hv)
+    on x y u v hu hv (inr e) = (also e.0 hv, also e.1 hu)
 
 -- an inner vertex lies on just one link
 abbrev pub InnerOnce : List Path → Type 0
@@ -187,8 +190,8 @@ module _ (E : ℕ → ℕ → Type 0) (esym : (u v : ℕ) → E u v → E v u) w
           end M hM z a b = end_of_lem P z a (λ i. f.new z i (M, hM, b))
 
           hit : (M : Path) → In M links → {x y : ℕ} → SamePair x y P.s P.t → In x (vertices M) → In y (vertices M) → ⊥
-          hit M hM (inl e) a b = f.apart M hM (rw e.0 at a) (rw e.1 at b)
-          hit M hM (inr e) a b = f.apart M hM (rw e.1 at b) (rw e.0 at a)
+          hit M hM (inl e) a b = f.apart M hM (subst (λ (k : ℕ). In k (vertices M)) e.0 a) (subst (λ (k : ℕ). In k (vertices M)) e.1 b)
+          hit M hM (inr e) a b = f.apart M hM (subst (λ (k : ℕ). In k (vertices M)) e.1 b) (subst (λ (k : ℕ). In k (vertices M)) e.0 a)
 
   pub tally_steps : (links ps : List Path) (k : ℕ) → Tally E links k → Steps E links ps → Tally E (final links ps) (k + length ps)
   tally_steps links [] k t s = subst (λ (m : ℕ). Tally E links m) (omega arith) t
@@ -223,8 +226,8 @@ module _ (E : ℕ → ℕ → Type 0) (links : List Path) (k : ℕ) (t : Tally E
       end_link (M ∷ ms) e (inr h) = let r = end_link ms e h in (r.0, inr r.1, r.2)
 
       same : (L M : Path) → In L links → In M links → SamePair L.s L.t M.s M.t → L ≡ M
-      same L M h_l hM (inl e) = t.invariant.share_one L M h_l hM L.s L.t (ends_differ L (path L h_l)) (end_s L) (end_t L) (rw e.0 (end_s M)) (rw e.1 (end_t M))
-      same L M h_l hM (inr e) = t.invariant.share_one L M h_l hM L.s L.t (ends_differ L (path L h_l)) (end_s L) (end_t L) (rw e.0 (end_t M)) (rw e.1 (end_s M))
+      same L M h_l hM (inl e) = t.invariant.share_one L M h_l hM L.s L.t (ends_differ L (path L h_l)) (end_s L) (end_t L) (subst (λ (k : ℕ). In k (vertices M)) (sym e.0) (end_s M)) (subst (λ (k : ℕ). In k (vertices M)) (sym e.1) (end_t M))
+      same L M h_l hM (inr e) = t.invariant.share_one L M h_l hM L.s L.t (ends_differ L (path L h_l)) (end_s L) (end_t L) (subst (λ (k : ℕ). In k (vertices M)) (sym e.0) (end_t M)) (subst (λ (k : ℕ). In k (vertices M)) (sym e.1) (end_s M))
 
       ends : (ms : List Path) → ((L : Path) → In L ms → In L links) → NoDup ms → NoDup (link_ends ms)
       ends [] f nd = tt

@@ -233,7 +233,7 @@ three_nodup a P Q nP na nQ aQ off u v e = nodup_count ℕ_discrete new ((Q.s ∷
 
     old : NoDup ((Q.s ∷ Q.inner) ++ (a ∷ (u ++ (Q.t ∷ v))))
     old = nodup_append (Q.s ∷ Q.inner) (a ∷ (u ++ (Q.t ∷ v))) (nodup_left (Q.s ∷ Q.inner) (Q.t ∷ []) nQ)
-        ((λ h. na (on_P a h)), subst (λ (k : List ℕ). NoDup k) e nP) (λ w h k. ⊎_elim (λ i. aQ (rw i at h)) (λ j. off w h (on_P w j)) k)
+        ((λ h. na (on_P a h)), subst (λ (k : List ℕ). NoDup k) e nP) (λ w h k. ⊎_elim (λ i. aQ (subst (λ (m : ℕ). In m (Q.s ∷ Q.inner)) i h)) (λ j. off w h (on_P w j)) k)
 
     ends : (w : ℕ) → In w (a ∷ (Q.t ∷ [])) → In w new
     ends w h = in_right w (Q.s ∷ Q.inner) (u ++ (rev v ++ (a ∷ (Q.t ∷ [])))) (in_right w u (rev v ++ (a ∷ (Q.t ∷ []))) (in_right w (rev v) (a ∷ (Q.t ∷ [])) h))
@@ -373,14 +373,14 @@ module _ (g : Graph) (p : Simple g) where
           far (inr h) = (f.off a h).2 (inl refl)
 
           off : (w : ℕ) → In w (f.path.s ∷ f.path.inner) → ¬ In w (vertices P)
-          off w (inl e) k = nz (rw (e ∙ f.seed) at k)
+          off w (inl e) k = nz (subst (λ (m : ℕ). In m (vertices P)) (e ∙ f.seed) k)
           off w (inr h) k = (f.off w h).1 k
       third_step (inr c) = broken
           (cut-pair g p (a, la, closed_separated g (λ v. v ≡ z) (λ v. In v (vertices P)) (a ∷ []) c z (edge-high g p a z kz) refl P.s (edge-high g p a P.s ks, λ h. edge-differ g p a P.s ks (in_single P.s a h)) (end_s P)))
 
       third_search_lem : Begin g
       third_search_lem = third_step (search g p (λ v. v ≡ z) (λ v. In v (vertices P)) (λ v. In v (a ∷ [])) (λ v. ℕ_discrete v z) (λ v. in? v (vertices P)) (λ v. in? v (a ∷ []))
-          (λ v e h. nz (rw e at h)) (λ v e h. edge-differ g p a z kz (sym e ∙ in_single v a h)))
+          (λ v e h. nz (subst (λ (m : ℕ). In m (vertices P)) e h)) (λ v e h. edge-differ g p a z kz (sym e ∙ in_single v a h)))
 
     -- A CYCLE THROUGH a: from its neighbour x to another, without a; or a vertex separates the graph
     abbrev pub OtherNeighbour : ℕ → ℕ → Type 0

@@ -1,6 +1,6 @@
 -- What a build keeps: links are paths, two links share at most one vertex, and the branch vertices stay connected, IN THE WHOLE
 -- GRAPH, without any two vertices. A step keeps it: first the path is added, which is all the graph theory, then links are split.
-use mathlib.Core.Path.{◌≡◌, ◌∙◌, sym, refl}
+use mathlib.Core.Path.{◌≡◌, ◌∙◌, sym, refl, subst}
 use mathlib.Core.Logic.{◌≢◌, inl, inr, ⊎_elim}
 use mathlib.Core.List.{List, ◌∷◌, []}
 use Prim.Native.Nat.{ℕ}
@@ -36,7 +36,7 @@ module _ (E : ℕ → ℕ → Type 0) (esym : (u v : ℕ) → E u v → E v u) (
       second fy j hc hd ne (inr r) = absurd (ny (rw (inv.share_one L M h_l hM c d ne hc hd r.0 r.1) hy))
 
       off : (w : ℕ) → ¬ In w (vertices L) → In c (vertices L) → In d (vertices L) → Free c d w
-      off w n hc hd = ((λ e. n (rw e hc)), (λ e. n (rw e hd)))
+      off w n hc hd = ((λ e. n (subst (λ (k : ℕ). In k (vertices L)) (sym e) hc)), (λ e. n (subst (λ (k : ℕ). In k (vertices L)) (sym e) hd)))
 
       go : ReachesEnd E c d L x → Goal
       go (inl r) = (r.0, inv.ends L h_l r.0 r.1, r.2, r.3)
@@ -79,9 +79,12 @@ module _ (E : ℕ → ℕ → Type 0) (esym : (u v : ℕ) → E u v → E v u) (
         shared : (u : ℕ) → In u (vertices P) → In u (vertices M) → End u P
         shared u h k = end_of_lem P u h (λ j. bg.new u j (M, hM, k))
 
+        on : {u v : ℕ} → u ≡ v → In u (vertices M) → In v (vertices M)
+        on e h = subst (λ (k : ℕ). In k (vertices M)) e h
+
         go : SamePair c d P.s P.t → ⊥
-        go (inl e) = bg.apart M hM (rw e.0 at mc) (rw e.1 at md)
-        go (inr e) = bg.apart M hM (rw e.1 at md) (rw e.0 at mc)
+        go (inl e) = bg.apart M hM (on e.0 mc) (on e.1 md)
+        go (inr e) = bg.apart M hM (on e.1 md) (on e.0 mc)
 
     pub add_path_lem : Invariant E (P.s ∷ (P.t ∷ B)) (P ∷ links)
     add_path_lem = record { is_path = path; ends = ends; share_one = share; connected = conn }

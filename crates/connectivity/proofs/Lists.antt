@@ -83,7 +83,7 @@ nodup_snoc l a nd h = nodup_append l (a ∷ []) nd ((λ k. k), tt) (λ x k j. h 
 -- what stands up to x and also from x on is x
 pub meet_once : (x u : ℕ) (p q : List ℕ) → NoDup (p ++ (x ∷ q)) → In u (p ++ (x ∷ [])) → In u (x ∷ q) → u ≡ x
 meet_once x u [] q nd h k = in_single u x h
-meet_once x u (b ∷ p) q nd (inl e) h = absurd (nd.0 (in_right b p (x ∷ q) (rw e at h)))
+meet_once x u (b ∷ p) q nd (inl e) h = absurd (nd.0 (in_right b p (x ∷ q) (subst (λ (k : ℕ). In k (x ∷ q)) e h)))
 meet_once x u (b ∷ p) q nd (inr m) h = meet_once x u p q nd.1 m h
 
 -- the pigeonhole

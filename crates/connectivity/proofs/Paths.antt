@@ -1,5 +1,5 @@
 -- Laws of paths: cutting and joining, ends and inner vertices, neighbours on a path, the edges that paths use, paths as lists.
-use mathlib.Core.Path.{◌≡◌, refl, ap, sym, ◌∙◌}
+use mathlib.Core.Path.{◌≡◌, refl, ap, sym, ◌∙◌, subst}
 use mathlib.Core.Logic.{inl, inr, ◌⊎◌, ⊎_elim, ◌≢◌, ⊎_map}
 use mathlib.Core.List.{List, [], ◌∷◌, ◌++◌}
 use Prim.Native.Nat.{ℕ, ◌≤◌, ◌<◌, min, max, suc, ◌+◌}
@@ -155,10 +155,10 @@ head_vertex [] (a ∷ v) t = inl refl
 head_vertex (b ∷ u) v t = inr (head_vertex u v t)
 
 pub consecutive_left : (L : Path) (x y : ℕ) → Consecutive L x y → In x (vertices L)
-consecutive_left L x y g = rw (g.cut, g.left) (last_vertex L.s g.u g.v L.t)
+consecutive_left L x y g = subst (λ (k : ℕ). In k (vertices L)) (sym g.left) (rw g.cut (last_vertex L.s g.u g.v L.t))
 
 pub consecutive_right : (L : Path) (x y : ℕ) → Consecutive L x y → In y (vertices L)
-consecutive_right L x y g = rw (g.cut, g.right) (inr (head_vertex g.u g.v L.t))
+consecutive_right L x y g = subst (λ (k : ℕ). In k (vertices L)) (sym g.right) (rw g.cut (inr (head_vertex g.u g.v L.t)))
 
 pub consecutive_differ : (L : Path) (x y : ℕ) → NoDup (vertices L) → Consecutive L x y → x ≢ y
 consecutive_differ L x y nd g e = go L.s g.u g.v L.t (rw g.cut at nd) (sym g.left ∙ e ∙ g.right)
@@ -261,7 +261,7 @@ nodup_path L nd = go L.s L.inner L.t nd
   where
     off : (s a : ℕ) (l : List ℕ) (t : ℕ) → ¬ In s (vertices (link a l t)) → ¬ In (edge s a) (edges_along a l t)
     off s a l t n h = let r = edge-consecutive a l t (edge s a) h in
-        ⊎_elim (λ (k : (s ≡ r.0) × (a ≡ r.1)). n (rw k.0 (consecutive_left (link a l t) r.0 r.1 r.2))) (λ k. n (rw k.0 (consecutive_right (link a l t) r.0 r.1 r.2))) (edge_same s a r.0 r.1 r.3)
+        ⊎_elim (λ (k : (s ≡ r.0) × (a ≡ r.1)). n (subst (λ (x : ℕ). In x (vertices (link a l t))) (sym k.0) (consecutive_left (link a l t) r.0 r.1 r.2))) (λ k. n (subst (λ (x : ℕ). In x (vertices (link a l t))) (sym k.0) (consecutive_right (link a l t) r.0 r.1 r.2))) (edge_same s a r.0 r.1 r.3)
 
     go : (s : ℕ) (l : List ℕ) (t : ℕ) → NoDup (vertices (link s l t)) → NoDup (edges_along s l t)
     go s [] t nd = ((λ h. h), tt)

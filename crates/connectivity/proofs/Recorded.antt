@@ -153,7 +153,7 @@ module _ (E : ℕ → ℕ → Type 0) (q : List ℕ) where
     from = rw a.s_eq f.from;
     upto = rw a.t_eq f.upto;
     new = λ w h k. ⊎_elim (λ j. f.new w j k) (λ j. n w j k) (a.inner w h);
-    apart = λ N h. rw (a.s_eq, a.t_eq) (f.apart N h);
+    apart = λ N h. subst (λ (s : ℕ). Apart (branch_vertices ls) (vertices N) s M.t) (sym a.s_eq) (subst (λ (t : ℕ). Apart (branch_vertices ls) (vertices N) L.s t) (sym a.t_eq) (f.apart N h));
   }
 
   module _ (L M : Path) (older : List Path) (a : Wider q L M) (path : IsPath E M) where

@@ -280,15 +280,15 @@ module _ (E : ℕ → ℕ → Type 0) (ls : List Path) (x : Subdivision E ls) wh
           go y z yu yv zu zv yz L h t (inr r) (inl j) b = j
           go y z yu yv zu zv yz L h t (inr r) (inr a) (inl j) = j
           go y z yu yv zu zv yz L h t (inr r) (inr a) (inr b) = absurd (one_free c d a.0 b.0 r.0 a.1 b.1 r.2 ab
-              (λ e. off_route a.5 L a.2 y u v a.0 a.6 h a.7 t yu yv a.3 a.1 a.8 (rw e r.1))
-              (λ e. off_route b.5 L b.2 z u v b.0 b.6 h b.7 t zu zv b.3 b.1 b.8 (rw e r.1)))
+              (λ e. off_route a.5 L a.2 y u v a.0 a.6 h a.7 t yu yv a.3 a.1 a.8 (subst (λ (k : ℕ). In k (vertices L)) (sym e) r.1))
+              (λ e. off_route b.5 L b.2 z u v b.0 b.6 h b.7 t zu zv b.3 b.1 b.8 (subst (λ (k : ℕ). In k (vertices L)) (sym e) r.1)))
             where
               off : (p : ℕ) → (p ≡ u) ⊎ (p ≡ v) → y ≢ p
               off p (inl e) k = yu (k ∙ e)
               off p (inr e) k = yv (k ∙ e)
 
               ab : a.0 ≢ b.0
-              ab e = off_route a.5 b.5 a.2 y b.2 z a.0 a.6 b.6 a.7 b.7 (off b.2 b.4) yz a.3 a.1 a.8 (rw e b.8)
+              ab e = off_route a.5 b.5 a.2 y b.2 z a.0 a.6 b.6 a.7 b.7 (off b.2 b.4) yz a.3 a.1 a.8 (subst (λ (k : ℕ). In k (vertices b.5)) (sym e) b.8)
 
     four-stay : (u v : ℕ) → In u (the_four x) → In v (the_four x) → Free c d u → Free c d v → Connected E c d u v
     four-stay u v hu hv fu fv = ⊎_elim (λ e. rw e here) (λ e. four-connected u v hu hv e fu fv) (either (ℕ_discrete u v))

@@ -1,5 +1,5 @@
 -- Walks that avoid two vertices c and d along a relation E, and the walks of the definition.
-use mathlib.Core.Path.{◌≡◌, refl, ◌∙◌, sym}
+use mathlib.Core.Path.{◌≡◌, refl, ◌∙◌, sym, subst}
 use mathlib.Core.Logic.{◌⊎◌, ◌≢◌, inl, inr, ⊎_elim}
 use mathlib.Core.List.{List, [], ◌∷◌, ◌++◌, append_assoc}
 use Prim.Native.Nat.{ℕ}
@@ -91,7 +91,7 @@ module _ (E : ℕ → ℕ → Type 0) (esym : (u v : ℕ) → E u v → E v u) (
       whole = s ∷ (p ++ (x ∷ (q ++ (t ∷ []))))
 
       ne : (u v : ℕ) → In u (s ∷ (p ++ (x ∷ []))) → In v (x ∷ (q ++ (t ∷ []))) → Removed c d u → u ≢ v
-      ne u v hu hv ku e = removed-free c d x (rw (meet_once x u (s ∷ p) (q ++ (t ∷ [])) nd hu (rw e hv)) at ku) fx
+      ne u v hu hv ku e = removed-free c d x (rw (meet_once x u (s ∷ p) (q ++ (t ∷ [])) nd hu (subst (λ (w : ℕ). In w (x ∷ (q ++ (t ∷ [])))) (sym e) hv)) at ku) fx
 
       go : AllFree c d (s ∷ (p ++ (x ∷ []))) ⊎ ((u : ℕ) × In u (s ∷ (p ++ (x ∷ []))) × Removed c d u)
           → AllFree c d (x ∷ (q ++ (t ∷ []))) ⊎ ((u : ℕ) × In u (x ∷ (q ++ (t ∷ []))) × Removed c d u)

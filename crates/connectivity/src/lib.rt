@@ -1,1 +1,2 @@
 // No functions: definitions stand in specs/, theorems in proofs/.
+#![tactic(auto)]

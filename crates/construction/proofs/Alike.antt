@@ -124,7 +124,7 @@ module _ {s : Sides} where
   pub all_alike : {p q : VertexSet} → AlikeSet s p q → {l m : List ℕ} → AlikeList s l m → AlikeSet s (set_with_all s.a p l) (set_with_all s.b q m)
   unfolding folded
   all_alike h end = h
-  all_alike h (more e k) = all_alike (inserted-alike h e) k
+  all_alike {p} {q} h (more {x} {y} e k) = all_alike {p = inserted s.a p x} {q = inserted s.b q y} (inserted-alike h e) k
 
   pub set_alike : {l m : List ℕ} → AlikeList s l m → AlikeSet s (set_of s.a l) (set_of s.b m)
   set_alike h = all_alike empty-alike h
@@ -342,4 +342,4 @@ module _ {s : Sides} where
   unfolding marked
   marked-alike h end = h
   marked-alike h (more e end) = h
-  marked-alike h (more e (more f k)) = marked-alike (joined-alike h e f) (more f k)
+  marked-alike {t} {r} h (more {x} {y} e (more {x = x'} {y = y'} f k)) = marked-alike {t = joined s.a t x x'} {r = joined s.b r y y'} (joined-alike h e f) (more f k)

@@ -360,7 +360,7 @@ module _ (rows : List ℕ) (n : ℕ) (dr : Drawn rows n) (few : edge_count (rows
     where
       end_on : (z : ℕ) → In z (K.s ∷ (K.t ∷ [])) → In z (vertices K)
       end_on z (inl e) = inl e
-      end_on z (inr h) = rw (in_single z K.t h) (end_t K)
+      end_on z (inr h) = subst (λ (k : ℕ). In k (vertices K)) (sym (in_single z K.t h)) (end_t K)
 
   shut_separates : Shut rows n seeds goals removed → IsCut rows n (cut removed (reached (explore rows seeds goals removed) removed))
   shut_separates t =

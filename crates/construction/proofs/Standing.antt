@@ -107,7 +107,7 @@ pair-stands d e = inserted-stands (single-stands d) e
 list_stands : {s : VertexSet} {p : ℕ → Bool} → Stands s p → (l : List ℕ) → Stands (set_with_all s l) (plain.set_with_all code_bounds p l)
 unfolding folded
 list_stands h [] = h
-list_stands h (v ∷ l) = list_stands (inserted-stands h refl) l
+list_stands {s} {p} h (v ∷ l) = list_stands {s = inserted s v} {p = plain.inserted code_bounds p v} (inserted-stands h refl) l
 
 pub all-stands : {s : VertexSet} {p : ℕ → Bool} → Stands s p → {l m : List ℕ} → l ≡ m → Stands (set_with_all s l) (plain.set_with_all code_bounds p m)
 all-stands {s} {p} h {l} e = subst (λ (m : List ℕ). Stands (set_with_all s l) (plain.set_with_all code_bounds p m)) e (list_stands h l)
@@ -200,7 +200,7 @@ path-drawn : {rows : List ℕ} {adj : ℕ → ℕ → Bool} → length rows ≡ 
 unfolding marked plain.marked
 path-drawn l d [] = d
 path-drawn l d (u ∷ []) = d
-path-drawn {rows} {adj} l d (u ∷ (v ∷ flat)) = path-drawn (marked-size rows (u ∷ (v ∷ [])) l) joins (v ∷ flat)
+path-drawn {rows} {adj} l d (u ∷ (v ∷ flat)) = path-drawn {rows = joined_rows rows u v} {adj = plain.joined code_bounds adj u v} (marked-size rows (u ∷ (v ∷ [])) l) joins (v ∷ flat)
   where
     joins : Draws (joined_rows rows u v) (plain.joined code_bounds adj u v)
     joins = record {

@@ -156,7 +156,7 @@ module _ (rows : List ℕ) (n : ℕ) (d : Drawn rows n) where
     on_around w h = on_set around₀ w (low_of w (low_P w h)) (in_left w (rev (vertices P)) (0 ∷ []) (in_rev w (vertices P) h))
 
     not_zero : (w : ℕ) → In w (vertices P) → w ≢ 0
-    not_zero w h e = off_P (rw e at h)
+    not_zero w h e = off_P (subst (λ (k : ℕ). In k (vertices P)) e h)
 
     -- A THIRD PATH IS FOUND: from inside it across to the cycle
     module _ (Q : Path) (path-Q : IsPath (Adj g) Q) (k_q : Adj g 0 Q.s) (off_Q : ¬ In 0 (Q.s ∷ Q.inner)) (apart : (w : ℕ) → In w (Q.s ∷ Q.inner) → ¬ In w (vertices P)) (meets : In Q.t (vertices P)) where
@@ -193,7 +193,7 @@ module _ (rows : List ℕ) (n : ℕ) (d : Drawn rows n) where
 
       on_inside : (w : ℕ) → In w (Q.s ∷ Q.inner) → On inside w
       on_inside w h = on_minus (set_of third₁) ends (sized_set third₁) (sized_pair 0 Q.t) w
-          (on_set third₁ w (low_of w (low_in w h)) (inr (in_left w (rev (Q.s ∷ Q.inner)) (0 ∷ []) (in_rev w (Q.s ∷ Q.inner) h)))) (no_end w (λ e. off_Q (rw e at h)) (λ e. apart w h (rw e meets)))
+          (on_set third₁ w (low_of w (low_in w h)) (inr (in_left w (rev (Q.s ∷ Q.inner)) (0 ∷ []) (in_rev w (Q.s ∷ Q.inner) h)))) (no_end w (λ e. off_Q (subst (λ (k : ℕ). In k (Q.s ∷ Q.inner)) e h)) (λ e. apart w h (subst (λ (k : ℕ). In k (vertices P)) (sym e) meets)))
 
       others_on : (w : ℕ) → On others w → In w (vertices P) × (w ≢ Q.t)
       others_on w h =
@@ -310,7 +310,7 @@ module _ (rows : List ℕ) (n : ℕ) (d : Drawn rows n) where
         goals_sized = sized_minus (set_of around₀) (single 0) (sized_set around₀) (sized_single 0);
         removed-sized = sized_single 0;
         low = λ w h. rw (single-on z w h) (edge-high g d.simple 0 z kz);
-        no_goal = λ w h k. nz (rw (single-on z w h) at (rest-on w k));
+        no_goal = λ w h k. nz (subst (λ (u : ℕ). In u (vertices P)) (single-on z w h) (rest-on w k));
         no_removed = λ w h k. edge-differ g d.simple 0 z kz (sym (single-on z w h) ∙ single-on 0 w k);
         goal_stays = λ w h. (minus-on (set_of around₀) (single 0) (sized_set around₀) (sized_single 0) w h).1;
       }
@@ -333,7 +333,7 @@ module _ (rows : List ℕ) (n : ℕ) (d : Drawn rows n) where
           far (inr h) = (m.found.off 0 h).2 on_zero
 
           off : (w : ℕ) → In w (Q.s ∷ Q.inner) → ¬ In w (vertices P)
-          off w (inl e) k = nz (rw (e ∙ from) at k)
+          off w (inl e) k = nz (subst (λ (u : ℕ). In u (vertices P)) (e ∙ from) k)
           off w (inr h) k = (m.found.off w h).1 (on_rest w k)
 
       shut_third : Shut rows n (single z) rest (single 0) → IsCut rows n (cut (single 0) (reached (explore rows (single z) rest (single 0)) (single 0)))

@@ -200,7 +200,7 @@ module _ (g : Graph) (simple : Simple g) (fits : g.n ≤ capacity) (P Q R : Path
     whole : NoDup (R.inner ++ (p ++ (u ++ (rev v ++ (0 ∷ (Q.t ∷ []))))))
     whole = nodup_append R.inner (p ++ (u ++ (rev v ++ (0 ∷ (Q.t ∷ []))))) (nodup_inner R c.path-R.nodup) (three_nodup 0 P Q c.path-P.nodup c.off_P c.path-Q.nodup c.off_Q c.apart u v cut)
         (λ w h k. ⊎_elim (c.off_R w h).0 (λ j. ⊎_elim (λ i. (c.off_R w h).1 (on_P w (in_left w u (Q.t ∷ v) i))) (λ i. ⊎_elim (λ m. (c.off_R w h).1 (on_P w (in_right w u (Q.t ∷ v) (inr (rev_in w v m)))))
-        (λ m. ⊎_elim (c.off_R w h).2 (λ n. (c.off_R w h).1 (rw (in_single w Q.t n) c.meets)) m) (in_append w (rev v) (0 ∷ (Q.t ∷ [])) i)) (in_append w u (rev v ++ (0 ∷ (Q.t ∷ []))) j)) (in_append w p (u ++ (rev v ++ (0 ∷ (Q.t ∷ [])))) k))
+        (λ m. ⊎_elim (c.off_R w h).2 (λ n. (c.off_R w h).1 (subst (λ (k : ℕ). In k (vertices P)) (sym (in_single w Q.t n)) c.meets)) m) (in_append w (rev v) (0 ∷ (Q.t ∷ [])) i)) (in_append w u (rev v ++ (0 ∷ (Q.t ∷ []))) j)) (in_append w p (u ++ (rev v ++ (0 ∷ (Q.t ∷ [])))) k))
 
     -- the two arcs of the cycle change places
     swapped : NoDup (R.inner ++ (p ++ (rev v ++ (u ++ (0 ∷ (Q.t ∷ []))))))

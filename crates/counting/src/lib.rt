@@ -1,4 +1,6 @@
 // How rare each grade is (request 5 of document 02): every plan of four, five or six vertices is drawn and graded, and the grades are counted.
+#![tactic(auto)]
+
 ghost use Rattle.std.specs.Prelude.{◌≡◌, [], ◌≤◌, ◌<◌, length, get_or};
 ghost use Rattle.record.specs.Read.{folded};
 ghost use Rattle.graph.specs.Rows.{joined};
@@ -7,7 +9,7 @@ ghost use Rattle.counting.specs.Counts.{pairs_of, sets_of, plan_with, connectivi
 use graph::GraphTable;
 
 // How many plans of a size have grade 0, 1, 2 and 3.
-#[derive(Drop)]
+#[derive(Clone, Copy)]
 pub struct Counts {
     pub of: [u16; Counts::GRADES],
 }

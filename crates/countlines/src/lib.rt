@@ -1,4 +1,6 @@
 // The lines that the counting program prints, written into a lent buffer.
+#![tactic(auto)]
+
 ghost use Rattle.std.specs.Prelude.{◌≡◌, ◌≤◌, length};
 ghost use Rattle.lines.specs.Lines.{place_after, written};
 ghost use Rattle.counting.specs.Counts.{max_size};

@@ -1,4 +1,6 @@
 // Paths and cuts by one search each: a way out of a set of vertices and back, a cycle through vertex 0; ears until every vertex is in.
+#![tactic(auto)]
+
 ghost use Rattle.std.specs.Prelude.{◌≡◌, [], ◌∷◌, length, take, get_or};
 ghost use Rattle.vertexset.specs.Set.{empty_set, capacity};
 ghost use Rattle.search.specs.Arrays.{placed, placed_end};
@@ -14,28 +16,28 @@ use search::{Reach, VertexList};
 use vertexset::VertexSet;
 
 // Removed vertices, and a side that no edge leaves but to them. Without a side nothing is cut.
-#[derive(Drop)]
+#[derive(Clone, Copy)]
 pub struct Cut {
     pub removed: VertexSet,
     pub side: VertexSet,
 }
 
 // A path of vertices, or a cut.
-#[derive(Drop)]
+#[derive(Clone, Copy)]
 pub struct Found {
     pub path: VertexList,
     pub cut: Cut,
 }
 
 // An edge out of a set; where there is none, CAPACITY inside.
-#[derive(Drop)]
+#[derive(Clone, Copy)]
 struct Exit {
     inside: u16,
     outside: u16,
 }
 
 // Ears one after the other in an array, a stop before each, and how many; or a cut.
-#[derive(Drop)]
+#[derive(Clone, Copy)]
 pub struct Ears {
     pub flat: [u16; Ears::ROOM],
     pub len: usize,

@@ -1,4 +1,6 @@
 // Certificates of kind 2: two removed vertices, ears that take in every vertex, and a side.
+#![tactic(auto)]
+
 ghost use Rattle.std.specs.Prelude.{◌≡◌, ◌≤◌};
 ghost use Rattle.vertexset.specs.Set.{has, capacity};
 ghost use Rattle.graph.specs.Rows.{adjacent_in, rows_graph};
@@ -12,14 +14,14 @@ use record::Answer;
 use vertexset::VertexSet;
 
 // The vertices that are in, and whether there is an ear yet.
-#[derive(Drop)]
+#[derive(Clone, Copy)]
 struct Ears {
     set: VertexSet,
     begun: bool,
 }
 
 // Where reading goes on after an ear (or its fault), and the ears with it.
-#[derive(Drop)]
+#[derive(Clone, Copy)]
 struct EarRead {
     end: Item,
     ears: Ears,

@@ -1,4 +1,6 @@
 // The functions for callers in other languages: numbers and byte slices, one word for an answer.
+#![tactic(auto)]
+
 ghost use Rattle.std.specs.Prelude.{◌≡◌};
 ghost use Rattle.graph.specs.Limits.{min_vertices, max_vertices, max_edges};
 ghost use Rattle.reading.specs.Code.{whole_plan};

@@ -1,4 +1,6 @@
 // The line that the checking program prints, written into a lent buffer.
+#![tactic(auto)]
+
 ghost use Rattle.std.specs.Prelude.{◌≡◌, ◌≤◌, length};
 ghost use Rattle.record.specs.declared.Answer.TheVariants.{Grade};
 ghost use Rattle.lines.specs.Lines.{place_after, written, longest};

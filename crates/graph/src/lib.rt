@@ -1,4 +1,6 @@
 // A graph by value: rows of bits, one for each vertex; two vertices are joined or parted in them, or found adjacent.
+#![tactic(auto)]
+
 ghost use Rattle.std.specs.Prelude.{◌≡◌, ◌+◌, ◌*◌, ◌<◌};
 ghost use Rattle.vertexset.specs.Set.{with_bit, without_bit, capacity};
 ghost use Rattle.graph.specs.Rows.{adjacent_in, row_of, no_graph, joined_rows, parted_rows};
@@ -6,7 +8,7 @@ ghost use Rattle.graph.specs.Rows.{adjacent_in, row_of, no_graph, joined_rows, p
 use vertexset::VertexSet;
 
 // n vertices, d pairs of adjacent ones, and for each vertex a row of bits: the vertices adjacent to it.
-#[derive(Drop)]
+#[derive(Clone, Copy)]
 pub struct GraphTable {
     pub n: u16,
     pub d: u16,

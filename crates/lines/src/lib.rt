@@ -1,4 +1,6 @@
 // The line of a refusal, and what lines are made of: bytes, decimal numbers and a plan's size, written into a lent buffer.
+#![tactic(auto)]
+
 ghost use Rattle.std.specs.Prelude.{◌≡◌, ◌++◌, ◌≤◌, length};
 ghost use Rattle.lines.specs.Lines.{decimal, fault_line, refusal_line, size_text, place_after, written, longest};
 

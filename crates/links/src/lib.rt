@@ -1,4 +1,6 @@
 // Links of a build: the two ends of a path, and the tables of what they join and of the way along them.
+#![tactic(auto)]
+
 ghost use Rattle.std.specs.Prelude.{◌≡◌, ◌*◌, ◌≤◌};
 ghost use Rattle.vertexset.specs.Set.{capacity};
 ghost use Rattle.links.specs.Ends.{same_link, link_end, addition_of, held};
@@ -8,7 +10,7 @@ use graph::GraphTable;
 use vertexset::VertexSet;
 
 // A link, named by its two ends: no two links have the same. With it come its two outermost inner vertices, next to a and next to b.
-#[derive(Drop)]
+#[derive(Clone, Copy)]
 pub struct Link {
     pub a: u16,
     pub b: u16,
@@ -17,20 +19,20 @@ pub struct Link {
 }
 
 // An end of a path: a branch vertex, or an inner vertex together with its link.
-#[derive(Drop)]
+#[derive(Clone, Copy)]
 pub enum End {
     Branch(u16),
     Inner(u16, Link),
 }
 
-#[derive(Drop)]
+#[derive(Clone, Copy)]
 pub struct Ends {
     pub first: End,
     pub last: End,
 }
 
 // What taking a path does, by the cases of its two ends; Held where one link holds both.
-#[derive(Drop)]
+#[derive(Clone, Copy)]
 pub enum Addition {
     Held,
     VertexVertex,

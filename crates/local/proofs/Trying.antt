@@ -83,7 +83,9 @@ module _ (space : List ℕ) (size : length space ≡ search_space) (rows : List 
   whole : (k : ℕ) → r.goal < capacity → k ≢ 0 → all (tried (k - 1) rows u v removed) (route (between rows u v removed)) ≡ withstands k rows u v removed
   unfolding withstands
   whole zero h z = absurd (z refl)
-  whole (suc k) h z = let j : suc k - 1 ≡ k = omega arith in rw (j, lt-ltb _ _ (rw goal_is at h))
+  whole (suc k) h z =
+      let j : suc k - 1 ≡ k = omega arith in
+      ap (λ (m : ℕ). all (tried m rows u v removed) (route (between rows u v removed))) j ∙ rw (lt-ltb _ _ (rw goal_is at h))
 
   pub try_first : (k : ℕ) → r.goal < capacity → k ≢ 0 → {out : List ℕ} {x : VertexList} → out ≡ left_in space (explore rows a b removed) → x ≡ path_of (route_in out r)
       → Trying (tried (k - 1) rows u v removed) (route (between rows u v removed)) (withstands k rows u v removed) x.vertices x.count 0

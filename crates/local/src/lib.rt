@@ -1,4 +1,6 @@
 // Local connectivity: whether two vertices stay connected whatever few others are removed.
+#![tactic(auto)]
+
 ghost use Rattle.std.specs.Prelude.{◌≡◌};
 ghost use Rattle.local.specs.Withstands.{withstands, spared};
 

@@ -1,17 +1,13 @@
 -- The records as the buffers hold them after a mend, all three in one buffer, and the bytes by the case. Assumes nothing.
 use Prim.Native.Nat.{ℕ, ◌+◌, ◌≤◌, ◌<◌}
-use mathlib.Core.List.{List, [], ◌∷◌, ◌++◌, append_assoc}
+use mathlib.Core.List.{List, ◌++◌, append_assoc}
 use mathlib.Core.Path.{◌≡◌, refl, sym, ap, subst, ◌∙◌}
-use mathlib.Core.Logic.{inl, inr}
 use native.Mathlib.Omega.{arith}
 use lib.ListN.{length, take, replicate, length-append, length-replicate}
 use borrow.Author.Tests.{lt-ltb, le-ltb, le-leb}
-use denote.Enum.Declared.{tag_of}
-use types.Run.{OneOf}
 use Rattle.record.specs.Read.{Bytes}
 use Rattle.record.specs.Write.{overwritten}
 use Rattle.record.specs.declared.Answer.{Answer}
-use Rattle.record.specs.contracts.Answer.{the_type}
 use Rattle.record.specs.declared.Answer.TheVariants.{Accepted, Grade, PlanFault, CertificateFault}
 use Rattle.reading.specs.Code.{plan_room}
 use Rattle.certifier.specs.Made.{certificate_room}
@@ -97,14 +93,11 @@ module _ (s : List ℕ) where
       pub graded_bytes : {g : ℕ} → m.answer ≡ Grade g → Three (records_from s) ≡ mend_bytes s
       graded_bytes f = told-bytes h (sym holds.answer ∙ f)
 
-      -- 1 is the grade's tag
-      pub refused-bytes : OneOf (0 ∷ 2 ∷ 3 ∷ []) (tag_of the_type m.answer) → refusal_line m.answer ≡ mend_bytes s
+      pub refused-bytes : ((g : ℕ) → m.answer ≡ Grade g → ⊥) → refusal_line m.answer ≡ mend_bytes s
       refused-bytes t = go m.answer t ∙ told-bytes h (sym holds.answer)
         where
-          go : (a : Answer) → OneOf (0 ∷ 2 ∷ 3 ∷ []) (tag_of the_type a) → refusal_line a ≡ printed a (records_from s)
+          go : (a : Answer) → ((g : ℕ) → a ≡ Grade g → ⊥) → refusal_line a ≡ printed a (records_from s)
           go Accepted t = refl
-          go (Grade g) (inl t) = absurd (omega arith)
-          go (Grade g) (inr (inl t)) = absurd (omega arith)
-          go (Grade g) (inr (inr t)) = absurd (omega arith)
+          go (Grade g) t = absurd (t g refl)
           go (PlanFault r q) t = refl
           go (CertificateFault r q) t = refl

@@ -5,15 +5,13 @@ use mathlib.Core.Bool.{false}
 use mathlib.Core.Path.{◌≡◌, sym, ap, subst, ◌∙◌}
 use mathlib.Core.Logic.{inl, inr}
 use native.Mathlib.Omega.{arith}
-use types.Run.{OneOf}
-use denote.Enum.Declared.{tag_of}
 use lib.Dec.{ltb}
 use lib.ListN.{length}
 use lib.Seq.{take_all}
 use borrow.Author.Tests.{lt-ltb, le-ltb}
 use Rattle.record.specs.Read.{Read, Read.Got, Read.Refused, Bytes, ended}
 use Rattle.record.specs.declared.Answer.TheVariants.{Accepted, Grade}
-use Rattle.record.specs.contracts.Answer.{the_type}
+use Rattle.record.proofs.Faults.{NotAccepted}
 use Rattle.record.proofs.Laws.{ended-back}
 use Rattle.connectivity.specs.Lists.{In}
 use Rattle.connectivity.proofs.Edges.{AscendingEdges}
@@ -43,18 +41,13 @@ pub record ListRight : Type 0 where
 
 -- a plan that was refused
 
-pub refused-records : (s : List ℕ) {r : PlanRead} → r ≡ whole_plan s → OneOf (1 ∷ 2 ∷ 3 ∷ []) (tag_of the_type r.answer) → {d : Draft}
+pub refused-records : (s : List ℕ) {r : PlanRead} → r ≡ whole_plan s → NotAccepted r.answer → {d : Draft}
     → Drafted d (record { answer = r.answer; list = []; mended = []; certificate = [] }) → Drafted d (records_from s)
 unfolding plan_read records_read
 refused-records s {r} e k {d} j = go (ended plan s 0) e
   where
-    never : OneOf (1 ∷ 2 ∷ 3 ∷ []) (tag_of the_type Accepted) → ⊥
-    never (inl i) = omega arith
-    never (inr (inl i)) = omega arith
-    never (inr (inr i)) = omega arith
-
     go : (x : Read Plan) → r ≡ plan_read x → Drafted d (records_read x)
-    go (Got p next) e = absurd (never (subst (λ (y : PlanRead). OneOf (1 ∷ 2 ∷ 3 ∷ []) (tag_of the_type y.answer)) e k))
+    go (Got p next) e = absurd (k (ap (λ (y : PlanRead). y.answer) e))
     go (Refused q w) e = subst (λ (y : PlanRead). Drafted d (record { answer = y.answer; list = []; mended = []; certificate = [] })) e j
 
 -- the plan of edges in an array that has room for them

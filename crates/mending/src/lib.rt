@@ -1,4 +1,6 @@
 // The cables that would mend a plan (request 6 of document 02): the list, the mended plan, and its certificate.
+#![tactic(auto)]
+
 ghost use Rattle.std.specs.Prelude.{◌≡◌, [], ◌+◌, ◌≤◌, length};
 ghost use Rattle.record.specs.Write.{overwritten};
 ghost use Rattle.record.specs.declared.Answer.TheVariants.{Grade, PlanFault};
@@ -17,7 +19,7 @@ use record::{Answer, Written};
 use striking::Edges;
 
 // How far the edges of two lists are taken, and how many they are.
-#[derive(Drop)]
+#[derive(Clone, Copy)]
 struct Places {
     i: usize,
     m: usize,
@@ -42,6 +44,8 @@ fn takes_first<'a>(a: &'a [u16; PlanTable::ENDS], b: &'a [u16; PlanTable::ENDS],
 }
 
 // Two lists of edges in cable order as one; those of the first may be doubles.
+// A call of its own: inlined, its locals would lie on the stack beside those of all callers.
+#[inline(never)]
 fn merge<'a>(a: &'a [u16; PlanTable::ENDS], m: u16, b: &'a [u16; PlanTable::ENDS], k: u16) -> Edges
     requires { m + k ≤ max_edges }
     ensures { result ≡ edges_held (merged (edges_of a.now m) (edges_of b.now k)) }
@@ -72,7 +76,7 @@ fn merge<'a>(a: &'a [u16; PlanTable::ENDS], m: u16, b: &'a [u16; PlanTable::ENDS
 }
 
 // A plan record.
-#[derive(Drop)]
+#[derive(Clone, Copy)]
 struct Record {
     bytes: [u8; PlanTable::BYTES],
     length: usize,
@@ -100,7 +104,7 @@ fn record_of(n: u16, edges: Edges) -> Record
 }
 
 // What is decided before a byte is written: the answer where there is room, and the three records; none on refusal.
-#[derive(Drop)]
+#[derive(Clone, Copy)]
 struct Draft {
     answer: Answer,
     list: Record,
@@ -173,7 +177,7 @@ fn decide(plan: &[u8]) -> Draft
 }
 
 // The answer, and how many bytes were written into each buffer; 0 beside a refusal.
-#[derive(Drop)]
+#[derive(Clone, Copy)]
 pub struct Mended {
     pub answer: Answer,
     pub list: usize,

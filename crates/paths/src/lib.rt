@@ -1,4 +1,6 @@
 // Vertices and paths of a certificate, read and tested.
+#![tactic(auto)]
+
 ghost use Rattle.std.specs.Prelude.{◌≡◌, ◌-◌, ◌<◌, ◌≤◌};
 ghost use Rattle.record.specs.Number.{number};
 ghost use Rattle.record.specs.Read.{◌needs⟨◌⟩◌, within, folded};
@@ -17,7 +19,7 @@ use vertexset::VertexSet;
 
 // A number of a certificate that was read and tested: accepted, with its value and the place after it; or the certificate's
 // fault, beside 0 and 0.
-#[derive(Drop)]
+#[derive(Clone, Copy)]
 pub struct Item {
     pub answer: Answer,
     pub value: u16,
@@ -48,7 +50,7 @@ impl Item {
 
 // A path that was read: where reading goes on (or its fault), its two ends, whether its neighbours are adjacent, whether no
 // vertex is twice on it and all inner ones are new, and how many vertices it has.
-#[derive(Drop)]
+#[derive(Clone, Copy)]
 pub struct PathRead {
     pub end: Item,
     pub first: u16,

@@ -4,14 +4,14 @@ use Prim.Native.Nat.{ℕ, ◌+◌, ◌<◌, ◌≤◌}
 use mathlib.Core.List.{List, [], ◌∷◌}
 use mathlib.Core.Bool.{Bool, true, false, cond, ◌&&◌, or-true}
 use mathlib.Core.Logic.{◌⊎◌, inl, inr, ⊎_elim, ⊎_map}
-use mathlib.Core.Path.{◌≡◌, refl, sym, ap, fun_ext, ◌∙◌}
+use mathlib.Core.Path.{◌≡◌, refl, sym, ap, subst, fun_ext, ◌∙◌}
 use native.Mathlib.Omega.{arith}
 use lib.Dec.{ltb, eqb}
 use lib.ListN.{length}
 use borrow.Author.Tests.{eqb-false, lt-ltb, le-leb, eq-eqb}
 use Rattle.record.specs.Read.{Each, folded}
 use Rattle.connectivity.specs.Lists.{In}
-use Rattle.connectivity.specs.Graph.{is_pair, listed, from_edges, Simple, edge_count}
+use Rattle.connectivity.specs.Graph.{Graph, is_pair, listed, from_edges, Simple, edge_count}
 use Rattle.connectivity.proofs.TopologicalGraph.{is_pair_lem}
 use Rattle.connectivity.proofs.Edges.{EdgeList, EdgeBefore, AscendingEdges, ascending_nodup, listed_in, in_listed, from_edges-simple, from_edges-count}
 use Rattle.graph.specs.Limits.{min_vertices}
@@ -131,7 +131,7 @@ module _ (n : ℕ) (es : List (ℕ × ℕ)) (big : min_vertices ≤ n) (h : Each
   plan-simple = rw (← once-graph) (from_edges-simple n left once-list)
 
   pair-count : edge_count (from_edges n es) ≡ length left
-  pair-count = rw (← once-graph) (from_edges-count n left once-list)
+  pair-count = subst (λ (h : Graph). edge_count h ≡ length left) once-graph (from_edges-count n left once-list)
 
   pub pairs_most : edge_count (from_edges n es) ≤ length es
   pairs_most = omega (arith, pair-count, once-most (0, 0) es)

@@ -12,7 +12,7 @@ use Rattle.record.specs.Number.{number, number_at, fault_number, fault_place}
 use Rattle.record.specs.declared.Number.{Number}
 use Rattle.record.specs.declared.Number.TheVariants.{Value}
 use Rattle.record.specs.contracts.Number.{the_type}
-use Rattle.record.proofs.Faults.{no_value}
+use Rattle.record.proofs.Faults.{NoValue, no_value}
 use Rattle.record.proofs.Laws.{on_got, carry}
 use Rattle.record.proofs.Loops.{needs_true, many-length, many-same, led-go, led-stop, led-done, led-folded}
 use Rattle.record.proofs.Bounds.{within-true}
@@ -84,7 +84,7 @@ lay_go s at k i h ends e =
     let p : 0 < k - i = omega arith in
     rw z (led-go (λ (st : ℕ × List ℕ). number) number_laid s (k - i) p (i, ends) {at = at} (rw (← e)) refl)
 
-pub lay_stop : (s : List ℕ) (at k i : ℕ) (ends : List ℕ) {x : Number} → x ≡ number_at s at → OneOf (1 ∷ 2 ∷ 3 ∷ []) (tag_of the_type x)
+pub lay_stop : (s : List ℕ) (at k i : ℕ) (ends : List ℕ) {x : Number} → x ≡ number_at s at → NoValue x
     → (i, ends) ≡ led (λ st. number) number_laid k (i, ends) s at
 unfolding number
 lay_stop s at k i ends {x} e t = led-stop (λ (st : ℕ × List ℕ). number) number_laid s k (i, ends) at {r = fault_number x} {p = fault_place x} (rw (← e) (no_value x t))
@@ -94,11 +94,11 @@ lay_done s at k i ends h = let z : k - i ≤ 0 = omega arith in led-done (λ (st
 
 -- the two numbers before the edges
 module _ (ends : List ℕ) (m : ℕ) (s : List ℕ) where
-  pub read_first : {x : Number} → x ≡ number_at s 0 → OneOf (1 ∷ 2 ∷ 3 ∷ []) (tag_of the_type x) → ends ≡ ends_read ends m s
+  pub read_first : {x : Number} → x ≡ number_at s 0 → NoValue x → ends ≡ ends_read ends m s
   unfolding ends_read number
   read_first {x} e t = rw (← e, no_value x t)
 
-  pub read_second : {n mid : ℕ} {y : Number} → Value n mid ≡ number_at s 0 → y ≡ number_at s mid → OneOf (1 ∷ 2 ∷ 3 ∷ []) (tag_of the_type y) → ends ≡ ends_read ends m s
+  pub read_second : {n mid : ℕ} {y : Number} → Value n mid ≡ number_at s 0 → y ≡ number_at s mid → NoValue y → ends ≡ ends_read ends m s
   unfolding ends_read number
   read_second {y = y} e f t = rw (← e, ← f, no_value y t)
 

@@ -1,4 +1,6 @@
 // The plan record, read into lent rows or into a plan by value.
+#![tactic(auto)]
+
 ghost use Rattle.std.specs.Prelude.{◌≡◌, ◌≤◌, ◌<◌};
 ghost use Rattle.record.specs.Loop.{runs};
 ghost use Rattle.vertexset.specs.Set.{capacity};
@@ -10,7 +12,7 @@ use graph::GraphTable;
 use record::{Answer, Number};
 
 // A plan by value: its graph, and the m edges of its record in their order, doubles among them: of each the lower and the higher vertex.
-#[derive(Drop)]
+#[derive(Clone, Copy)]
 pub struct PlanTable {
     pub graph: GraphTable,
     pub m: u16,
@@ -25,7 +27,7 @@ impl PlanTable {
 }
 
 // An accepted plan with the place after its last edge; or the plan's fault, beside a plan without vertices.
-#[derive(Drop)]
+#[derive(Clone, Copy)]
 pub struct PlanRead {
     pub answer: Answer,
     pub plan: PlanTable,
@@ -34,7 +36,7 @@ pub struct PlanRead {
 
 // The numbers of an accepted plan (vertices, edges, pairs of adjacent vertices) and the place after its last edge; or the plan's
 // fault, beside zeros.
-#[derive(Drop)]
+#[derive(Clone, Copy)]
 pub struct PlanHead {
     pub answer: Answer,
     pub n: u16,
@@ -43,7 +45,7 @@ pub struct PlanHead {
     pub next: usize,
 }
 
-#[derive(Drop)]
+#[derive(Clone, Copy)]
 enum Edge {
     Joins(u16, u16, usize),
     Fault(u8, usize),

@@ -17,16 +17,18 @@ use Rattle.record.specs.declared.Answer.TheVariants.{Accepted, Grade, PlanFault,
 use Rattle.record.specs.declared.Number.{Number}
 use Rattle.record.specs.declared.Number.TheVariants.{Value, Ended, Padded, Overlong}
 
-pub no_value : (x : Number) → OneOf (1 ∷ 2 ∷ 3 ∷ []) (tag_of the_type x) → as_read x ≡ Refused (fault_number x) (fault_place x)
-no_value (Value v next) (inl e) = absurd (omega arith)
-no_value (Value v next) (inr (inl e)) = absurd (omega arith)
-no_value (Value v next) (inr (inr e)) = absurd (omega arith)
+-- what the else of `let Number::Value(..) = x else` knows
+abbrev pub NoValue : Number → Type 0
+NoValue x = (v next : ℕ) → x ≡ Value v next → ⊥
+
+pub no_value : (x : Number) → NoValue x → as_read x ≡ Refused (fault_number x) (fault_place x)
+no_value (Value v next) k = absurd (k v next refl)
 no_value (Ended p) k = refl
 no_value (Padded p) k = refl
 no_value (Overlong p) k = refl
 
 -- the same with the code's own number and place
-pub unread : {x : Number} (s : List ℕ) (at : ℕ) {r p : ℕ} → x ≡ number_at s at → OneOf (1 ∷ 2 ∷ 3 ∷ []) (tag_of the_type x) → r ≡ fault_number x → p ≡ fault_place x
+pub unread : {x : Number} (s : List ℕ) (at : ℕ) {r p : ℕ} → x ≡ number_at s at → NoValue x → r ≡ fault_number x → p ≡ fault_place x
     → as_read (number_at s at) ≡ Refused r p
 unread {x} s at e k f g = rw (← e, f, g) (no_value x k)
 
@@ -42,12 +44,7 @@ module _ (r : ℕ) (ok : ℕ → Bool) (s : List ℕ) (at : ℕ) where
 
 -- what the else of `let Answer::Accepted = a else` knows
 abbrev pub NotAccepted : Answer → Type 0
-NotAccepted a = OneOf (1 ∷ 2 ∷ 3 ∷ []) (tag_of answers.the_type a)
+NotAccepted a = a ≡ Accepted → ⊥
 
 pub not_accepted : (a : Answer) → NotAccepted a → a ≡ Accepted → ⊥
-not_accepted Accepted (inl i) e = omega arith
-not_accepted Accepted (inr (inl i)) e = omega arith
-not_accepted Accepted (inr (inr i)) e = omega arith
-not_accepted (Grade g) i e = let z : ◌≡◌ {A = ℕ} 0 1 = cc in omega arith
-not_accepted (PlanFault r p) i e = let z : ◌≡◌ {A = ℕ} 0 1 = cc in omega arith
-not_accepted (CertificateFault r p) i e = let z : ◌≡◌ {A = ℕ} 0 1 = cc in omega arith
+not_accepted a k = k

@@ -1,10 +1,12 @@
 // Numbers of a record, read and written, and the answer that every reader and checker gives.
+#![tactic(auto)]
+
 ghost use Rattle.std.specs.Prelude.{◌≡◌, length};
 ghost use Rattle.record.specs.Number.{number_at, fault_number, fault_place, number_bytes};
 ghost use Rattle.record.specs.Write.{written_number, with_number};
 
 // What stands at a place: a number with the place after it, or what is wrong with it and where.
-#[derive(Drop)]
+#[derive(Clone, Copy)]
 pub enum Number {
     Value(u16, usize),
     // the record ends inside the number or before it
@@ -24,7 +26,7 @@ impl Number {
 }
 
 // An answer: accepted without a grade; a grade; or the record at fault with the papers' number and a place.
-#[derive(Drop)]
+#[derive(Clone, Copy)]
 pub enum Answer {
     Accepted,
     Grade(u8),
@@ -33,7 +35,7 @@ pub enum Answer {
 }
 
 // The place after what was written; or that nothing was written, for want of room or because it has no form.
-#[derive(Drop)]
+#[derive(Clone, Copy)]
 pub enum Written {
     Next(usize),
     Nothing,

@@ -11,7 +11,7 @@ use Rattle.connectivity.specs.Lists.{In, member}
 use Rattle.connectivity.specs.Path.{vertices, End, Path}
 use Rattle.connectivity.specs.Build.{IsBranch}
 use Rattle.connectivity.proofs.Lists.{and-true, or-true, true_or, member-in, in_member}
-use Rattle.connectivity.proofs.Paths.{both_ends, end_of_lem, end_s, end_t, end_vertex, inner_in}
+use Rattle.connectivity.proofs.Paths.{both_ends, end_of_lem, end_vertex, inner_in}
 use Rattle.certificates.specs.Tests.{any_link, ends_in, ends_apart, in_build}
 use Rattle.build.specs.declared.Build.{Build}
 use Rattle.links.specs.declared.Addition.{Addition}
@@ -19,7 +19,7 @@ use Rattle.links.specs.declared.Addition.TheVariants.{Held, VertexVertex, EdgeVe
 use Rattle.links.specs.Ends.{link_end, same_link, addition_of, held}
 use Rattle.build.specs.State.{end_of, path_addition}
 use Rattle.refinement.proofs.Tests.{iff_test, both_true, left_true, pair-tells, any-link, link-any, built_tells}
-use Rattle.refinement.proofs.Splits.{Joined}
+use Rattle.refinement.proofs.Splits.{Joined, pair_on}
 use Rattle.refinement.proofs.Runs.{ends}
 use Rattle.refinement.proofs.Shows.{Shows, end_branch, end_inner, not_inside, same_ends, placed, Placed}
 
@@ -70,7 +70,7 @@ module _ {b : Build} {links : List Path} (sh : Shows b links) where
       end v k L h i = end_of_lem L v i (not_inside sh v k L h)
 
       on : Joined links x y → Holds links x y
-      on r = (r.0, r.1, ⊎_elim (λ e. rw e.0 (end_s r.0)) (λ e. rw e.0 (end_t r.0)) r.2, ⊎_elim (λ e. rw e.1 (end_t r.0)) (λ e. rw e.1 (end_s r.0)) r.2)
+      on r = let e = pair_on r.0 x y r.2 in (r.0, r.1, e.0, e.1)
 
   held_tells : (x y : ℕ) → x ≢ y → Placed sh x → Placed sh y → (held (addition_of b.linked (end_of b x) (end_of b y)) ≡ true) ↔ Holds links x y
   held_tells x y ne (inl p) (inl q) = rw (end_branch sh x p, end_branch sh y q, held-cond (adjacent_in b.linked x y) VertexVertex refl) (branch_branch x y ne p q)

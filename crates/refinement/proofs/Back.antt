@@ -32,7 +32,7 @@ use Rattle.refinement.proofs.Tests.{false_of, built_tells}
 use Rattle.refinement.proofs.Pointers.{Back, along-length}
 use Rattle.refinement.proofs.Mates.{ends_length}
 use Rattle.refinement.proofs.Places.{same_pointers, cleared_all, all-cleared_length, all-cleared_other, all-cleared_none}
-use Rattle.refinement.proofs.Splits.{Joined, Sole, branch_split}
+use Rattle.refinement.proofs.Splits.{Joined, Sole, branch_split, pair_on}
 use Rattle.refinement.proofs.Runs.{RunsAlong, AllLow, ends, cut, parts_mated, runs-more}
 use Rattle.refinement.proofs.Shows.{Shows, Listed, Placed, placed, every_edge, not_inside, branch_shown, path-of, sole_link, clear, end_branch, end_inner}
 use Rattle.refinement.proofs.Rejoined.{in_front, in_back, link-again, rejoined-mates, rejoined-rows}
@@ -206,10 +206,10 @@ module _ {b : Build} {links : List Path} (sh : Shows b links) (clean : Clean b l
       apart sh P bg low (q.0, q.1, piece_in P.t P.s q.0 r.0 q.2 (piece_in P.s P.s r.0 L r.2 i), piece_in P.t P.t q.0 r.0 q.2 (piece_in P.s P.t r.0 L r.2 j))
 
   none-there : ¬ Joined (rest sh P bg low) P.s P.t
-  none-there r = never r.0 r.1 (⊎_elim (λ e. rw e.0 (end_s r.0)) (λ e. rw e.0 (end_t r.0)) r.2) (⊎_elim (λ e. rw e.1 (end_t r.0)) (λ e. rw e.1 (end_s r.0)) r.2)
+  none-there r = let e = pair_on r.0 P.s P.t r.2 in never r.0 r.1 e.0 e.1
 
   none-back : ¬ Joined (rest sh P bg low) P.t P.s
-  none-back r = never r.0 r.1 (⊎_elim (λ e. rw e.1 (end_t r.0)) (λ e. rw e.1 (end_s r.0)) r.2) (⊎_elim (λ e. rw e.0 (end_s r.0)) (λ e. rw e.0 (end_t r.0)) r.2)
+  none-back r = let e = pair_on r.0 P.t P.s r.2 in never r.0 r.1 e.1 e.0
 
   left : departed (entered (raised b P) P) (trace_of b P) ≡ raised b P
   left =

@@ -81,8 +81,8 @@ module _ (p : List ℕ) (links : List Path) (pointing : Pointing p links) (tidy 
   front_middle : (w : ℕ) → In w front_of → w ≢ head_of front_of 0 → w ≢ last_from 0 front_of → pointer (split_mates p x (ends K)) mates w ≡ 0
   front_middle w i nf nl =
       let f : w ≢ head_of K.inner 0 = λ e. nf (e ∙ first_cut K x one.inside ∙ head_any w front_of i x 0) in
-      let l : w ≢ last_from 0 K.inner = λ e. disjoint w i (rw (e ∙ last_of-cut K x one.inside) (last_in x back-of)) in
-      split_other p long K x one.inside runs 2 w (λ z. (f, l, λ k. nl (k.1 ∙ left_is p long K x one.inside runs ∙ last_any w front_of i K.s 0), λ k. disjoint w i (inr (rw k.1 (right_in p long K x one.inside runs k.0)))))
+      let l : w ≢ last_from 0 K.inner = λ e. disjoint w i (subst (λ (z : ℕ). In z (x ∷ back-of)) (sym (e ∙ last_of-cut K x one.inside)) (last_in x back-of)) in
+      split_other p long K x one.inside runs 2 w (λ z. (f, l, λ k. nl (k.1 ∙ left_is p long K x one.inside runs ∙ last_any w front_of i K.s 0), λ k. disjoint w i (inr (subst (λ (z : ℕ). In z back-of) (sym k.1) (right_in p long K x one.inside runs k.0)))))
       ∙ tidy.middle K one.there w (in_front p long K x one.inside runs w i) f l
 
   back-middle : (w : ℕ) → In w back-of → w ≢ head_of back-of 0 → w ≢ last_from 0 back-of → pointer (split_mates p x (ends K)) mates w ≡ 0

@@ -2,7 +2,7 @@
 use Prim.Native.Nat.{ℕ, zero, suc, ◌*◌, ◌<◌}
 use mathlib.Core.List.{List, [], ◌∷◌, ◌++◌}
 use mathlib.Core.Bool.{Bool, true, false}
-use mathlib.Core.Path.{◌≡◌, refl, sym, ap, ◌∙◌}
+use mathlib.Core.Path.{◌≡◌, refl, sym, ap, ◌∙◌, subst}
 use mathlib.Core.Logic.{◌⊎◌, inl, inr, ⊎_elim, ⊎_map, ◌≢◌}
 use native.Mathlib.Omega.{arith}
 use lib.Dec.{eqb}
@@ -146,7 +146,7 @@ module _ (p : List ℕ) (long : length p ≡ pointer_count) where
       record {
         long = mated-length p v (last_from v l);
         set = (pair-first v (last_from v l) a b, pair-last v (last_from v l) a b);
-        others = λ i w n. pair-others v (last_from v l) a b i w (λ e. (λ k. n e (inl k), λ k. n e (rw k (last_in v l))));
+        others = λ i w n. pair-others v (last_from v l) a b i w (λ e. (λ k. n e (inl k), λ k. n e (subst (λ (z : ℕ). In z (v ∷ l)) (sym k) (last_in v l))));
       }
 
   remated_back : (v : ℕ) (l : List ℕ) → ((w : ℕ) → In w (v ∷ l) → w < capacity) → Remated p (mated p (last_from v l) v) (v ∷ l)
@@ -156,7 +156,7 @@ module _ (p : List ℕ) (long : length p ≡ pointer_count) where
       record {
         long = mated-length p (last_from v l) v;
         set = (pair-last (last_from v l) v b a, pair-first (last_from v l) v b a);
-        others = λ i w n. pair-others (last_from v l) v b a i w (λ e. (λ k. n e (rw k (last_in v l)), λ k. n e (inl k)));
+        others = λ i w n. pair-others (last_from v l) v b a i w (λ e. (λ k. n e (subst (λ (z : ℕ). In z (v ∷ l)) (sym k) (last_in v l)), λ k. n e (inl k)));
       }
 
   -- a path that enters
@@ -176,5 +176,5 @@ module _ (p : List ℕ) (long : length p ≡ pointer_count) where
       → Remated p (mated_aside p capacity x (last_from x q)) q
   remated_after l x [] t h nd low = rw (eq-eqb x x refl) remated_none
   remated_after l x (y ∷ q) t h nd low =
-      let n : x ≢ last_from y q = λ e. (nodup_right l (x ∷ (y ∷ q)) nd).0 (rw e (last_in y q)) in
+      let n : x ≢ last_from y q = λ e. (nodup_right l (x ∷ (y ∷ q)) nd).0 (subst (λ (z : ℕ). In z (y ∷ q)) (sym e) (last_in y q)) in
       rw (ne_eqb x (last_from y q) n, (on_rest (pointer p capacity) l x (y ∷ q) t h).0) (remated_back y q low)

@@ -2,7 +2,7 @@
 use Prim.Native.Nat.{ℕ, ◌+◌, ◌*◌, ◌<◌}
 use mathlib.Core.List.{List, [], ◌∷◌, ◌++◌}
 use mathlib.Core.Bool.{Bool, true, false, cond}
-use mathlib.Core.Path.{◌≡◌, refl, ap, ◌∙◌}
+use mathlib.Core.Path.{◌≡◌, refl, sym, ap, ◌∙◌, subst}
 use mathlib.Core.Logic.{inl, inr, ◌≢◌}
 use native.Mathlib.Omega.{arith}
 use lib.Dec.{ltb}
@@ -126,4 +126,4 @@ module _ (t : ℕ) where
       let r = along-set q v l (both_length p u v w ∙ long) nd.1 (λ x h. low x (inr h)) in
       let b = along-other q v l t 0 v nd.0 ∙ both_before p u v w long (low v (inl refl)) in
       let a = along-other q v l t 1 v nd.0 ∙ both_after p u v w long (low v (inl refl)) in
-      rw (along-step p u v l t) ((b, r.0), (a, r.1))
+      subst (λ (z : List ℕ). PointsAlong z u (v ∷ l)) (sym (along-step p u v l t)) ((b, r.0), (a, r.1))

@@ -3,7 +3,7 @@ use Prim.Native.Nat.{ℕ, ◌≤◌}
 use mathlib.Core.List.{List}
 use mathlib.Core.Bool.{true, false}
 use mathlib.Core.Path.{◌≡◌, refl, sym, ◌∙◌}
-use mathlib.Core.Logic.{◌⊎◌, inl, inr, ⊎_elim, ⊎_map, ◌↔◌}
+use mathlib.Core.Logic.{◌⊎◌, inl, inr, ⊎_map, ◌↔◌}
 use lib.ListN.{length}
 use Rattle.vertexset.specs.Set.{has, word_count, capacity}
 use Rattle.graph.specs.Rows.{adjacent_in, row_words}
@@ -20,7 +20,7 @@ use Rattle.links.specs.declared.End.TheVariants.{Branch, Inner}
 use Rattle.links.specs.Tables.{pointer_count}
 use Rattle.build.specs.State.{end_of}
 use Rattle.refinement.proofs.Tests.{false_of, built_tells, branch_tells}
-use Rattle.refinement.proofs.Splits.{Joined, Sole}
+use Rattle.refinement.proofs.Splits.{Joined, Sole, pair_on}
 use Rattle.refinement.proofs.Runs.{Runs, AllLow, ends, link-found}
 
 -- the graph with every edge: what is known of the links of a build does not depend on the graph
@@ -57,7 +57,7 @@ module _ {b : Build} {links : List Path} (sh : Shows b links) where
   path-of L h = (sh.tally.invariant.is_path L h).nodup
 
   pub same_ends : (L M : Path) → In L links → In M links → SamePair L.s L.t M.s M.t → L ≡ M
-  same_ends L M h_l hM e = sh.tally.invariant.share_one L M h_l hM L.s L.t (ends_differ L (path-of L h_l)) (end_s L) (end_t L) (⊎_elim (λ k. rw k.0 (end_s M)) (λ k. rw k.0 (end_t M)) e) (⊎_elim (λ k. rw k.1 (end_t M)) (λ k. rw k.1 (end_s M)) e)
+  same_ends L M h_l hM e = sh.tally.invariant.share_one L M h_l hM L.s L.t (ends_differ L (path-of L h_l)) (end_s L) (end_t L) (pair_on M L.s L.t e).0 (pair_on M L.s L.t e).1
 
   pub sole_link : (L : Path) → In L links → (x : ℕ) → In x L.inner → Sole links x L
   sole_link L h x i = record { there = h; inside = i; only = λ M k w j l. sym (sh.tally.inner_once L M h k w j (inner_in w M l)); by_ends = λ M k e. same_ends M L k h e }

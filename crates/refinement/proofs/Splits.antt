@@ -2,13 +2,13 @@
 use Prim.Native.Nat.{ℕ}
 use mathlib.Core.List.{List, [], ◌∷◌}
 use mathlib.Core.Bool.{Bool, true, false, cond}
-use mathlib.Core.Path.{◌≡◌, refl, sym, ap, ◌∙◌}
+use mathlib.Core.Path.{◌≡◌, refl, sym, ap, ◌∙◌, subst}
 use mathlib.Core.Logic.{◌⊎◌, inl, inr, ⊎_elim, ◌↔◌}
 use Rattle.connectivity.specs.Lists.{In, member}
-use Rattle.connectivity.specs.Path.{Path, End}
+use Rattle.connectivity.specs.Path.{vertices, Path, End}
 use Rattle.connectivity.specs.Build.{IsBranch, split_at, front_part, back_part}
 use Rattle.connectivity.proofs.Lists.{member-in, member-out, in_member, in?}
-use Rattle.connectivity.proofs.Paths.{SamePair, same_trans}
+use Rattle.connectivity.proofs.Paths.{SamePair, same_trans, end_s, end_t}
 use Rattle.connectivity.proofs.Split.{Piece, Piece.whole, Piece.front, Piece.back, piece_of, piece_inner, piece_end, split_skip}
 
 -- a piece of a link is among the links after the split
@@ -68,6 +68,11 @@ split_swap x y (L ∷ ls) n = go (in? x L.inner) (in? y L.inner) (split_swap x y
     go (yes h) (no k) ih = swap_one x y L ls h k ih
     go (no h) (yes k) ih = sym (swap_one y x L ls k h (sym ih))
     go (no h) (no k) ih = ap (split_at x) (split_skip y L ls k) ∙ split_skip x L (split_at y ls) h ∙ ap (λ (m : List Path). L ∷ m) ih ∙ sym (ap (split_at y) (split_skip x L ls h) ∙ split_skip y L (split_at x ls) k)
+
+-- the ends of a link, either way round, are on it
+pub pair_on : (L : Path) (u v : ℕ) → SamePair u v L.s L.t → In u (vertices L) × In v (vertices L)
+pair_on L u v (inl e) = (subst (λ (z : ℕ). In z (vertices L)) (sym e.0) (end_s L), subst (λ (z : ℕ). In z (vertices L)) (sym e.1) (end_t L))
+pair_on L u v (inr e) = (subst (λ (z : ℕ). In z (vertices L)) (sym e.0) (end_t L), subst (λ (z : ℕ). In z (vertices L)) (sym e.1) (end_s L))
 
 -- some link has the ends u and v, either way round
 abbrev pub Joined : List Path → ℕ → ℕ → Type 0

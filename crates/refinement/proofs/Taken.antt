@@ -2,7 +2,7 @@
 use Prim.Native.Nat.{ℕ, suc, ◌<◌}
 use mathlib.Core.List.{List, [], ◌∷◌}
 use mathlib.Core.Bool.{Bool, true, false, ◌||◌, or_assoc, or-false}
-use mathlib.Core.Path.{◌≡◌, refl, sym, ap, ◌∙◌}
+use mathlib.Core.Path.{◌≡◌, refl, sym, ap, ◌∙◌, subst}
 use mathlib.Core.Logic.{◌⊎◌, inl, inr, ⊎_elim, ⊎_map, ◌≢◌}
 use lib.Dec.{eqb}
 use lib.ListN.{length}
@@ -33,7 +33,7 @@ use Rattle.refinement.proofs.Tests.{same_test, iff_test, false_of, left_true, bu
 use Rattle.refinement.proofs.Pointers.{along-length}
 use Rattle.refinement.proofs.Mates.{ends_length}
 use Rattle.graph.proofs.Table.{Low, with-length, without-length, with-tells, without-tells}
-use Rattle.refinement.proofs.Splits.{Sole, split_joined, split_none, split_swap, piece_there, branch_kept, branch_split}
+use Rattle.refinement.proofs.Splits.{Sole, split_joined, split_none, split_swap, piece_there, branch_kept, branch_split, pair_on}
 use Rattle.refinement.proofs.Runs.{Pointing, AllLow, ends, pointing_split, runs-more}
 use Rattle.refinement.proofs.Shows.{Shows, Sizes, Listed, end_branch, end_inner, not_inside, path-of, sole_link, placed, Placed, every_edge, branch_shown}
 use Rattle.refinement.proofs.Apart.{Holds, branch_branch, branch_inner, inner_branch, inner_inner}
@@ -173,8 +173,8 @@ module _ {b : Build} {links : List Path} (sh : Shows b links) (P : Path) (bg : B
 
       by_ends : (N K : Path) → In K links → Piece P.s K N → SamePair N.s N.t M.s M.t → N ≡ M
       by_ends N K k (whole n e) i = e ∙ one.by_ends K k (rw e at i)
-      by_ends N K k (front f e) i = absurd (⊎_elim (λ z. on (rw z.1 (end_t M))) (λ z. on (rw z.1 (end_s M))) (rw e at i))
-      by_ends N K k (back f e) i = absurd (⊎_elim (λ z. on (rw z.0 (end_s M))) (λ z. on (rw z.0 (end_t M))) (rw e at i))
+      by_ends N K k (front f e) i = absurd (on (pair_on M K.s P.s (rw e at i)).1)
+      by_ends N K k (back f e) i = absurd (on (pair_on M P.s K.t (rw e at i)).0)
 
   -- a table with the links split that the path splits: what holds of it beside the links holds beside the rest
   pub raised-rest : (split : List ℕ → ℕ → Link → List ℕ) (Q : List ℕ → List Path → Type 0)
@@ -266,7 +266,7 @@ module _ {b : Build} {links : List Path} (sh : Shows b links) (P : Path) (bg : B
       old r = set ∙ left_true (member v P.inner) (sh.built v ∙ (built_tells links v).1 r)
 
       back : (L : Path) → In L (taken links P) → In v (vertices L) → has (path_taken b P).sets.built.words v ≡ true
-      back L (inl e) k = ⊎_elim (λ z. old (⊎_elim (λ y. rw y bg.from) (λ y. rw y bg.upto) z)) (λ i. set ∙ true_or (has b.sets.built.words v) (member v P.inner) (in_member v P.inner i)) (end_or_inner P v (rw e at k))
+      back L (inl e) k = ⊎_elim (λ z. old (⊎_elim (λ y. subst (λ (u : ℕ). InBuild u links) (sym y) bg.from) (λ y. subst (λ (u : ℕ). InBuild u links) (sym y) bg.upto) z)) (λ i. set ∙ true_or (has b.sets.built.words v) (member v P.inner) (in_member v P.inner i)) (end_or_inner P v (rw e at k))
       back L (inr i) k = old (rest-built v (L, i, k))
 
   pub shows_taken : Shows (path_taken b P) (taken links P)

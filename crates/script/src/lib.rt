@@ -1,4 +1,6 @@
 // Session scripts: where their parts stand, and a replay into a buffer of answers.
+#![tactic(auto)]
+
 ghost use Rattle.std.specs.Prelude.{◌≡◌, ◌<◌, length};
 ghost use Rattle.script.specs.Script.{part_at};
 ghost use Rattle.script.specs.Replay.{word, answer_word, has_room_for, answered, step_of, lone_of, replay_on, replay_of, replayed_of};
@@ -7,7 +9,7 @@ use record::Answer;
 use sessions::{Session, Stepped};
 
 // Where a part begins and ends; or that the script ends before it does.
-#[derive(Drop)]
+#[derive(Clone, Copy)]
 pub enum Part {
     Within(usize, usize),
     Cut,
@@ -15,7 +17,7 @@ pub enum Part {
 
 // How many answers were written, and how the script ended: 0 at its end, 1 inside a call, 2 at an unknown call, 3 without room for
 // the next answer.
-#[derive(Drop)]
+#[derive(Clone, Copy)]
 pub struct Replayed {
     pub count: usize,
     pub status: u8,

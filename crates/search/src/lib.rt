@@ -1,4 +1,6 @@
 // One search serves the certifier: from seeds to the nearest goal, with vertices removed; a path, or the closed set that was reached.
+#![tactic(auto)]
+
 ghost use Rattle.std.specs.Prelude.{◌≡◌, ◌≤◌, get_or, length, replicate, take, drop};
 ghost use Rattle.construction.specs.Sets.{members};
 ghost use Rattle.construction.specs.Search.{explore};
@@ -11,7 +13,7 @@ use vertexset::VertexSet;
 
 // What a search answers: how many vertices it reached, and how many of them are seeds; the vertices reached or removed; the goal that
 // was met, or CAPACITY, and the place of the vertex next to it.
-#[derive(Drop)]
+#[derive(Clone, Copy)]
 pub struct Reach {
     pub count: usize,
     pub seeds: usize,
@@ -29,7 +31,7 @@ impl Reach {
 }
 
 // A list of vertices.
-#[derive(Drop)]
+#[derive(Clone, Copy)]
 pub struct VertexList {
     pub vertices: [u16; VertexList::ROOM],
     pub count: usize,

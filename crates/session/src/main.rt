@@ -1,17 +1,32 @@
 // Replays a session script from standard input and prints a line for each call, the opening first.
 // A script is a plan record with its length before it, then calls: `s` or `p` with a part, its length before it, or `b` or `c`.
 // A length is two bytes, the lower first. A script that ends inside a call, or has another call, ends the output.
-use libc::{STDIN_FILENO, STDOUT_FILENO};
+#![tactic(auto)]
 
-// One byte more than the limit tells that the script is too long.
-fn main() {
-    let mut input = [0u8; sessionlines::LIMIT + 1];
-    let n = io::read_full(STDIN_FILENO, &mut input);
+ghost use Rattle.std.specs.Prelude.{IfSome, OnOk, take};
+ghost use Rattle.std.specs.Io.KnownBytes.{Appends};
+ghost use Rattle.sessionlines.specs.Lines.{script_lines};
+
+use input::read_full;
+use std::io::{self, Read, Write};
+
+// One byte more than the limit tells that the script is too long. A read or a write that fails ends the program with its error.
+fn run<R: Read, W: Write>(reader: &mut R, writer: &mut W) -> io::Result<()>
+    ensures { OnOk result (IfSome (R.remaining reader.old) (λ xs.
+        Appends (W.contents writer.old) (W.contents writer.new) (script_lines (take 65537 xs)))) }
+{
+    let mut bytes = [0u8; sessionlines::LIMIT + 1];
+    let n = read_full(reader, &mut bytes)?;
     let mut out = [0u8; lines::LONGEST];
-    let mut turn = sessionlines::open(&input[..n], &mut out);
-    io::write_all(STDOUT_FILENO, &out[..turn.len]);
+    let mut turn = sessionlines::open(&bytes[..n], &mut out);
+    writer.write_all(&out[..turn.len])?;
     while turn.at < n {
-        turn = sessionlines::call(&input[..n], turn, &mut out);
-        io::write_all(STDOUT_FILENO, &out[..turn.len]);
+        turn = sessionlines::call(&bytes[..n], turn, &mut out);
+        writer.write_all(&out[..turn.len])?;
     }
+    Ok(())
+}
+
+fn main(rt: HostRuntime) -> io::Result<()> {
+    run(&mut rt.stdin(), &mut rt.stdout())
 }

@@ -1,4 +1,6 @@
 // The lines that the session program prints, each written into a lent buffer, turn after turn.
+#![tactic(auto)]
+
 ghost use Rattle.std.specs.Prelude.{◌≡◌, ◌-◌, ◌≤◌, ◌++◌, length};
 ghost use Rattle.script.specs.Replay.{step_of};
 ghost use Rattle.lines.specs.Lines.{decimal, newline, place_after, written, longest};
@@ -12,7 +14,7 @@ use sessions::Session;
 pub const LIMIT: usize = 65536;
 
 // The session after a turn, where its script goes on, and how many bytes at the start of the buffer are the line.
-#[derive(Drop)]
+#[derive(Clone, Copy)]
 pub struct Turn {
     session: Session,
     pub at: usize,

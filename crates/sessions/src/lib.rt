@@ -1,4 +1,6 @@
 // The building session: opening, start, path, taking back, closing.
+#![tactic(auto)]
+
 ghost use Rattle.std.specs.Prelude.{◌≡◌, drop};
 ghost use Rattle.sessions.specs.Session.{no_session, opening, refused_step, unread_step, start_step, is_due, path_step, has_path, back_step, closing, close_step, start_rest, path_rest};
 
@@ -8,7 +10,7 @@ use links::Link;
 use record::Answer;
 use vertexset::VertexSet;
 
-#[derive(Drop)]
+#[derive(Clone, Copy)]
 pub struct Session {
     pub graph: GraphTable,
     // opened, and no start accepted yet
@@ -20,14 +22,14 @@ pub struct Session {
     pub traces: [Trace; Session::PATHS],
 }
 
-#[derive(Drop)]
+#[derive(Clone, Copy)]
 pub struct Opened {
     pub answer: Answer,
     pub session: Session,
 }
 
 // The session after a call, its answer, and how many bytes of the part were read.
-#[derive(Drop)]
+#[derive(Clone, Copy)]
 pub struct Stepped {
     pub session: Session,
     pub answer: Answer,

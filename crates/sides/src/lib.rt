@@ -1,4 +1,6 @@
 // Certificates of kinds 0 and 1, after their kind: the side of a separation, and a spanning tree before it.
+#![tactic(auto)]
+
 ghost use Rattle.std.specs.Prelude.{◌≡◌, ◌≤◌, ◌<◌};
 ghost use Rattle.record.specs.Loop.{runs};
 ghost use Rattle.vertexset.specs.Set.{has, empty_set, capacity};
@@ -14,7 +16,7 @@ use record::Answer;
 use vertexset::VertexSet;
 
 // The vertices of a side, and where reading goes on; or the fault, beside the empty set.
-#[derive(Drop)]
+#[derive(Clone, Copy)]
 struct SideRead {
     end: Item,
     set: VertexSet,

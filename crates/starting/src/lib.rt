@@ -1,4 +1,6 @@
 // The start of a build: a cycle through vertex 0, a third path, a path across; from these four branch vertices and six links.
+#![tactic(auto)]
+
 ghost use Rattle.std.specs.Prelude.{◌≡◌, ◌∷◌, ◌≤◌, length};
 ghost use Rattle.search.specs.Arrays.{placed, placed_end};
 ghost use Rattle.search.specs.Code.{path_room, search_space};
@@ -13,7 +15,7 @@ use search::{Reach, VertexList};
 use vertexset::VertexSet;
 
 // The four branch vertices and six paths of a start; or a cut.
-#[derive(Drop)]
+#[derive(Clone, Copy)]
 pub struct Start {
     pub four: VertexSet,
     pub flat: [u16; Ears::ROOM],
@@ -204,6 +206,8 @@ fn begin_around<'a>(
 }
 
 // THE START: four branch vertices and six links; or a cut. All searches share one space.
+// A call of its own: inlined, its locals would lie on the stack beside those of all callers.
+#[inline(never)]
 pub fn begin(rows: &[u64; GraphTable::ROW_WORDS]) -> Start
     ensures { result ≡ start_of (begin rows.now) }
 {

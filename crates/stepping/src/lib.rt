@@ -1,4 +1,6 @@
 // The steps of a build: further paths until every vertex is a branch vertex, or a cut; then the edges that no path has.
+#![tactic(auto)]
+
 ghost use Rattle.std.specs.Prelude.{◌≡◌, false, ◌⊎◌, ◌++◌, ◌+◌, ◌-◌, ◌≤◌, ◌<◌, length, take, drop};
 ghost use Rattle.vertexset.specs.Set.{has};
 ghost use Rattle.graph.specs.Limits.{max_edges};
@@ -14,7 +16,7 @@ use search::{Reach, VertexList};
 use vertexset::VertexSet;
 
 // The paths of a build, a stop before each; where a cut was met, those that were there by then.
-#[derive(Drop)]
+#[derive(Clone, Copy)]
 pub struct Built {
     pub flat: [u16; Ears::ROOM],
     pub len: usize,
@@ -22,7 +24,7 @@ pub struct Built {
 }
 
 // What is kept beside the paths of a build in the construction.
-#[derive(Drop)]
+#[derive(Clone, Copy)]
 struct Progress {
     branch: VertexSet,
     built: VertexSet,
@@ -36,7 +38,7 @@ struct Progress {
 }
 
 // The link at work: its inner vertices, and the places from the first of them up to behind the last; none where `first` is not below `end`.
-#[derive(Drop)]
+#[derive(Clone, Copy)]
 struct Work {
     first: usize,
     end: usize,
@@ -44,7 +46,7 @@ struct Work {
 }
 
 // What a step leaves.
-#[derive(Drop)]
+#[derive(Clone, Copy)]
 struct Stepped {
     progress: Progress,
     work: Work,
@@ -548,6 +550,8 @@ fn finish<'a>(
 }
 
 // THE BUILD on a start's branch vertices and paths: steps, and then the edges that no path has. Paths that have no room are none.
+// A call of its own: inlined, its locals would lie on the stack beside those of all callers.
+#[inline(never)]
 pub fn build<'a>(
     rows: &'a [u64; GraphTable::ROW_WORDS],
     n: u16,

@@ -1,5 +1,7 @@
 // The pairs of vertices that bring a graph to connectivity 3 (request 6 of document 02): all that are missing are proposed, and struck out from the last
 // to the first where the connectivity is still 3 without them.
+#![tactic(auto)]
+
 ghost use Rattle.std.specs.Prelude.{◌≡◌, ◌≤◌};
 ghost use Rattle.vertexset.specs.Set.{capacity};
 ghost use Rattle.striking.specs.Code.{struck_by, completed, struck_all, added, edges_held, list_in};
@@ -9,7 +11,7 @@ use reading::PlanTable;
 use vertexset::VertexSet;
 
 // Edges in the order of a record, and how many they are, which may be more than there is room for.
-#[derive(Drop)]
+#[derive(Clone, Copy)]
 pub struct Edges {
     pub ends: [u16; PlanTable::ENDS],
     pub count: u16,
@@ -119,6 +121,8 @@ fn list<'a>(
 }
 
 // THE LIST, of n vertices that the rows have room for; else it is empty.
+// A call of its own: inlined, its locals would lie on the stack beside those of all callers.
+#[inline(never)]
 pub fn mend_list(plan: &[u64; GraphTable::ROW_WORDS], n: u16) -> Edges
     ensures { result ≡ edges_held (list_in plan.now n) }
 {

@@ -1,10 +1,12 @@
 // A set of vertices (a set of boxes), by value: one bit for each vertex, 64 to a word.
+#![tactic(auto)]
+
 ghost use Rattle.std.specs.Prelude.{◌≡◌, get_or, ◌<◌};
 ghost use Rattle.std.specs.Int.Bits.{bit_or};
 ghost use Rattle.vertexset.specs.Set.{has, empty_set, inserted, removed, count, wordwise, less, none, subset_of, next, below_set, word_count};
 ghost use Rattle.vertexset.specs.Walk.{standing, walk_from, going, meets, met, stepped};
 
-#[derive(Drop)]
+#[derive(Clone, Copy)]
 pub struct VertexSet {
     pub words: [u64; VertexSet::WORDS],
 }
@@ -182,7 +184,7 @@ impl VertexSet {
 
 // Where a walk through the members of a set, ascending, stands, by value: the word at work, and what is left of it. A step goes behind one member
 // or one word, so a walk takes no more steps than the set has members and words. A loop over members takes one step a turn while it is going.
-#[derive(Drop)]
+#[derive(Clone, Copy)]
 pub struct Cursor {
     word: u8,
     rest: u64,

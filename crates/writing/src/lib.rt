@@ -1,4 +1,6 @@
 // The plan record, written from a plan by value.
+#![tactic(auto)]
+
 ghost use Rattle.std.specs.Prelude.{◌≡◌, ◌+◌, ◌≤◌, ◌<◌, length};
 ghost use Rattle.record.specs.Number.{number_bytes, number_limit};
 ghost use Rattle.record.specs.Write.{overwritten};
@@ -10,7 +12,7 @@ use graph::GraphTable;
 use reading::PlanTable;
 use record::{Number, Written};
 
-#[derive(Drop)]
+#[derive(Clone, Copy)]
 struct Size {
     allowed: bool,
     bytes: usize,

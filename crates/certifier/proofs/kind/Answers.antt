@@ -1,0 +1,9 @@
+-- `certifier::kind` meets its contract: the kind is the first number. Assumes nothing.
+
+use borrow.Author.Rules.{rules}
+use Rattle.construction.specs.Certificate.{certificate_numbers}
+use Rattle.certifier.proofs.Drafts.{first_number}
+use Rattle.certifier.proofs.kind.Goals as goal
+
+pub returns : goal.returns
+returns c = let a = c.args in first_number (certificate_numbers a.rows.now a.n) c.certificate-c.ensures

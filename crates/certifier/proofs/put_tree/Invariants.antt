@@ -1,0 +1,24 @@
+use Prim.Native.Nat.{ℕ, ◌+◌, ◌-◌, ◌<◌}
+use mathlib.Core.Path.{ap, ◌∙◌}
+use mathlib.Core.List.{List}
+use native.Mathlib.Omega.{arith}
+use lib.ListN.{length, get_or, take, drop, length-set}
+use borrow.Author.Rules.{rules}
+use Rattle.vertexset.specs.Set.{capacity}
+use Rattle.construction.specs.Certificate.{pairs_from}
+use Rattle.search.proofs.Filling.{Filling}
+use Rattle.certifier.proofs.Written.{tree_start, tree_length, tree_end, tree_place, tree_turn}
+use Rattle.certifier.proofs.put_tree.Given as goal
+
+-- the two lists in the space
+abbrev pub order : List ℕ → ℕ → List ℕ
+order space count = take count space
+
+abbrev pub from : List ℕ → ℕ → List ℕ
+from space count = take count (drop capacity space)
+
+abbrev pub invariant-loop-i : goal.invariant-loop-i
+invariant-loop-i l = Filling l.initial.items l.initial.end (pairs_from (order l.space l.count) (from l.space l.count) (l.count - 1) 1) (pairs_from (order l.space l.count) (from l.space l.count) (l.count - l.i) l.i) l.end l.items
+
+abbrev pub decreases-loop-i : goal.decreases-loop-i
+decreases-loop-i l = l.count - l.i

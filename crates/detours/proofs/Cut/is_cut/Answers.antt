@@ -1,0 +1,7 @@
+-- `detours::Cut::is_cut` meets its contract. Assumes nothing.
+
+use borrow.Author.Rules.{rules}
+use Rattle.detours.proofs.Cut.is_cut.Goals as goal
+
+pub returns : goal.returns
+returns c = rw c.is_empty.ensures

@@ -1,0 +1,7 @@
+-- `detours::single` meets its contract. Assumes nothing.
+
+use borrow.Author.Rules.{rules}
+use Rattle.detours.proofs.single.Goals as goal
+
+pub returns : goal.returns
+returns c = rw (c.insert.ensures, c.empty.ensures)

@@ -1,0 +1,18 @@
+use Prim.Native.Nat.{ℕ}
+use mathlib.Core.List.{List}
+use mathlib.Core.Path.{◌≡◌, refl, sym, ap, ◌∙◌}
+use borrow.Author.Rules.{rules}
+use Rattle.vertexset.specs.Set.{has, capacity}
+use Rattle.vertexset.specs.declared.VertexSet.{VertexSet}
+use Rattle.links.specs.Tables.{pointer, mates, outermost, link_around, link_at}
+use Rattle.links.proofs.Ways.{met-before, met-after, met-none, met-end}
+use Rattle.links.proofs.link_at.Given as goal
+
+abbrev pub walk : List ℕ → VertexSet → ℕ → ℕ → ℕ → ℕ × ℕ
+walk pointers branch = outermost (pointer pointers 0) (pointer pointers capacity) (pointer pointers mates) (has branch.words)
+
+abbrev pub invariant-loop-left : goal.invariant-loop-left
+invariant-loop-left l = walk l.pointers l.branch l.left l.u l.w ≡ walk l.pointers l.branch capacity l.v l.v
+
+abbrev pub decreases-loop-left : goal.decreases-loop-left
+decreases-loop-left l = l.left

@@ -1,0 +1,28 @@
+use Prim.Native.Nat.{ℕ, ◌-◌}
+use mathlib.Core.Path.{◌≡◌, refl, ◌∙◌}
+use mathlib.Core.Bool.{Bool}
+use mathlib.Core.List.{List}
+use native.Mathlib.Omega.{arith}
+use borrow.Author.Rules.{rules}
+use lib.ListN.{length, length-set}
+use Rattle.record.specs.Loop.{runs}
+use Rattle.record.proofs.Loops.{turn_start, turn_go, turn_stop, turn_done}
+use Rattle.vertexset.specs.Set.{has, word_count}
+use Rattle.vertexset.proofs.Bit.{bit_of_lem}
+use Rattle.graph.specs.Rows.{adjacent_in}
+use Rattle.paths.specs.Code.{Walked, path_loop, path_begun}
+use Rattle.paths.proofs.Told.{value_told, fault_told}
+use Rattle.paths.proofs.Reading.{vertex-low}
+use Rattle.paths.proofs.Sets.{of_words, bit_clear}
+use Rattle.paths.proofs.read_rest.Given as goal
+
+abbrev pub walkedTo : List ℕ → Bool → Bool → ℕ → ℕ → Walked
+walkedTo words along new last left = record { last = last; along = along; new = new; set = of_words words; left = left }
+
+abbrev pub invariant-loop-left : goal.invariant-loop-left
+invariant-loop-left l = (length l.words ≡ word_count)
+    × (runs (path_loop (adjacent_in l.rows) (has l.old.words) l.n l.first l.len) l.left tt (walkedTo l.words l.along l.new l.last l.left) l.s l.at
+    ≡ runs (path_loop (adjacent_in l.rows) (has l.old.words) l.n l.first l.len) (l.len - 1) tt (path_begun l.first l.len) l.s l.from)
+
+abbrev pub decreases-loop-left : goal.decreases-loop-left
+decreases-loop-left l = l.left

@@ -1,0 +1,16 @@
+use Prim.Native.Nat.{ℕ, ◌-◌, ◌≤◌}
+use mathlib.Core.List.{List}
+use mathlib.Core.Path.{◌≡◌, sym, ap, ◌∙◌}
+use borrow.Author.Rules.{rules}
+use native.Mathlib.Omega.{arith}
+use Rattle.record.specs.Read.{led}
+use Rattle.record.specs.Number.{number}
+use Rattle.reading.specs.Code.{number_laid, numbers_in}
+use Rattle.reading.proofs.Ends.{lay_go, lay_stop, lay_done}
+use Rattle.reading.proofs.lay_numbers.Given as goal
+
+abbrev pub invariant-loop-i : goal.invariant-loop-i
+invariant-loop-i l = (l.i ≤ l.count) × (led (λ st. number) number_laid (l.count - l.i) (l.i, l.ends) l.s l.at ≡ led (λ st. number) number_laid l.count (0, l.initial.ends) l.s l.from)
+
+abbrev pub decreases-loop-i : goal.decreases-loop-i
+decreases-loop-i l = l.count - l.i

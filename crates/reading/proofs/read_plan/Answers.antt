@@ -1,0 +1,16 @@
+-- `reading::read_plan` meets its contract. Assumes nothing.
+
+use mathlib.Core.Path.{◌∙◌}
+use borrow.Author.Rules.{rules}
+use Rattle.record.specs.Read.{ended}
+use Rattle.reading.specs.Plan.{plan}
+use Rattle.reading.proofs.Plans.{whole_arrays, head_few, valued}
+use Rattle.reading.proofs.read_plan.Goals as goal
+
+pub by_value-requires : goal.by_value-requires
+by_value-requires c = let s = c.args.s.now in head_few (ended plan s 0) c.read_plan_rows-head.ensures.value (λ e. (whole_arrays s e).0)
+
+pub returns : goal.returns
+returns c = let s = c.args.s.now in
+    let r = c.read_plan_rows-head.ensures in
+    c.by_value.ensures ∙ valued (ended plan s 0) s r.value (λ e. (r.rows_after ∙ (whole_arrays s e).1, (whole_arrays s e).2))

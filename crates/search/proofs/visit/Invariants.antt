@@ -1,0 +1,14 @@
+use Prim.Native.Nat.{◌-◌}
+use mathlib.Core.Path.{sym, ◌∙◌}
+use native.Mathlib.Omega.{arith}
+use borrow.Author.Rules.{rules}
+use Rattle.vertexset.specs.Set.{capacity}
+use Rattle.search.specs.Code.{visits_in}
+use Rattle.search.proofs.Visits.{Visiting, begun, now_length, head_low, goal_of, found, ended, again}
+use Rattle.search.proofs.visit.Given as goal
+
+abbrev pub invariant-loop-head : goal.invariant-loop-head
+invariant-loop-head l = Visiting l.initial.space l.rows l.goals l.seeds (visits_in l.rows l.goals l.seeds l.initial.space l.initial.shut) l.space l.count l.shut l.head
+
+abbrev pub decreases-loop-head : goal.decreases-loop-head
+decreases-loop-head l = capacity - l.head

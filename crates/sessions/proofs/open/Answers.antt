@@ -1,0 +1,15 @@
+-- `sessions::open` meets its contract. Assumes nothing.
+
+use mathlib.Core.Path.{◌∙◌}
+use Rattle.sessions.proofs.Calls.{open_refused, open_few, open_accepted}
+use borrow.Author.Rules.{rules}
+use Rattle.sessions.proofs.open.Goals as goal
+
+pub returns-in_default : goal.returns-in_default
+returns-in_default c = open_refused _ c.read_plan-x.ensures c.in_default.not-Accepted c.none-session.ensures
+
+pub returns-then-graph : goal.returns-then-graph
+returns-then-graph c = open_few _ c.read_plan-x.ensures c.in-Accepted.is c.if-graph.true c.none-session-then-graph.ensures
+
+pub returns : goal.returns
+returns c = open_accepted _ c.read_plan-x.ensures c.in-Accepted.is c.if-graph.false (c.bare-build.ensures ∙ rw c.empty.ensures) c.none-trace.ensures

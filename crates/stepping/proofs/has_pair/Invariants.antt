@@ -1,0 +1,16 @@
+use Prim.Native.Nat.{◌+◌, ◌-◌, ◌≤◌}
+use mathlib.Core.Path.{◌≡◌, refl, sym, ap, ◌∙◌}
+use mathlib.Core.Bool.{Bool, ◌||◌, or-false, or_assoc}
+use native.Mathlib.Omega.{arith}
+use lib.ListN.{length, drop, get_or}
+use borrow.Author.Rules.{rules}
+use Rattle.stepping.specs.Code.{has_pair}
+use Rattle.stepping.proofs.Lists.{two_are}
+use Rattle.stepping.proofs.Pairs.{has-turn, has_end}
+use Rattle.stepping.proofs.has_pair.Given as goal
+
+abbrev pub invariant-loop-i : goal.invariant-loop-i
+invariant-loop-i l = (1 ≤ l.i) × ((l.hit || has_pair l.x l.y (drop (l.i - 1) l.list)) ≡ has_pair l.x l.y l.list)
+
+abbrev pub decreases-loop-i : goal.decreases-loop-i
+decreases-loop-i l = length l.list - l.i

@@ -1,0 +1,13 @@
+use Prim.Native.Nat.{◌+◌, ◌-◌, ◌≤◌}
+use mathlib.Core.Path.{◌≡◌, refl, ◌∙◌}
+use borrow.Author.Rules.{rules}
+use lib.ListN.{length, drop}
+use Rattle.construction.specs.Steps.{pair_place}
+use Rattle.stepping.proofs.Lists.{pair-here, pair_turn, pair_end}
+use Rattle.stepping.proofs.pair_from.Given as goal
+
+abbrev pub invariant-loop-i : goal.invariant-loop-i
+invariant-loop-i l = (l.i ≤ length l.list) × (l.i + pair_place l.x l.y (drop l.i l.list) ≡ l.from + pair_place l.x l.y (drop l.from l.list))
+
+abbrev pub decreases-loop-i : goal.decreases-loop-i
+decreases-loop-i l = length l.list - l.i

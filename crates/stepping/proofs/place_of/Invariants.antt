@@ -1,0 +1,14 @@
+use Prim.Native.Nat.{◌+◌, ◌-◌}
+use mathlib.Core.Path.{◌≡◌, refl, ◌∙◌}
+use borrow.Author.Rules.{rules}
+use lib.ListN.{length, drop}
+use Rattle.construction.specs.Sets.{place_of}
+use Rattle.stepping.specs.Code.{side_of}
+use Rattle.stepping.proofs.Lists.{side-test, place_here, place_turn, place_end}
+use Rattle.stepping.proofs.place_of.Given as goal
+
+abbrev pub invariant-loop-i : goal.invariant-loop-i
+invariant-loop-i l = l.i + place_of (side_of l.set l.inside) (drop l.i l.list) ≡ l.from + place_of (side_of l.set l.inside) (drop l.from l.list)
+
+abbrev pub decreases-loop-i : goal.decreases-loop-i
+decreases-loop-i l = length l.list - l.i

@@ -1,0 +1,15 @@
+use mathlib.Core.Path.{◌≡◌, sym, ap, ◌∙◌}
+use Prim.Native.Nat.{◌-◌}
+use native.Mathlib.Omega.{arith}
+use lib.ListN.{length}
+use lib.Bits.{bit_or}
+use borrow.Author.Rules.{rules}
+use Rattle.vertexset.specs.Set.{word_count}
+use Rattle.vertexset.proofs.Steps.{Zipping, zip-begin, zip-step, zip_end}
+use Rattle.vertexset.proofs.VertexSet.union.Given as goal
+
+abbrev pub invariant-loop-i : goal.invariant-loop-i
+invariant-loop-i l = Zipping bit_or l.initial.self.words l.other.words l.i l.self.words
+
+abbrev pub decreases-loop-i : goal.decreases-loop-i
+decreases-loop-i l = word_count - l.i
