@@ -1,6 +1,6 @@
 /* Fikzarn: grades of plans of cabled boxes. Records are bytes, as docs/USERS.md lays them out; answers are words.
  *
- * Link target/staticlib/libfikzarn.a, which `rt staticlib fikzarn` writes (x86-64 Linux). It calls nothing but memcpy, memset and
+ * Link target/staticlib/libfikzarn.a, which `scripts/library` writes (x86-64 Linux). It calls nothing but memcpy, memset and
  * the like, which C compilers call by themselves.
  *
  * For all bytes and all lengths each call ends, and does exactly what is said at it; that is proved. In turn the caller sees to this:
