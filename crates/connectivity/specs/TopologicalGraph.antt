@@ -39,7 +39,7 @@ without f (e ∷ es) = cond (is_pair e f.0 f.1) (without f es) (e ∷ without f 
 abbrev pub subdivide : TGraph → ℕ → ℕ → ℕ → TGraph
 subdivide G a b v = record { vertices = v ∷ G.vertices; edges = edge a v ∷ (edge v b ∷ without (edge a b) G.edges) }
 
--- (a) vertex-vertex-addition: "Add an edge between two distinct non_adjacent vertices"
+-- (a) vertex-vertex-addition: "Add an edge between two distinct non-adjacent vertices"
 pub record VertexVertex (G H : TGraph) (v w : ℕ) : Type 0 where
   pub first : In v G.vertices
   pub second : In w G.vertices
