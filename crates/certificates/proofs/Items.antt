@@ -1,5 +1,5 @@
 -- The items of each kind, read one after the other, keep the rules of that kind and no others.
-use Prim.Native.Nat.{ℕ, suc, ◌+◌, ◌-◌, ◌<◌, ◌≤◌}
+use Prim.Native.Nat.{ℕ, suc, ◌<◌, ◌≤◌}
 use mathlib.Core.Path.{◌≡◌, refl, ap, sym, ◌∙◌, subst}
 use mathlib.Core.Logic.{inl, ⊎_map}
 use mathlib.Core.List.{List, [], ◌∷◌, ◌++◌, append-nil}

@@ -1,8 +1,7 @@
 -- What the maker decides before it writes, and what it then answers and leaves in the buffer. Assumes nothing.
 use Prim.Native.Nat.{ℕ, ◌-◌, ◌≤◌, ◌<◌}
 use mathlib.Core.Path.{◌≡◌, refl, sym, ap, subst, ◌∙◌}
-use mathlib.Core.Logic.{inl, inr}
-use mathlib.Core.List.{List, [], ◌∷◌}
+use mathlib.Core.List.{List, []}
 use native.Mathlib.Omega.{arith}
 use Rattle.record.proofs.Faults.{NotAccepted}
 use lib.ListN.{length, get_or, take}
@@ -11,7 +10,6 @@ use Rattle.record.specs.Read.{Bytes}
 use Rattle.record.specs.Write.{overwritten}
 use Rattle.record.specs.declared.Answer.{Answer}
 use Rattle.record.specs.declared.Answer.TheVariants.{Accepted, Grade, PlanFault, CertificateFault}
-use Rattle.record.specs.contracts.Answer.{the_type}
 use Rattle.reading.specs.Code.{whole_plan, head_of, rows_left}
 use Rattle.graph.specs.Rows.{bare_rows}
 use Rattle.graph.specs.declared.GraphTable.{GraphTable}

@@ -14,7 +14,7 @@ use Rattle.record.specs.Write.{has_room, overwritten, can_write, written_number,
 use Rattle.record.specs.declared.Written.{Written}
 use Rattle.record.specs.declared.Written.TheVariants.{Next, Nothing}
 use Rattle.record.proofs.Write.{can_write_lem, put_told, put_fails, few_bytes, overwritten-none, overwritten-length, overwritten-more}
-use Rattle.vertexset.specs.Set.{empty_set, has, next, capacity}
+use Rattle.vertexset.specs.Set.{empty_set, has, capacity}
 use Rattle.vertexset.specs.declared.VertexSet.{VertexSet}
 use Rattle.connectivity.specs.Lists.{up_from, select}
 use Rattle.connectivity.proofs.Lists.{length_below, select_short}

@@ -10,7 +10,6 @@ use Rattle.record.specs.Read.{Read, Read.Got, Read.Refused, Bytes, ended}
 use Rattle.record.specs.declared.Answer.TheVariants.{Accepted, PlanFault}
 use Rattle.record.proofs.Laws.{ended-there}
 use Rattle.connectivity.specs.Path.{Path}
-use Rattle.connectivity.specs.Build.{taken}
 use Rattle.reading.specs.Plan.{Plan, Allowed, plan}
 use Rattle.reading.specs.Code.{graph_of}
 use Rattle.reading.proofs.Plans.{plan-law}

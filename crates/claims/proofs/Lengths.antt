@@ -21,7 +21,6 @@ use Rattle.graph.specs.declared.GraphTable.{GraphTable}
 use Rattle.reading.specs.Plan.{Plan, plan}
 use Rattle.reading.specs.Code.{whole_plan, plan_read}
 use Rattle.reading.specs.declared.PlanRead.{PlanRead}
-use Rattle.reading.proofs.Plans.{accepted}
 use Rattle.checker.specs.Check.{plan_graph, check_of}
 use Rattle.certifier.specs.declared.Made.{Made}
 use Rattle.certifier.specs.Made.{made, length_by, length_from, record_by, record_from, made_from, filled_from}

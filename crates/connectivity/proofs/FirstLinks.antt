@@ -11,7 +11,6 @@ use Prim.Native.Nat.{ℕ, ◌<◌, ◌≤◌}
 use native.Mathlib.Omega.{arith}
 use native.Mathlib.Decide.{ℕ_discrete}
 use lib.ListN.{length, length-append}
-use lib.Bits.{differ}
 use Rattle.connectivity.specs.Lists.{In, NoDup, member, below, select, Ascending}
 use Rattle.connectivity.specs.Graph.{Graph, Simple, Adj}
 use Rattle.connectivity.specs.Path.{Path, link, Along, IsPath, vertices}

@@ -15,7 +15,7 @@ use lib.ListN.{length}
 use Rattle.connectivity.specs.Lists.{In, NoDup}
 use Rattle.connectivity.specs.Graph.{Graph, Adj, Remaining, Simple}
 use Rattle.connectivity.specs.Path.{Path, Along, vertices, link, IsPath}
-use Rattle.connectivity.proofs.Lists.{is_yes, no_false, clash, yes_true, true_yes, and_not?, true?, vertex-beside, in?, in_right, in_left, in_append, nodup_left, nodup_right, in_single, in_split, rev, nodup_rev, rev_in, length_rev, never?, full, scan, either, all-in?}
+use Rattle.connectivity.proofs.Lists.{is_yes, no_false, clash, yes_true, true_yes, and_not?, true?, vertex-beside, in?, in_right, in_left, in_append, nodup_left, nodup_right, in_single, in_split, rev, nodup_rev, rev_in, length_rev, never?, scan, either, all-in?}
 use Rattle.connectivity.proofs.Order.{Separates, Between, between_join, between-right}
 use Rattle.connectivity.proofs.Paths.{Consecutive, built_vertices, branch_vertices, Neighbours, between-or_consecutive, built_in_lem, branch_built, in_built, inner_in, end_or_inner, ends_differ, inner_of, in_branch, nodup_inner, along-rev, last_of, last_of_lem, along-last}
 use Rattle.connectivity.proofs.Edges.{path-low, edge-high}

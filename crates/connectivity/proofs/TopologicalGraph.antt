@@ -9,8 +9,8 @@ use native.Mathlib.Decide.{ℕ_discrete}
 use lib.Dec.{eqb}
 use borrow.Author.Tests.{eqb-true, eq-eqb}
 use Rattle.connectivity.specs.Lists.{In}
-use Rattle.connectivity.specs.Graph.{edges, is_pair}
-use Rattle.connectivity.specs.Path.{Path, vertices, edge}
+use Rattle.connectivity.specs.Graph.{is_pair}
+use Rattle.connectivity.specs.Path.{Path, edge}
 use Rattle.connectivity.specs.Build.{IsBranch, four, six_pairs, end_pairs, link_ends}
 use Rattle.connectivity.specs.TopologicalGraph.{TGraph, SameMembers, SameGraph, add_edge, without, subdivide, VertexVertex, EdgeVertex, EdgeEdge, Addition, vertex-vertex, edge-vertex, edge-edge, complete, ends_of, topological}
 use Rattle.connectivity.proofs.Lists.{clash, and-true}

@@ -15,7 +15,7 @@ use Rattle.certificates.proofs.Lengths.{numbers_bytes, kind-first}
 use Rattle.connectivity.specs.Lists.{In, Ascending, select, below}
 use Rattle.connectivity.specs.Graph.{Graph, edge_count}
 use Rattle.connectivity.specs.Path.{Path}
-use Rattle.connectivity.specs.Build.{four, end_pairs}
+use Rattle.connectivity.specs.Build.{end_pairs}
 use Rattle.connectivity.specs.Certificate.{Certificate, kind, Rules, Separation}
 use Rattle.connectivity.proofs.Lists.{ascending_below, in_below, below_in, select_in, in_select}
 use Rattle.connectivity.proofs.Progress.{built_low}

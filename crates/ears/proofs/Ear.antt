@@ -16,7 +16,7 @@ use Rattle.connectivity.specs.Graph.{Graph}
 use Rattle.connectivity.specs.Path.{Path}
 use Rattle.certificates.specs.Tests.{path_along, path_new}
 use Rattle.certificates.specs.Records.{path}
-use Rattle.paths.specs.Items.{taken, refused}
+use Rattle.paths.specs.Items.{refused}
 use Rattle.paths.specs.Paths.{path_told, vertices_at}
 use Rattle.paths.specs.declared.PathRead.{PathRead}
 use Rattle.paths.proofs.Told.{Stopped, never}

@@ -5,13 +5,10 @@ use mathlib.Core.Path.{◌≡◌, refl, sym, ap, ◌∙◌}
 use native.Mathlib.Omega.{arith}
 use lib.ListN.{length, length-append, replicate, set}
 use lib.Seq.{set_at, append_snoc}
-use types.Run.{OneOf}
-use denote.Enum.Declared.{tag_of}
 use Rattle.record.specs.Read.{Read, Read.Got, ◌needs⟨◌⟩◌, ◌▸◌, ◌▹◌, into, many, led, folded, within}
 use Rattle.record.specs.Number.{number, number_at, fault_number, fault_place}
 use Rattle.record.specs.declared.Number.{Number}
 use Rattle.record.specs.declared.Number.TheVariants.{Value}
-use Rattle.record.specs.contracts.Number.{the_type}
 use Rattle.record.proofs.Faults.{NoValue, no_value}
 use Rattle.record.proofs.Laws.{on_got, carry}
 use Rattle.record.proofs.Loops.{needs_true, many-length, many-same, led-go, led-stop, led-done, led-folded}

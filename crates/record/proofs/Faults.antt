@@ -1,19 +1,13 @@
 -- A number that is no value is a fault, an answer that does not accept is another: what the other arm of a `let .. else` knows.
 -- Assumes nothing.
 use Prim.Native.Nat.{ℕ}
-use mathlib.Core.List.{List, [], ◌∷◌}
+use mathlib.Core.List.{List}
 use mathlib.Core.Bool.{Bool, cond}
 use mathlib.Core.Path.{◌≡◌, refl}
-use mathlib.Core.Logic.{inl, inr}
-use native.Mathlib.Omega.{arith}
-use types.Run.{OneOf}
-use denote.Enum.Declared.{tag_of}
-use Rattle.record.specs.contracts.Number.{the_type}
-use Rattle.record.specs.contracts.Answer as answers
 use Rattle.record.specs.Read.{Read.Got, Read.Refused, ◌needs⟨◌⟩◌}
 use Rattle.record.specs.Number.{number, number_at, as_read, fault_number, fault_place}
 use Rattle.record.specs.declared.Answer.{Answer}
-use Rattle.record.specs.declared.Answer.TheVariants.{Accepted, Grade, PlanFault, CertificateFault}
+use Rattle.record.specs.declared.Answer.TheVariants.{Accepted}
 use Rattle.record.specs.declared.Number.{Number}
 use Rattle.record.specs.declared.Number.TheVariants.{Value, Ended, Padded, Overlong}
 

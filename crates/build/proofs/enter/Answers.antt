@@ -1,7 +1,6 @@
 -- `build::enter` meets its contract: a path of two vertices has none inside. Assumes nothing.
 
 use mathlib.Core.Path.{refl}
-use borrow.Author.Rules.{rules}
 use Rattle.build.proofs.Inner.{inner_some, before_short, entered-short, entered-long}
 use Rattle.build.proofs.enter.Goals as goal
 

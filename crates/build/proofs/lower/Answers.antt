@@ -2,7 +2,6 @@
 
 use mathlib.Core.Bool.{Bool, cond}
 use mathlib.Core.Path.{refl, sym, ap, ◌∙◌}
-use borrow.Author.Rules.{rules}
 use borrow.Author.Tests.{not-true, not-false}
 use Rattle.build.specs.State.{rejoined}
 use Rattle.build.specs.Code.{build_in}

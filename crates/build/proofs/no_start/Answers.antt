@@ -1,6 +1,5 @@
 -- `build::no_start` meets its contract. Assumes nothing.
 
-use borrow.Author.Rules.{rules}
 use Rattle.build.proofs.no_start.Goals as goal
 
 pub returns : goal.returns

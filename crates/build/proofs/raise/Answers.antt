@@ -1,7 +1,6 @@
 -- `build::raise` meets its contract. Assumes nothing.
 
 use mathlib.Core.Path.{◌∙◌}
-use borrow.Author.Rules.{rules}
 use Rattle.build.proofs.raise.Goals as goal
 
 pub returns-in-Inner : goal.returns-in-Inner

@@ -1,7 +1,6 @@
 -- `build::read_above` meets its contract. Assumes nothing.
 
 use mathlib.Core.Path.{◌∙◌, sym, ap}
-use borrow.Author.Rules.{rules}
 use Rattle.record.proofs.Loops.{needs_bad}
 use Rattle.paths.specs.Items.{item_read}
 use Rattle.paths.proofs.Told.{value_told, fault_told}

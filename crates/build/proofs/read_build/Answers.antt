@@ -1,7 +1,6 @@
 -- `build::read_build` meets its contract. Assumes nothing.
 
 use mathlib.Core.Path.{◌∙◌}
-use borrow.Author.Rules.{rules}
 use Rattle.build.proofs.Starts.{build-stop, build-low, build-on}
 use Rattle.build.proofs.read_build.Goals as goal
 

@@ -1,7 +1,6 @@
 -- `build::read_four` meets its contract: a vertex that can't be read, or is not above the one before it, ends the reading. Assumes nothing.
 
 use mathlib.Core.Path.{◌∙◌, sym, ap}
-use borrow.Author.Rules.{rules}
 use Rattle.paths.proofs.Told.{value_told, fault_told}
 use Rattle.build.specs.Code.{no_four, four_read}
 use Rattle.build.proofs.Turns.{four-first, four-second, four-third, four-fourth, four-got}

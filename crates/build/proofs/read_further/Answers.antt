@@ -1,9 +1,7 @@
 -- `build::read_further` meets its contract: what is left to read gives the same from here as from the start. Assumes nothing.
 
-use mathlib.Core.Path.{◌≡◌, refl, sym, ◌∙◌}
-use borrow.Author.Rules.{rules}
-use Rattle.record.specs.Loop.{runs}
-use Rattle.build.specs.Code.{build_in, further_loop}
+use mathlib.Core.Path.{refl, sym, ◌∙◌}
+use Rattle.build.specs.Code.{build_in}
 use Rattle.build.proofs.Turns.{further_stop, further_go, further_done, further_open}
 use Rattle.build.proofs.read_further.Goals as goal
 

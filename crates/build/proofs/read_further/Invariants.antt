@@ -1,8 +1,6 @@
-use mathlib.Core.Path.{◌≡◌, refl, sym, ◌∙◌}
-use borrow.Author.Rules.{rules}
+use mathlib.Core.Path.{◌≡◌}
 use Rattle.record.specs.Loop.{runs}
 use Rattle.build.specs.Code.{build_in, further_loop}
-use Rattle.build.proofs.Turns.{further_stop, further_go, further_done, further_open}
 use Rattle.build.proofs.read_further.Given as goal
 
 abbrev pub invariant-loop-left : goal.invariant-loop-left

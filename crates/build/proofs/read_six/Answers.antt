@@ -1,15 +1,14 @@
 -- `build::read_six` meets its contract: what is left to read gives the same from here as from the start, and leads to the same build.
 -- Assumes nothing.
 
-use Prim.Native.Nat.{◌≤◌}
-use mathlib.Core.Path.{◌≡◌, ap, ◌∙◌}
+use mathlib.Core.Path.{ap, ◌∙◌}
 use borrow.Author.Rules.{rules}
 use Rattle.record.specs.Read.{led}
 use Rattle.record.specs.Loop.{runs}
 use Rattle.record.proofs.Loops.{turn_done, led-done}
 use Rattle.graph.specs.Rows.{rows_graph}
-use Rattle.build.specs.State.{BuildStart, start_of, start_on, start_entered}
-use Rattle.build.specs.Code.{build_in, four_of, firsts, lasts, start_loop}
+use Rattle.build.specs.State.{BuildStart, start_on, start_entered}
+use Rattle.build.specs.Code.{build_in, firsts, lasts, start_loop}
 use Rattle.build.proofs.Turns.{start_with, start-stop, start-go, start-begun}
 use Rattle.build.proofs.read_six.Goals as goal
 

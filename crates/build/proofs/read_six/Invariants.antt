@@ -1,13 +1,11 @@
 use Prim.Native.Nat.{◌≤◌}
-use mathlib.Core.Path.{◌≡◌, ap, ◌∙◌}
-use borrow.Author.Rules.{rules}
+use mathlib.Core.Path.{◌≡◌}
 use Rattle.record.specs.Read.{led}
 use Rattle.record.specs.Loop.{runs}
-use Rattle.record.proofs.Loops.{turn_done, led-done}
 use Rattle.graph.specs.Rows.{rows_graph}
-use Rattle.build.specs.State.{BuildStart, start_of, start_on, start_entered}
+use Rattle.build.specs.State.{start_of, start_on, start_entered}
 use Rattle.build.specs.Code.{build_in, four_of, firsts, lasts, start_loop}
-use Rattle.build.proofs.Turns.{start_with, start-stop, start-go, start-begun}
+use Rattle.build.proofs.Turns.{start_with}
 use Rattle.build.proofs.read_six.Given as goal
 
 abbrev pub invariant-loop-left : goal.invariant-loop-left

@@ -1,7 +1,6 @@
 -- `build::read_start` meets its contract. Assumes nothing.
 
 use mathlib.Core.Path.{◌∙◌, ap}
-use borrow.Author.Rules.{rules}
 use Rattle.build.specs.declared.Taken.{Taken}
 use Rattle.build.specs.Code.{build_in}
 use Rattle.build.proofs.Starts.{start-over, start-unread, start-six}

@@ -1,7 +1,6 @@
 -- `build::take_back` meets its contract: the path leaves, then its ends are lowered. Assumes nothing.
 
 use mathlib.Core.Path.{refl, ap, ◌∙◌}
-use borrow.Author.Rules.{rules}
 use Rattle.build.specs.declared.Build.{Build}
 use Rattle.build.specs.State.{lowered}
 use Rattle.build.proofs.Inner.{same_build, same_sets}

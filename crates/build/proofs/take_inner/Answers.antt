@@ -1,19 +1,17 @@
 -- `build::take_inner` meets its contract: what is left of the path gives the same from here as from the start. Assumes nothing.
 
-use Prim.Native.Nat.{ℕ, ◌-◌, ◌<◌}
-use mathlib.Core.List.{List, ◌∷◌}
+use Prim.Native.Nat.{ℕ}
+use mathlib.Core.List.{List}
 use mathlib.Core.Path.{◌≡◌, sym, ap, ◌∙◌}
 use borrow.Author.Rules.{rules}
 use lib.ListN.{length, length-set}
 use Rattle.record.specs.Read.{folded}
-use Rattle.vertexset.specs.Set.{word_count, inserted, capacity}
-use Rattle.paths.specs.Paths.{vertices_at}
+use Rattle.vertexset.specs.Set.{word_count, inserted}
 use Rattle.vertexset.proofs.Bit.{bit_of_lem}
 use Rattle.paths.proofs.Sets.{of_words}
 use Rattle.links.specs.Tables.{point_along, last_from, mated_ends}
 use Rattle.build.specs.Code.{inner_at}
-use Rattle.build.proofs.Inner.{value_low, inner_from, inner_vertices_lem, inner_begun, pointed-on, inner_on, pointed-done, inner_done, last_on, last_done, before_begun, mated-done}
-use Rattle.paths.proofs.Reading.{values_from}
+use Rattle.build.proofs.Inner.{value_low, inner_vertices_lem, inner_begun, pointed-on, inner_on, pointed-done, inner_done, last_on, last_done, before_begun, mated-done}
 use Rattle.build.proofs.take_inner.Goals as goal
 
 pub loop-left-init : goal.loop-left-init

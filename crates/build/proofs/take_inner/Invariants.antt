@@ -1,16 +1,14 @@
-use Prim.Native.Nat.{ℕ, ◌-◌, ◌<◌}
-use mathlib.Core.List.{List, ◌∷◌}
-use mathlib.Core.Path.{◌≡◌, sym, ap, ◌∙◌}
-use borrow.Author.Rules.{rules}
-use lib.ListN.{length, length-set}
+use Prim.Native.Nat.{◌-◌, ◌<◌}
+use mathlib.Core.List.{◌∷◌}
+use mathlib.Core.Path.{◌≡◌}
+use lib.ListN.{length}
 use Rattle.record.specs.Read.{folded}
 use Rattle.vertexset.specs.Set.{word_count, inserted, capacity}
 use Rattle.paths.specs.Paths.{vertices_at}
-use Rattle.vertexset.proofs.Bit.{bit_of_lem}
 use Rattle.paths.proofs.Sets.{of_words}
-use Rattle.links.specs.Tables.{point_along, last_from, mated_ends}
+use Rattle.links.specs.Tables.{point_along, last_from}
 use Rattle.build.specs.Code.{inner_at}
-use Rattle.build.proofs.Inner.{value_low, inner_from, inner_vertices_lem, inner_begun, pointed-on, inner_on, pointed-done, inner_done, last_on, last_done, before_begun, mated-done}
+use Rattle.build.proofs.Inner.{inner_from}
 use Rattle.paths.proofs.Reading.{values_from}
 use Rattle.build.proofs.take_inner.Given as goal
 

@@ -1,7 +1,6 @@
 -- `build::take_path` meets its contract: read, tested, its ends raised, entered; the trace tells what was done. Assumes nothing.
 
 use mathlib.Core.Path.{refl, ap, ◌∙◌}
-use borrow.Author.Rules.{rules}
 use Rattle.certificates.specs.Records.{path}
 use Rattle.links.specs.Ends.{held}
 use Rattle.links.specs.Tables.{split_by, split_mates_by, is_inner}

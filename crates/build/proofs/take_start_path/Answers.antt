@@ -1,7 +1,6 @@
 -- `build::take_start_path` meets its contract: read, tested, entered. Assumes nothing.
 
 use mathlib.Core.Path.{refl}
-use borrow.Author.Rules.{rules}
 use Rattle.build.specs.Code.{build_in}
 use Rattle.build.proofs.Taking.{leaves_unread, leaves_refused, leaves_taken, path-there, start-takes}
 use Rattle.build.proofs.take_start_path.Goals as goal

@@ -3,10 +3,7 @@
 use Prim.Native.Nat.{ℕ}
 use mathlib.Core.List.{List}
 use mathlib.Core.Path.{◌≡◌, refl, ap, ◌∙◌}
-use borrow.Author.Rules.{rules}
-use Rattle.vertexset.specs.Set.{capacity}
 use Rattle.vertexset.specs.declared.VertexSet.{VertexSet}
-use Rattle.build.specs.State.{unwound}
 use Rattle.build.proofs.Backs.{unwound-met, unwound-on, unwound-end}
 use Rattle.build.proofs.unwind.Goals as goal
 

@@ -1,6 +1,5 @@
 -- `certifier::build_numbers` meets its contract. Assumes nothing.
 
-use borrow.Author.Rules.{rules}
 use Rattle.construction.specs.Sets.{members}
 use Rattle.certifier.proofs.Written.{members-short, numbers_are, build-filled}
 use Rattle.certifier.proofs.build_numbers.Goals as goal

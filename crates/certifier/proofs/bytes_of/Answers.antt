@@ -1,10 +1,7 @@
 -- `certifier::bytes_of` meets its contract: what was counted and the bytes of what is left are the bytes of all. Assumes nothing.
 
-use Prim.Native.Nat.{◌-◌}
 use native.Mathlib.Omega.{arith}
-use lib.ListN.{length}
-use borrow.Author.Rules.{rules}
-use Rattle.certifier.proofs.Written.{Counting, count-few, count-start, count_turn, count-end}
+use Rattle.certifier.proofs.Written.{count-few, count-start, count_turn, count-end}
 use Rattle.certifier.proofs.bytes_of.Goals as goal
 
 pub loop-i-init : goal.loop-i-init

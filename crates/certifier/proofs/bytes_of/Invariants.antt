@@ -1,8 +1,6 @@
 use Prim.Native.Nat.{◌-◌}
-use native.Mathlib.Omega.{arith}
 use lib.ListN.{length}
-use borrow.Author.Rules.{rules}
-use Rattle.certifier.proofs.Written.{Counting, count-few, count-start, count_turn, count-end}
+use Rattle.certifier.proofs.Written.{Counting}
 use Rattle.certifier.proofs.bytes_of.Given as goal
 
 abbrev pub invariant-loop-i : goal.invariant-loop-i

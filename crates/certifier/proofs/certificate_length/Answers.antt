@@ -4,7 +4,6 @@ use Prim.Native.Nat.{ℕ, ◌≤◌}
 use mathlib.Core.Path.{◌∙◌}
 use native.Mathlib.Omega.{arith}
 use lib.ListN.{length, replicate, length-replicate}
-use borrow.Author.Rules.{rules}
 use Rattle.record.specs.Read.{Bytes}
 use Rattle.certifier.specs.Made.{certificate_room, length_from}
 use Rattle.certifier.proofs.Room.{made-room}

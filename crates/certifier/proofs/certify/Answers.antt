@@ -1,7 +1,6 @@
 -- `certifier::certify` meets its contract: what was decided is written where it has room. Assumes nothing.
 
 use native.Mathlib.Omega.{arith}
-use borrow.Author.Rules.{rules}
 use Rattle.record.specs.Read.{Bytes}
 use Rattle.certifier.proofs.Drafts.{made-fits, lent_room, made-short, made-done}
 use Rattle.certifier.proofs.certify.Goals as goal

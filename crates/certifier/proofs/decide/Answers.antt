@@ -1,7 +1,6 @@
 -- `certifier::decide` meets its contract: an accepted plan has a certificate, and its kind is a byte. Assumes nothing.
 
 use native.Mathlib.Omega.{arith}
-use borrow.Author.Rules.{rules}
 use Rattle.record.specs.Read.{Bytes}
 use Rattle.certifier.proofs.Drafts.{draft_refused, draft_grade, draft_done}
 use Rattle.certifier.proofs.decide.Goals as goal

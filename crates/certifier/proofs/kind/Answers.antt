@@ -1,6 +1,5 @@
 -- `certifier::kind` meets its contract: the kind is the first number. Assumes nothing.
 
-use borrow.Author.Rules.{rules}
 use Rattle.construction.specs.Certificate.{certificate_numbers}
 use Rattle.certifier.proofs.Drafts.{first_number}
 use Rattle.certifier.proofs.kind.Goals as goal

@@ -1,9 +1,8 @@
 -- `certifier::lengthen` meets its contract: the places from i on are done. Assumes nothing.
 
-use Prim.Native.Nat.{◌-◌}
 use native.Mathlib.Omega.{arith}
 use borrow.Author.Rules.{rules}
-use Rattle.certifier.proofs.Written.{Lengthening, lengthen_start, lengthen_end, lengthen_run, lengthen_length, lengthen_stop, lengthen_on}
+use Rattle.certifier.proofs.Written.{lengthen_start, lengthen_end, lengthen_run, lengthen_length, lengthen_stop, lengthen_on}
 use Rattle.certifier.proofs.lengthen.Goals as goal
 
 pub loop-i-init : goal.loop-i-init

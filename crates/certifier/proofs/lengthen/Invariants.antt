@@ -1,7 +1,4 @@
-use Prim.Native.Nat.{◌-◌}
-use native.Mathlib.Omega.{arith}
-use borrow.Author.Rules.{rules}
-use Rattle.certifier.proofs.Written.{Lengthening, lengthen_start, lengthen_end, lengthen_run, lengthen_length, lengthen_stop, lengthen_on}
+use Rattle.certifier.proofs.Written.{Lengthening}
 use Rattle.certifier.proofs.lengthen.Given as goal
 
 abbrev pub invariant-loop-i : goal.invariant-loop-i

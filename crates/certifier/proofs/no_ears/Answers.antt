@@ -1,6 +1,5 @@
 -- `certifier::no_ears` meets its contract. Assumes nothing.
 
-use borrow.Author.Rules.{rules}
 use Rattle.certifier.proofs.no_ears.Goals as goal
 
 pub returns : goal.returns

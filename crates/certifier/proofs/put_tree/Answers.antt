@@ -1,14 +1,10 @@
 -- `certifier::put_tree` meets its contract: the pairs so far are put, and those that are left come. Assumes nothing.
 
-use Prim.Native.Nat.{ℕ, ◌+◌, ◌-◌, ◌<◌}
+use Prim.Native.Nat.{ℕ}
 use mathlib.Core.Path.{ap, ◌∙◌}
-use mathlib.Core.List.{List}
 use native.Mathlib.Omega.{arith}
-use lib.ListN.{length, get_or, take, drop, length-set}
+use lib.ListN.{get_or, length-set}
 use borrow.Author.Rules.{rules}
-use Rattle.vertexset.specs.Set.{capacity}
-use Rattle.construction.specs.Certificate.{pairs_from}
-use Rattle.search.proofs.Filling.{Filling}
 use Rattle.certifier.proofs.Written.{tree_start, tree_length, tree_end, tree_place, tree_turn}
 use Rattle.certifier.proofs.put_tree.Invariants.{order, from}
 use Rattle.certifier.proofs.put_tree.Goals as goal

@@ -1,13 +1,9 @@
-use Prim.Native.Nat.{ℕ, ◌+◌, ◌-◌, ◌<◌}
-use mathlib.Core.Path.{ap, ◌∙◌}
+use Prim.Native.Nat.{ℕ, ◌-◌}
 use mathlib.Core.List.{List}
-use native.Mathlib.Omega.{arith}
-use lib.ListN.{length, get_or, take, drop, length-set}
-use borrow.Author.Rules.{rules}
+use lib.ListN.{take, drop}
 use Rattle.vertexset.specs.Set.{capacity}
 use Rattle.construction.specs.Certificate.{pairs_from}
 use Rattle.search.proofs.Filling.{Filling}
-use Rattle.certifier.proofs.Written.{tree_start, tree_length, tree_end, tree_place, tree_turn}
 use Rattle.certifier.proofs.put_tree.Given as goal
 
 -- the two lists in the space

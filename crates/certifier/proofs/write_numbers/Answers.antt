@@ -1,9 +1,6 @@
 -- `certifier::write_numbers` meets its contract: with what is left written from the place on the buffer is what it is to be. Assumes nothing.
 
-use Prim.Native.Nat.{◌-◌}
-use lib.ListN.{length}
-use borrow.Author.Rules.{rules}
-use Rattle.certifier.proofs.Written.{Writing, write_start, write_end, write_fails, write_turn}
+use Rattle.certifier.proofs.Written.{write_start, write_end, write_fails, write_turn}
 use Rattle.certifier.proofs.write_numbers.Goals as goal
 
 pub loop-i-init : goal.loop-i-init

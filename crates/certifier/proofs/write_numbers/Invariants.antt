@@ -1,7 +1,6 @@
 use Prim.Native.Nat.{◌-◌}
 use lib.ListN.{length}
-use borrow.Author.Rules.{rules}
-use Rattle.certifier.proofs.Written.{Writing, write_start, write_end, write_fails, write_turn}
+use Rattle.certifier.proofs.Written.{Writing}
 use Rattle.certifier.proofs.write_numbers.Given as goal
 
 abbrev pub invariant-loop-i : goal.invariant-loop-i

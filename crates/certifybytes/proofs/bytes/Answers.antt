@@ -5,7 +5,6 @@ use native.Mathlib.Omega.{arith}
 use Rattle.record.specs.Read.{Bytes}
 use Rattle.lines.proofs.Put.{put_short}
 use Rattle.certifybytes.proofs.Cases.{long_bytes, made_bytes_lem, refused-bytes, made-counts, made-fits}
-use borrow.Author.Rules.{rules}
 use Rattle.certifybytes.proofs.bytes.Goals as goal
 
 pub returns-then-input-gt-LIMIT : goal.returns-then-input-gt-LIMIT

@@ -1,7 +1,6 @@
 -- `checker::check` meets its contract: plan faults first, then the certificate beside the rows that were read. Assumes nothing.
 
 use mathlib.Core.Path.{◌∙◌}
-use borrow.Author.Rules.{rules}
 use native.Mathlib.Omega.{arith}
 use Rattle.record.specs.Read.{Bytes}
 use Rattle.checker.proofs.Answers.{check-accepted, check-refused}

@@ -1,7 +1,6 @@
 -- `checker::check_certificate` meets its contract: the kind is read and tested, then the body is read. Assumes nothing.
 
 use mathlib.Core.Path.{sym, ap, ◌∙◌}
-use borrow.Author.Rules.{rules}
 use lib.ListN.{length}
 use Rattle.graph.specs.Rows.{rows_graph}
 use Rattle.record.proofs.Faults.{unread}

@@ -1,6 +1,5 @@
 -- `checker::ended` meets its contract. Assumes nothing.
 
-use borrow.Author.Rules.{rules}
 use borrow.Author.Tests.{lt-ltb, le-ltb}
 use Rattle.checker.proofs.Answers.{other_answer}
 use Rattle.checker.proofs.ended.Goals as goal

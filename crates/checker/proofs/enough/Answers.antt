@@ -1,6 +1,5 @@
 -- `checker::enough` meets its contract. Assumes nothing.
 
-use borrow.Author.Rules.{rules}
 use borrow.Author.Tests.{lt-ltb, le-ltb}
 use Rattle.checker.proofs.enough.Goals as goal
 

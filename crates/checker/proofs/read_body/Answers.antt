@@ -2,7 +2,6 @@
 
 use Prim.Native.Nat.{ℕ, ◌≤◌}
 use mathlib.Core.Path.{ap, ◌∙◌}
-use borrow.Author.Rules.{rules}
 use native.Mathlib.Omega.{arith}
 use Rattle.certificates.specs.Records.{body}
 use Rattle.paths.specs.Items.{end_read}

@@ -1,6 +1,5 @@
 -- `counting::connectivity_of` meets its contract. Assumes nothing.
 
-use borrow.Author.Rules.{rules}
 use Rattle.counting.proofs.Grading.{drawn_connectivity}
 use Rattle.counting.proofs.connectivity_of.Goals as goal
 

@@ -1,7 +1,6 @@
 -- `counting::count` meets its contract. Assumes nothing.
 
 use mathlib.Core.Path.{sym}
-use borrow.Author.Rules.{rules}
 use Rattle.counting.proofs.Counting.{no_grade, one_count}
 use Rattle.counting.proofs.count.Goals as goal
 

@@ -1,13 +1,12 @@
 -- `counting::count_all` meets its contract: what is counted and what is still to come are all plans of the size. Assumes nothing.
 
-use Prim.Native.Nat.{◌+◌, ◌-◌, ◌<◌, ◌≤◌}
+use Prim.Native.Nat.{◌+◌, ◌<◌, ◌≤◌}
 use native.Mathlib.Omega.{arith}
 use lib.ListN.{length, get_or}
-use borrow.Author.Rules.{rules}
 use Rattle.counting.specs.Counts.{pairs_of, sets_of}
 use Rattle.counting.proofs.Sets.{sets_some, up_to-last}
 use Rattle.counting.proofs.Drawing.{sets_most}
-use Rattle.counting.proofs.Counting.{Counting, count-start, count_low, count_room, count_next, none_below, none_above, all-zero, all-counted}
+use Rattle.counting.proofs.Counting.{count-start, count_low, count_room, count_next, none_below, none_above, all-zero, all-counted}
 use Rattle.counting.proofs.count_all.Goals as goal
 
 pub returns-then-size-lt-MIN_SIZE : goal.returns-then-size-lt-MIN_SIZE

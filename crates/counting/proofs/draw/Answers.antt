@@ -1,14 +1,7 @@
 -- `counting::draw` meets its contract: the rows, with what is left of the set joined, stay the same. Assumes nothing.
 
-use Prim.Native.Nat.{◌+◌, ◌-◌, ◌*◌}
-use mathlib.Core.List.{[]}
 use native.Mathlib.Omega.{arith}
-use lib.ListN.{get_or}
-use borrow.Author.Rules.{rules}
-use Rattle.record.specs.Read.{folded}
-use Rattle.graph.specs.Rows.{joined}
-use Rattle.counting.specs.Counts.{pairs_of, sets_of}
-use Rattle.counting.proofs.Drawing.{Drawing, draw_start, draw_row, draw_without, draw_with, draw_end}
+use Rattle.counting.proofs.Drawing.{draw_start, draw_row, draw_without, draw_with, draw_end}
 use Rattle.counting.proofs.draw.Goals as goal
 
 pub loop-u-init : goal.loop-u-init

@@ -1,12 +1,10 @@
 use Prim.Native.Nat.{◌+◌, ◌-◌, ◌*◌}
 use mathlib.Core.List.{[]}
-use native.Mathlib.Omega.{arith}
 use lib.ListN.{get_or}
-use borrow.Author.Rules.{rules}
 use Rattle.record.specs.Read.{folded}
 use Rattle.graph.specs.Rows.{joined}
 use Rattle.counting.specs.Counts.{pairs_of, sets_of}
-use Rattle.counting.proofs.Drawing.{Drawing, draw_start, draw_row, draw_without, draw_with, draw_end}
+use Rattle.counting.proofs.Drawing.{Drawing}
 use Rattle.counting.proofs.draw.Given as goal
 
 abbrev pub invariant-loop-u : goal.invariant-loop-u

@@ -1,6 +1,5 @@
 -- `counting::set_count` meets its contract. Assumes nothing.
 
-use borrow.Author.Rules.{rules}
 use Rattle.counting.proofs.Drawing.{pairs_twice_low, pairs_low, sets_all}
 use Rattle.counting.proofs.set_count.Goals as goal
 

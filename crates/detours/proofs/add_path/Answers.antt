@@ -2,7 +2,6 @@
 
 use mathlib.Core.Path.{ap, ◌∙◌}
 use native.Mathlib.Omega.{arith}
-use borrow.Author.Rules.{rules}
 use lib.ListN.{length, set, length-set}
 use Prim.Native.Nat.{suc, ◌+◌, ◌≤◌}
 use mathlib.Core.List.{◌∷◌}

@@ -1,7 +1,6 @@
 -- `detours::cycle` meets its contract. Assumes nothing.
 
 use mathlib.Core.Path.{ap, ◌∙◌}
-use borrow.Author.Rules.{rules}
 use Rattle.graph.specs.Rows.{row_of}
 use Rattle.search.specs.Code.{left_in}
 use Rattle.construction.specs.Sets.{single}

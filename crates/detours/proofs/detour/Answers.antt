@@ -1,7 +1,6 @@
 -- `detours::detour` meets its contract. Assumes nothing.
 
 use mathlib.Core.Path.{ap, ◌∙◌}
-use borrow.Author.Rules.{rules}
 use Rattle.vertexset.specs.Set.{empty_set}
 use Rattle.search.specs.Code.{left_in}
 use Rattle.construction.specs.Ears.{failed}

@@ -1,6 +1,5 @@
 -- `detours::find` meets its contract. Assumes nothing.
 
-use borrow.Author.Rules.{rules}
 use Rattle.detours.proofs.Answered.{found_in, none_in}
 use Rattle.detours.proofs.find.Goals as goal
 

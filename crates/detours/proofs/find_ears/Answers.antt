@@ -3,7 +3,6 @@
 use Prim.Native.Nat.{ℕ}
 use mathlib.Core.Path.{◌≡◌, ap, ◌∙◌}
 use lib.ListN.{length, replicate, length-replicate}
-use borrow.Author.Rules.{rules}
 use Rattle.search.specs.Code.{search_space}
 use Rattle.detours.specs.Code.{ears_of}
 use Rattle.detours.proofs.Answered.{cycle-told}

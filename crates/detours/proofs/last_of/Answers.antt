@@ -1,7 +1,6 @@
 -- `detours::last_of` meets its contract. Assumes nothing.
 
 use native.Mathlib.Omega.{arith}
-use borrow.Author.Rules.{rules}
 use Rattle.detours.proofs.Lists.{last_none, last_at}
 use Rattle.detours.proofs.last_of.Goals as goal
 

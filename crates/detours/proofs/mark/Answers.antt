@@ -1,10 +1,7 @@
 -- `detours::mark` meets its contract: what is joined so far, with what is left of the list, is the whole. Assumes nothing.
 
-use Prim.Native.Nat.{◌-◌, ◌<◌}
-use mathlib.Core.Path.{◌≡◌, refl, ◌∙◌, sym}
-use lib.ListN.{length, drop}
+use mathlib.Core.Path.{refl, ◌∙◌, sym}
 use borrow.Author.Rules.{rules}
-use Rattle.construction.specs.Start.{marked}
 use Rattle.detours.proofs.Marks.{mark_turn, mark_end}
 use Rattle.detours.proofs.mark.Goals as goal
 

@@ -1,9 +1,7 @@
 use Prim.Native.Nat.{◌-◌, ◌<◌}
-use mathlib.Core.Path.{◌≡◌, refl, ◌∙◌, sym}
+use mathlib.Core.Path.{◌≡◌}
 use lib.ListN.{length, drop}
-use borrow.Author.Rules.{rules}
 use Rattle.construction.specs.Start.{marked}
-use Rattle.detours.proofs.Marks.{mark_turn, mark_end}
 use Rattle.detours.proofs.mark.Given as goal
 
 abbrev pub invariant-loop-i : goal.invariant-loop-i

@@ -1,11 +1,9 @@
 -- `detours::more_ears` meets its contract: the ears that are left give the whole. Assumes nothing.
 
-use mathlib.Core.Path.{◌≡◌, refl, sym, ◌∙◌}
+use mathlib.Core.Path.{refl, sym, ◌∙◌}
 use native.Mathlib.Omega.{arith}
-use lib.ListN.{length}
-use borrow.Author.Rules.{rules}
 use Rattle.detours.proofs.Answered.{detour-told}
-use Rattle.detours.proofs.Earing.{Earing, ears_from, earing_length, first_ear_lem, earing_end, earing_full, earing_cut, earing_on}
+use Rattle.detours.proofs.Earing.{earing_length, first_ear_lem, earing_end, earing_full, earing_cut, earing_on}
 use Rattle.detours.proofs.more_ears.Goals as goal
 
 pub loop-left-init : goal.loop-left-init

@@ -1,9 +1,6 @@
-use mathlib.Core.Path.{◌≡◌, refl, sym, ◌∙◌}
-use native.Mathlib.Omega.{arith}
+use mathlib.Core.Path.{◌≡◌}
 use lib.ListN.{length}
-use borrow.Author.Rules.{rules}
-use Rattle.detours.proofs.Answered.{detour-told}
-use Rattle.detours.proofs.Earing.{Earing, ears_from, earing_length, first_ear_lem, earing_end, earing_full, earing_cut, earing_on}
+use Rattle.detours.proofs.Earing.{Earing, ears_from}
 use Rattle.detours.proofs.more_ears.Given as goal
 
 abbrev pub invariant-loop-left : goal.invariant-loop-left

@@ -1,13 +1,10 @@
 -- `detours::near_all` meets its contract: the rest of the list, taken in from here, gives the whole. Assumes nothing.
 
-use Prim.Native.Nat.{ℕ, ◌-◌}
-use mathlib.Core.Path.{◌≡◌, refl, sym, ◌∙◌}
-use lib.ListN.{length, drop}
-use borrow.Author.Rules.{rules}
+use Prim.Native.Nat.{ℕ}
+use mathlib.Core.Path.{refl, sym, ◌∙◌}
 use Rattle.vertexset.specs.declared.VertexSet.{VertexSet}
 use Rattle.graph.specs.Rows.{row_of}
 use Rattle.construction.specs.Sets.{plus}
-use Rattle.construction.specs.Ears.{near_all}
 use Rattle.detours.proofs.Lists.{fold_turn, fold_end}
 use Rattle.detours.proofs.near_all.Goals as goal
 

@@ -1,12 +1,7 @@
-use Prim.Native.Nat.{ℕ, ◌-◌}
-use mathlib.Core.Path.{◌≡◌, refl, sym, ◌∙◌}
+use Prim.Native.Nat.{◌-◌}
+use mathlib.Core.Path.{◌≡◌}
 use lib.ListN.{length, drop}
-use borrow.Author.Rules.{rules}
-use Rattle.vertexset.specs.declared.VertexSet.{VertexSet}
-use Rattle.graph.specs.Rows.{row_of}
-use Rattle.construction.specs.Sets.{plus}
 use Rattle.construction.specs.Ears.{near_all}
-use Rattle.detours.proofs.Lists.{fold_turn, fold_end}
 use Rattle.detours.proofs.near_all.Given as goal
 
 abbrev pub invariant-loop-i : goal.invariant-loop-i

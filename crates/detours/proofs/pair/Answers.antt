@@ -1,6 +1,5 @@
 -- `detours::pair` meets its contract. Assumes nothing.
 
-use borrow.Author.Rules.{rules}
 use Rattle.detours.proofs.pair.Goals as goal
 
 pub returns : goal.returns

@@ -1,6 +1,5 @@
 -- `detours::push` meets its contract. Assumes nothing.
 
-use borrow.Author.Rules.{rules}
 use borrow.Author.Tests.{lt-ltb, le-ltb}
 use Rattle.search.specs.Code.{path_room}
 use Rattle.detours.proofs.push.Goals as goal

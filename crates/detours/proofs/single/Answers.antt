@@ -1,6 +1,5 @@
 -- `detours::single` meets its contract. Assumes nothing.
 
-use borrow.Author.Rules.{rules}
 use Rattle.detours.proofs.single.Goals as goal
 
 pub returns : goal.returns

@@ -1,7 +1,6 @@
 -- `detours::way_out` meets its contract. Assumes nothing.
 
 use mathlib.Core.Path.{◌≡◌, ◌∙◌}
-use borrow.Author.Rules.{rules}
 use Rattle.construction.specs.Sets.{minus, least}
 use Rattle.detours.proofs.way_out.Goals as goal
 

@@ -1,11 +1,7 @@
 -- `detours::with_all` meets its contract: the rest of the list, taken in from here, gives the whole. Assumes nothing.
 
-use Prim.Native.Nat.{◌-◌}
-use mathlib.Core.Path.{◌≡◌, refl, sym, ◌∙◌}
-use lib.ListN.{length, drop}
-use borrow.Author.Rules.{rules}
+use mathlib.Core.Path.{refl, sym, ◌∙◌}
 use Rattle.vertexset.specs.Set.{inserted}
-use Rattle.construction.specs.Sets.{set_with_all}
 use Rattle.detours.proofs.Lists.{fold_turn, fold_end}
 use Rattle.detours.proofs.with_all.Goals as goal
 

@@ -1,10 +1,7 @@
 use Prim.Native.Nat.{◌-◌}
-use mathlib.Core.Path.{◌≡◌, refl, sym, ◌∙◌}
+use mathlib.Core.Path.{◌≡◌}
 use lib.ListN.{length, drop}
-use borrow.Author.Rules.{rules}
-use Rattle.vertexset.specs.Set.{inserted}
 use Rattle.construction.specs.Sets.{set_with_all}
-use Rattle.detours.proofs.Lists.{fold_turn, fold_end}
 use Rattle.detours.proofs.with_all.Given as goal
 
 abbrev pub invariant-loop-i : goal.invariant-loop-i

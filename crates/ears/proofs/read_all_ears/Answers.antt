@@ -1,14 +1,9 @@
 -- `ears::read_all_ears` meets its contract: what is left to read gives the same from here as from the start. Assumes nothing.
 
-use mathlib.Core.Path.{◌≡◌, ◌∙◌, sym}
-use borrow.Author.Rules.{rules}
-use Rattle.record.specs.Loop.{runs}
+use mathlib.Core.Path.{◌∙◌, sym}
 use Rattle.record.proofs.Loops.{turn_start, turn_go, turn_stop, turn_done}
-use Rattle.paths.specs.Items.{end_read}
-use Rattle.graph.specs.Rows.{rows_graph}
-use Rattle.ears.specs.Code.{all_ears}
 use Rattle.ears.proofs.Ear.{ear-told, ear-fault, pick_true, pick_false}
-use Rattle.ears.proofs.In.{ears-begin, ear_loop}
+use Rattle.ears.proofs.In.{ears-begin}
 use Rattle.ears.proofs.read_all_ears.Goals as goal
 
 pub loop-left-init : goal.loop-left-init

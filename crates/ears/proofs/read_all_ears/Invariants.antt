@@ -1,12 +1,9 @@
-use mathlib.Core.Path.{◌≡◌, ◌∙◌, sym}
-use borrow.Author.Rules.{rules}
+use mathlib.Core.Path.{◌≡◌}
 use Rattle.record.specs.Loop.{runs}
-use Rattle.record.proofs.Loops.{turn_start, turn_go, turn_stop, turn_done}
 use Rattle.paths.specs.Items.{end_read}
 use Rattle.graph.specs.Rows.{rows_graph}
 use Rattle.ears.specs.Code.{all_ears}
-use Rattle.ears.proofs.Ear.{ear-told, ear-fault, pick_true, pick_false}
-use Rattle.ears.proofs.In.{ears-begin, ear_loop}
+use Rattle.ears.proofs.In.{ear_loop}
 use Rattle.ears.proofs.read_all_ears.Given as goal
 
 abbrev pub invariant-loop-left : goal.invariant-loop-left

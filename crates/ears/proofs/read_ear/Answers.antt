@@ -1,7 +1,6 @@
 -- `ears::read_ear` meets its contract. Assumes nothing.
 
 use mathlib.Core.Path.{◌∙◌, sym}
-use borrow.Author.Rules.{rules}
 use Rattle.paths.proofs.Told.{path-told, path-fault, limited-in}
 use Rattle.ears.proofs.Ear.{ear-unread, ear-refused, ear-taken}
 use Rattle.ears.proofs.read_ear.Goals as goal

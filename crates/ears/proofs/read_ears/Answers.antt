@@ -2,7 +2,6 @@
 
 use Prim.Native.Nat.{◌*◌, ◌<◌}
 use mathlib.Core.Path.{◌∙◌}
-use borrow.Author.Rules.{rules}
 use borrow.Author.Tests.{lt-leb}
 use native.Mathlib.Omega.{arith}
 use Rattle.record.proofs.Loops.{needs_bad}

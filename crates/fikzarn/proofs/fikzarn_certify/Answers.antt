@@ -1,7 +1,6 @@
 -- `fikzarn::fikzarn_certify` meets its contract. Assumes nothing.
 
 use mathlib.Core.Path.{ap, ◌∙◌}
-use borrow.Author.Rules.{rules}
 use Rattle.fikzarn.specs.Words.{made_word}
 use Rattle.fikzarn.proofs.fikzarn_certify.Goals as goal
 

@@ -1,7 +1,6 @@
 -- `fikzarn::fikzarn_check` meets its contract. Assumes nothing.
 
 use mathlib.Core.Path.{ap, ◌∙◌}
-use borrow.Author.Rules.{rules}
 use Rattle.script.specs.Replay.{answer_word}
 use Rattle.fikzarn.proofs.fikzarn_check.Goals as goal
 

@@ -1,7 +1,6 @@
 -- `fikzarn::fikzarn_mend` meets its contract. Assumes nothing.
 
 use mathlib.Core.Path.{ap, ◌∙◌}
-use borrow.Author.Rules.{rules}
 use Rattle.fikzarn.specs.Words.{mended_word}
 use Rattle.fikzarn.proofs.fikzarn_mend.Goals as goal
 

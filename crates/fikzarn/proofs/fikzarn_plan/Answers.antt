@@ -1,7 +1,6 @@
 -- `fikzarn::fikzarn_plan` meets its contract. Assumes nothing.
 
 use mathlib.Core.Path.{sym, ap}
-use borrow.Author.Rules.{rules}
 use Rattle.record.specs.declared.Answer.{Answer}
 use Rattle.fikzarn.specs.Words.{rewritten}
 use Rattle.fikzarn.proofs.Plans.{plan-accepted, plan-refused}

@@ -1,7 +1,6 @@
 -- `fikzarn::fikzarn_session` meets its contract. Assumes nothing.
 
 use mathlib.Core.Path.{ap}
-use borrow.Author.Rules.{rules}
 use native.Mathlib.Omega.{arith}
 use Rattle.script.specs.declared.Replayed.{Replayed}
 use Rattle.fikzarn.proofs.fikzarn_session.Goals as goal

@@ -1,7 +1,6 @@
 -- `fikzarn::made_word` meets its contract. Assumes nothing.
 
 use mathlib.Core.Path.{refl}
-use borrow.Author.Rules.{rules}
 use Rattle.fikzarn.proofs.Words.{told-word, other_word}
 use Rattle.fikzarn.proofs.made_word.Goals as goal
 

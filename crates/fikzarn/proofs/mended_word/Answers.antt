@@ -1,6 +1,5 @@
 -- `fikzarn::mended_word` meets its contract. Assumes nothing.
 
-use borrow.Author.Rules.{rules}
 use Rattle.fikzarn.proofs.Words.{lengths_word}
 use Rattle.fikzarn.proofs.mended_word.Goals as goal
 

@@ -1,6 +1,5 @@
 -- `graph::adjacent` meets its contract. Assumes nothing.
 
-use borrow.Author.Rules.{rules}
 use borrow.Author.Tests.{lt-ltb}
 use Rattle.record.proofs.Tests.{tests}
 use Rattle.graph.proofs.Rows.{word_of, bit_of_lem}

@@ -2,7 +2,6 @@
 
 use mathlib.Core.Path.{◌∙◌}
 use mathlib.Core.Bool.{and-false}
-use borrow.Author.Rules.{rules}
 use borrow.Author.Tests.{lt-ltb, le-ltb}
 use Rattle.graph.proofs.join.Goals as goal
 

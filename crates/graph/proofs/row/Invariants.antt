@@ -1,12 +1,7 @@
 use Prim.Native.Nat.{ℕ, ◌<◌, ◌+◌, ◌*◌, ◌-◌}
-use mathlib.Core.Path.{◌≡◌, ap, ◌∙◌}
-use lib.ListN.{length, get_or, length-set}
-use native.Mathlib.Omega.{arith}
-use borrow.Author.Rules.{rules}
-use borrow.Author.Tests.{lt-ltb, le-ltb}
+use mathlib.Core.Path.{◌≡◌}
+use lib.ListN.{length, get_or}
 use Rattle.vertexset.specs.Set.{word_count}
-use Rattle.vertexset.specs.declared.VertexSet.{VertexSet}
-use Rattle.graph.proofs.Rows.{copy_more, copied}
 use Rattle.graph.proofs.row.Given as goal
 
 abbrev pub invariant-loop-i : goal.invariant-loop-i

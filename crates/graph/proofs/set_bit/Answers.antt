@@ -1,7 +1,6 @@
 -- `graph::set_bit` meets its contract. Assumes nothing.
 
 use Prim.Native.Nat.{◌%◌}
-use borrow.Author.Rules.{rules}
 use native.Mathlib.Omega.{arith}
 use native.Mathlib.Nat.{one-mul}
 use lib.Dec.{lit<}

@@ -1,7 +1,6 @@
 -- `links::clear` meets its contract. Assumes nothing.
 
 use mathlib.Core.Path.{◌∙◌}
-use borrow.Author.Rules.{rules}
 use Rattle.links.proofs.clear.Goals as goal
 
 pub returns : goal.returns

@@ -1,6 +1,5 @@
 -- `links::end_of` meets its contract. Assumes nothing.
 
-use borrow.Author.Rules.{rules}
 use Rattle.links.proofs.end_of.Goals as goal
 
 pub returns-then-contains : goal.returns-then-contains

@@ -1,6 +1,5 @@
 -- `links::link_around` meets its contract. Assumes nothing.
 
-use borrow.Author.Rules.{rules}
 use Rattle.links.proofs.link_around.Goals as goal
 
 pub returns : goal.returns

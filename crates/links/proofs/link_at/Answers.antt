@@ -1,14 +1,9 @@
 -- `links::link_at` meets its contract: what is left of the walk gives the same from here as from the start. Assumes nothing.
 
 use Prim.Native.Nat.{ℕ}
-use mathlib.Core.List.{List}
-use mathlib.Core.Path.{◌≡◌, refl, sym, ap, ◌∙◌}
-use borrow.Author.Rules.{rules}
-use Rattle.vertexset.specs.Set.{has, capacity}
-use Rattle.vertexset.specs.declared.VertexSet.{VertexSet}
-use Rattle.links.specs.Tables.{pointer, mates, outermost, link_around, link_at}
+use mathlib.Core.Path.{refl, sym, ap, ◌∙◌}
+use Rattle.links.specs.Tables.{link_around, link_at}
 use Rattle.links.proofs.Ways.{met-before, met-after, met-none, met-end}
-use Rattle.links.proofs.link_at.Invariants.{walk}
 use Rattle.links.proofs.link_at.Goals as goal
 
 pub loop-left-init : goal.loop-left-init

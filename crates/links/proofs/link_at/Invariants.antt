@@ -1,11 +1,9 @@
 use Prim.Native.Nat.{ℕ}
 use mathlib.Core.List.{List}
-use mathlib.Core.Path.{◌≡◌, refl, sym, ap, ◌∙◌}
-use borrow.Author.Rules.{rules}
+use mathlib.Core.Path.{◌≡◌}
 use Rattle.vertexset.specs.Set.{has, capacity}
 use Rattle.vertexset.specs.declared.VertexSet.{VertexSet}
-use Rattle.links.specs.Tables.{pointer, mates, outermost, link_around, link_at}
-use Rattle.links.proofs.Ways.{met-before, met-after, met-none, met-end}
+use Rattle.links.specs.Tables.{pointer, mates, outermost}
 use Rattle.links.proofs.link_at.Given as goal
 
 abbrev pub walk : List ℕ → VertexSet → ℕ → ℕ → ℕ → ℕ × ℕ

@@ -1,7 +1,6 @@
 -- `links::outer_aside` meets its contract. Assumes nothing.
 
 use mathlib.Core.Path.{◌∙◌}
-use borrow.Author.Rules.{rules}
 use Rattle.links.proofs.outer_aside.Goals as goal
 
 pub returns-then-contains : goal.returns-then-contains

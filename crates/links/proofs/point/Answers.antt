@@ -1,6 +1,5 @@
 -- `links::point` meets its contract: past the vertices nothing changes. Assumes nothing.
 
-use borrow.Author.Rules.{rules}
 use borrow.Author.Tests.{lt-ltb, le-ltb}
 use Rattle.links.proofs.point.Goals as goal
 

@@ -3,7 +3,6 @@
 use Prim.Native.Nat.{ℕ}
 use mathlib.Core.List.{List}
 use mathlib.Core.Path.{◌∙◌, ap}
-use borrow.Author.Rules.{rules}
 use Rattle.vertexset.specs.Set.{capacity}
 use Rattle.links.specs.Tables.{pointed}
 use Rattle.links.proofs.point_between.Goals as goal

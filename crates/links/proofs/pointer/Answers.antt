@@ -1,6 +1,5 @@
 -- `links::pointer` meets its contract: a number past the vertices points to 0. Assumes nothing.
 
-use borrow.Author.Rules.{rules}
 use borrow.Author.Tests.{lt-ltb, le-ltb}
 use Rattle.links.proofs.pointer.Goals as goal
 

@@ -2,7 +2,6 @@
 
 use Prim.Native.Nat.{ℕ}
 use mathlib.Core.Path.{◌∙◌, ap}
-use borrow.Author.Rules.{rules}
 use Rattle.links.specs.Tables.{link_around, rejoined_rows, rejoined_mates}
 use Rattle.links.proofs.rejoin.Goals as goal
 

@@ -1,7 +1,6 @@
 -- `links::split_by` meets its contract. Assumes nothing.
 
 use mathlib.Core.Path.{◌∙◌}
-use borrow.Author.Rules.{rules}
 use Rattle.links.specs.Tables.{split_rows, split_mates}
 use Rattle.links.proofs.Ways.{split_twice}
 use Rattle.links.proofs.split_by.Goals as goal

@@ -1,7 +1,6 @@
 -- `links::split_link` meets its contract. Assumes nothing.
 
 use mathlib.Core.Path.{◌∙◌}
-use borrow.Author.Rules.{rules}
 use Rattle.links.proofs.split_link.Goals as goal
 
 pub returns : goal.returns

@@ -1,7 +1,6 @@
 -- `links::unmate_aside` meets its contract: where x is outermost nothing changes. Assumes nothing.
 
 use mathlib.Core.Path.{◌∙◌}
-use borrow.Author.Rules.{rules}
 use borrow.Author.Tests.{eq-eqb, ne_eqb}
 use Rattle.links.proofs.unmate_aside.Goals as goal
 

@@ -1,6 +1,5 @@
 -- `local::spared` meets its contract. Assumes nothing.
 
-use borrow.Author.Rules.{rules}
 use Rattle.local.proofs.Near.{near-many, near-few}
 use Rattle.local.proofs.spared.Goals as goal
 

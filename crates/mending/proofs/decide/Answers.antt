@@ -1,9 +1,8 @@
 -- `mending::decide` meets its contract. Assumes nothing.
 
 use native.Mathlib.Omega.{arith}
-use borrow.Author.Rules.{rules}
 use Rattle.record.specs.Read.{Bytes}
-use Rattle.mending.proofs.Decided.{refused-records, Listing, listing, few_edges, too_many, together, both_allowed, both_drafted}
+use Rattle.mending.proofs.Decided.{refused-records, listing, few_edges, too_many, together, both_allowed, both_drafted}
 use Rattle.mending.proofs.Listed.{list_right}
 use Rattle.mending.proofs.decide.Goals as goal
 

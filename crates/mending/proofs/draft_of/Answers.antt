@@ -1,6 +1,5 @@
 -- `mending::draft_of` meets its contract. Assumes nothing.
 
-use borrow.Author.Rules.{rules}
 use Rattle.mending.proofs.Recorded.{mended_lent, drafted}
 use Rattle.mending.proofs.draft_of.Goals as goal
 

@@ -1,6 +1,5 @@
 -- `mending::mend` meets its contract. Assumes nothing.
 
-use borrow.Author.Rules.{rules}
 use Rattle.mending.proofs.Mends.{list_short, mended_short, certificate-short, list_lacks, mended_lacks, certificate-lacks, all-written}
 use Rattle.mending.proofs.mend.Goals as goal
 

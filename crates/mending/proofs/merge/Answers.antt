@@ -1,11 +1,9 @@
 -- `mending::merge` meets its contract. Assumes nothing.
 
-use Prim.Native.Nat.{◌+◌, ◌-◌, ◌≤◌}
-use mathlib.Core.Path.{◌≡◌, sym, ◌∙◌, refl}
+use mathlib.Core.Path.{sym, ◌∙◌, refl}
 use native.Mathlib.Omega.{arith}
 use borrow.Author.Rules.{rules}
-use Rattle.graph.specs.Limits.{max_edges}
-use Rattle.mending.proofs.Merging.{Merging, merge_start, merge_first, merge_second, merge_end}
+use Rattle.mending.proofs.Merging.{merge_start, merge_first, merge_second, merge_end}
 use Rattle.mending.proofs.merge.Goals as goal
 
 pub loop-i-init : goal.loop-i-init

@@ -1,9 +1,7 @@
 use Prim.Native.Nat.{◌+◌, ◌-◌, ◌≤◌}
-use mathlib.Core.Path.{◌≡◌, sym, ◌∙◌, refl}
-use native.Mathlib.Omega.{arith}
-use borrow.Author.Rules.{rules}
+use mathlib.Core.Path.{◌≡◌}
 use Rattle.graph.specs.Limits.{max_edges}
-use Rattle.mending.proofs.Merging.{Merging, merge_start, merge_first, merge_second, merge_end}
+use Rattle.mending.proofs.Merging.{Merging}
 use Rattle.mending.proofs.merge.Given as goal
 
 abbrev pub invariant-loop-i : goal.invariant-loop-i

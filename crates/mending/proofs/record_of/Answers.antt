@@ -1,6 +1,5 @@
 -- `mending::record_of` meets its contract: an allowed plan has a record, and the array has room for it. Assumes nothing.
 
-use borrow.Author.Rules.{rules}
 use Rattle.mending.proofs.Recorded.{record_next, record_nothing}
 use Rattle.mending.proofs.record_of.Goals as goal
 

@@ -1,7 +1,6 @@
 -- `mending::takes_first` meets its contract. Assumes nothing.
 
 use mathlib.Core.Path.{◌∙◌}
-use borrow.Author.Rules.{rules}
 use Rattle.mending.proofs.Merging.{first_none, second_none, both_next}
 use Rattle.mending.proofs.takes_first.Goals as goal
 

@@ -1,7 +1,6 @@
 -- `paths::read_ranged` meets its contract: a number that can't be read ends the reading, then the range is tested. Assumes nothing.
 
 use mathlib.Core.Path.{◌∙◌, sym, ap}
-use borrow.Author.Rules.{rules}
 use Rattle.record.proofs.Faults.{unread, tested_unread, tested_value}
 use Rattle.record.proofs.Bounds.{true_within, below-within, above_within}
 use Rattle.paths.specs.Items.{item_read}

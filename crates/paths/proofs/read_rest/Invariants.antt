@@ -1,19 +1,13 @@
 use Prim.Native.Nat.{ℕ, ◌-◌}
-use mathlib.Core.Path.{◌≡◌, refl, ◌∙◌}
+use mathlib.Core.Path.{◌≡◌}
 use mathlib.Core.Bool.{Bool}
 use mathlib.Core.List.{List}
-use native.Mathlib.Omega.{arith}
-use borrow.Author.Rules.{rules}
-use lib.ListN.{length, length-set}
+use lib.ListN.{length}
 use Rattle.record.specs.Loop.{runs}
-use Rattle.record.proofs.Loops.{turn_start, turn_go, turn_stop, turn_done}
 use Rattle.vertexset.specs.Set.{has, word_count}
-use Rattle.vertexset.proofs.Bit.{bit_of_lem}
 use Rattle.graph.specs.Rows.{adjacent_in}
 use Rattle.paths.specs.Code.{Walked, path_loop, path_begun}
-use Rattle.paths.proofs.Told.{value_told, fault_told}
-use Rattle.paths.proofs.Reading.{vertex-low}
-use Rattle.paths.proofs.Sets.{of_words, bit_clear}
+use Rattle.paths.proofs.Sets.{of_words}
 use Rattle.paths.proofs.read_rest.Given as goal
 
 abbrev pub walkedTo : List ℕ → Bool → Bool → ℕ → ℕ → Walked

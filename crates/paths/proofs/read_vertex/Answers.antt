@@ -1,7 +1,6 @@
 -- `paths::read_vertex` meets its contract. Assumes nothing.
 
 use mathlib.Core.Path.{◌∙◌, sym, ap}
-use borrow.Author.Rules.{rules}
 use borrow.Author.Tests.{lt-ltb, le-ltb}
 use Rattle.record.proofs.Faults.{unread, tested_unread, tested_value}
 use Rattle.certificates.specs.Records.{vertex}

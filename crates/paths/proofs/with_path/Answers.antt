@@ -1,18 +1,14 @@
 -- `paths::with_path` meets its contract: what is left to take in gives the same from here as from the start. Assumes nothing.
 
-use mathlib.Core.Path.{◌≡◌, refl, sym, ◌∙◌}
+use mathlib.Core.Path.{refl, sym, ◌∙◌}
 use native.Mathlib.Omega.{arith}
 use borrow.Author.Rules.{rules}
-use lib.ListN.{length, length-set}
-use Rattle.record.specs.Read.{folded}
-use Rattle.record.specs.Loop.{runs}
+use lib.ListN.{length-set}
 use Rattle.record.proofs.Loops.{turn_go, turn_stop, turn_done}
-use Rattle.vertexset.specs.Set.{word_count, inserted}
 use Rattle.vertexset.proofs.Bit.{bit_of_lem}
-use Rattle.paths.specs.Paths.{vertices_at}
 use Rattle.paths.proofs.Told.{value_told, fault_told}
-use Rattle.paths.proofs.Reading.{set_loop, set_none, set_rest}
-use Rattle.paths.proofs.Sets.{of_words, past_same}
+use Rattle.paths.proofs.Reading.{set_none, set_rest}
+use Rattle.paths.proofs.Sets.{past_same}
 use Rattle.paths.proofs.with_path.Goals as goal
 
 pub returns-in_default : goal.returns-in_default

@@ -1,6 +1,5 @@
 -- `reading::by_value` meets its contract. Assumes nothing.
 
-use borrow.Author.Rules.{rules}
 use Rattle.reading.specs.Code.{no_ends, ends_read}
 use Rattle.reading.proofs.Reading.{no_table}
 use Rattle.reading.proofs.by_value.Goals as goal

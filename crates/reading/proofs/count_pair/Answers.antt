@@ -1,7 +1,6 @@
 -- `reading::count_pair` meets its contract: two edges are the same where their numbers are. Assumes nothing.
 
 use mathlib.Core.Path.{sym, ◌∙◌}
-use borrow.Author.Rules.{rules}
 use borrow.Author.Tests.{eq-eqb, ne_eqb}
 use native.Mathlib.Omega.{arith}
 use Rattle.reading.specs.Code.{key_of}

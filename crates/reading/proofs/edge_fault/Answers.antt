@@ -1,7 +1,6 @@
 -- `graph::edge_fault` meets its contract. Assumes nothing.
 
 use mathlib.Core.Path.{◌∙◌}
-use borrow.Author.Rules.{rules}
 use Rattle.reading.proofs.edge_fault.Goals as goal
 
 pub returns-in-Joins : goal.returns-in-Joins

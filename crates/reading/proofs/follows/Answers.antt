@@ -1,6 +1,5 @@
 -- `reading::follows` meets its contract: the order of two edges is that of their numbers. Assumes nothing.
 
-use borrow.Author.Rules.{rules}
 use native.Mathlib.Omega.{arith}
 use Rattle.reading.proofs.EdgeTests.{key_follows}
 use Rattle.reading.proofs.follows.Goals as goal

@@ -1,13 +1,10 @@
 -- `reading::lay_numbers` meets its contract: what is left to read leads to the same array from here as from the start. Assumes nothing.
 
-use Prim.Native.Nat.{ℕ, ◌-◌, ◌≤◌}
+use Prim.Native.Nat.{ℕ, ◌-◌}
 use mathlib.Core.List.{List}
 use mathlib.Core.Path.{◌≡◌, sym, ap, ◌∙◌}
-use borrow.Author.Rules.{rules}
 use native.Mathlib.Omega.{arith}
-use Rattle.record.specs.Read.{led}
-use Rattle.record.specs.Number.{number}
-use Rattle.reading.specs.Code.{number_laid, numbers_in}
+use Rattle.reading.specs.Code.{numbers_in}
 use Rattle.reading.proofs.Ends.{lay_go, lay_stop, lay_done}
 use Rattle.reading.proofs.lay_numbers.Goals as goal
 

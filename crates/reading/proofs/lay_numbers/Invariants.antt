@@ -1,12 +1,8 @@
-use Prim.Native.Nat.{ℕ, ◌-◌, ◌≤◌}
-use mathlib.Core.List.{List}
-use mathlib.Core.Path.{◌≡◌, sym, ap, ◌∙◌}
-use borrow.Author.Rules.{rules}
-use native.Mathlib.Omega.{arith}
+use Prim.Native.Nat.{◌-◌, ◌≤◌}
+use mathlib.Core.Path.{◌≡◌}
 use Rattle.record.specs.Read.{led}
 use Rattle.record.specs.Number.{number}
-use Rattle.reading.specs.Code.{number_laid, numbers_in}
-use Rattle.reading.proofs.Ends.{lay_go, lay_stop, lay_done}
+use Rattle.reading.specs.Code.{number_laid}
 use Rattle.reading.proofs.lay_numbers.Given as goal
 
 abbrev pub invariant-loop-i : goal.invariant-loop-i

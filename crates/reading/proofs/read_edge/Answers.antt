@@ -1,7 +1,6 @@
 -- `graph::read_edge` meets its contract: a number that can't be read ends the reading. Assumes nothing.
 
 use mathlib.Core.Path.{◌∙◌, sym, ap}
-use borrow.Author.Rules.{rules}
 use Rattle.record.proofs.Faults.{unread}
 use Rattle.reading.specs.Code.{edge_read}
 use Rattle.reading.proofs.Reading.{edge-first, edge-second, edge-whole}

@@ -1,14 +1,11 @@
 -- `reading::read_edges` meets its contract: what is left to read gives the same from here as from the start, and leads to the same rows.
 -- Assumes nothing.
 
-use Prim.Native.Nat.{ℕ, ◌+◌, ◌≤◌}
+use Prim.Native.Nat.{ℕ}
 use mathlib.Core.List.{List}
 use mathlib.Core.Path.{◌≡◌, refl, ap, ◌∙◌}
-use borrow.Author.Rules.{rules}
 use borrow.Author.Tests.{lt-ltb}
 use native.Mathlib.Omega.{arith}
-use Rattle.record.specs.Read.{led}
-use Rattle.record.specs.Loop.{runs}
 use Rattle.record.proofs.Loops.{turn_go, turn_stop, turn_done, led-go, led-stop, led-done}
 use Rattle.vertexset.specs.Set.{capacity}
 use Rattle.graph.specs.Rows.{joined}

@@ -1,17 +1,8 @@
-use Prim.Native.Nat.{ℕ, ◌+◌, ◌≤◌}
-use mathlib.Core.List.{List}
-use mathlib.Core.Path.{◌≡◌, refl, ap, ◌∙◌}
-use borrow.Author.Rules.{rules}
-use borrow.Author.Tests.{lt-ltb}
-use native.Mathlib.Omega.{arith}
+use Prim.Native.Nat.{◌+◌, ◌≤◌}
+use mathlib.Core.Path.{◌≡◌}
 use Rattle.record.specs.Read.{led}
 use Rattle.record.specs.Loop.{runs}
-use Rattle.record.proofs.Loops.{turn_go, turn_stop, turn_done, led-go, led-stop, led-done}
-use Rattle.vertexset.specs.Set.{capacity}
-use Rattle.graph.specs.Rows.{joined}
-use Rattle.reading.specs.Code.{edge_loop, edge_after, edge_joined, edges_in}
-use Rattle.reading.proofs.Reading.{joins_told, fault_told, edge-low}
-use Rattle.reading.proofs.Doubles.{counted-most}
+use Rattle.reading.specs.Code.{edge_loop, edge_after, edge_joined}
 use Rattle.reading.proofs.read_edges.Given as goal
 
 abbrev pub invariant-loop-left : goal.invariant-loop-left

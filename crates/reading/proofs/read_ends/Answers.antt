@@ -1,7 +1,6 @@
 -- `reading::read_ends` meets its contract: a number that can't be read ends the reading. Assumes nothing.
 
 use mathlib.Core.Path.{sym, ◌∙◌}
-use borrow.Author.Rules.{rules}
 use Rattle.reading.proofs.Ends.{read_first, read_second, read_both}
 use Rattle.reading.proofs.read_ends.Goals as goal
 

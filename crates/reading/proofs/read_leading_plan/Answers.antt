@@ -1,7 +1,6 @@
 -- `reading::read_leading_plan` meets its contract. Assumes nothing.
 
 use mathlib.Core.Path.{◌∙◌}
-use borrow.Author.Rules.{rules}
 use Rattle.reading.specs.Plan.{plan}
 use Rattle.reading.proofs.Plans.{leading_arrays, head_few, valued}
 use Rattle.reading.proofs.read_leading_plan.Goals as goal

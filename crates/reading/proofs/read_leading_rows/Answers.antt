@@ -1,7 +1,6 @@
 -- `reading::read_leading_rows` meets its contract: a number that can't be read, or is out of its range, ends the reading. Assumes nothing.
 
 use mathlib.Core.Path.{◌∙◌, sym, ap}
-use borrow.Author.Rules.{rules}
 use native.Mathlib.Omega.{arith}
 use Rattle.record.proofs.Faults.{unread}
 use Rattle.graph.specs.Limits.{min_vertices, max_vertices, max_edges}

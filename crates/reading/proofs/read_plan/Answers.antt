@@ -1,7 +1,6 @@
 -- `reading::read_plan` meets its contract. Assumes nothing.
 
 use mathlib.Core.Path.{◌∙◌}
-use borrow.Author.Rules.{rules}
 use Rattle.record.specs.Read.{ended}
 use Rattle.reading.specs.Plan.{plan}
 use Rattle.reading.proofs.Plans.{whole_arrays, head_few, valued}

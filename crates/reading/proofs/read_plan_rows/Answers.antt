@@ -1,7 +1,6 @@
 -- `reading::read_plan_rows` meets its contract. Assumes nothing.
 
 use mathlib.Core.Path.{◌∙◌}
-use borrow.Author.Rules.{rules}
 use Rattle.record.proofs.Faults.{not_accepted}
 use Rattle.reading.proofs.Reading.{whole_more, whole_done, whole_fault}
 use Rattle.reading.proofs.read_plan_rows.Goals as goal

@@ -1,7 +1,6 @@
 -- `reading::tested_edge` meets its contract: the tests that led to a return pick the case. Assumes nothing.
 
 use mathlib.Core.Path.{sym, ◌∙◌}
-use borrow.Author.Rules.{rules}
 use borrow.Author.Tests.{not-true, not-false}
 use Rattle.reading.specs.Code.{edge_read}
 use Rattle.reading.proofs.tested_edge.Goals as goal

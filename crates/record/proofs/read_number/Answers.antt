@@ -1,7 +1,6 @@
 -- `record::read_number` meets its contract: the tests that led to a return pick the case. Assumes nothing.
 
 use Prim.Native.Nat.{◌+◌}
-use borrow.Author.Rules.{rules}
 use native.Mathlib.Omega.{arith}
 use Rattle.record.specs.Number.{number_in, higher_groups}
 use Rattle.record.proofs.Tests.{tests}

@@ -1,7 +1,6 @@
 -- `script::answer_word` meets its contract. Assumes nothing.
 
 use mathlib.Core.Path.{◌∙◌}
-use borrow.Author.Rules.{rules}
 use Rattle.script.proofs.answer_word.Goals as goal
 
 pub returns-in-Grade : goal.returns-in-Grade

@@ -1,10 +1,8 @@
 -- `script::put_answer` meets its contract. Assumes nothing.
 
-use Prim.Native.Nat.{◌*◌, ◌-◌}
 use mathlib.Core.Path.{◌∙◌}
-use borrow.Author.Rules.{rules}
 use native.Mathlib.Omega.{arith}
-use Rattle.script.proofs.Answers.{Putting, put_start, put_next, put_end, answer_unput, answer_put}
+use Rattle.script.proofs.Answers.{put_start, put_next, put_end, answer_unput, answer_put}
 use Rattle.script.proofs.put_answer.Goals as goal
 
 pub returns-then-out-count : goal.returns-then-out-count

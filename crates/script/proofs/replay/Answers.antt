@@ -1,6 +1,5 @@
 -- `script::replay` meets its contract. Assumes nothing.
 
-use borrow.Author.Rules.{rules}
 use borrow.Author.Tests.{not-true, not-false}
 use native.Mathlib.Omega.{arith}
 use Rattle.script.proofs.Parts.{part_within}

@@ -1,14 +1,10 @@
 -- `script::replay_on` meets its contract. Assumes nothing.
 
-use Prim.Native.Nat.{◌-◌}
 use mathlib.Core.Path.{refl, ◌∙◌}
-use borrow.Author.Rules.{rules}
 use borrow.Author.Tests.{not-true, not-false}
 use native.Mathlib.Omega.{arith}
-use lib.ListN.{length}
-use Rattle.script.specs.Replay.{replay_on}
 use Rattle.script.proofs.Parts.{part_within}
-use Rattle.script.proofs.Calls.{Replaying, has_room_lem, script_done, call_unknown, lone_full, lone_answered, step_start, step-path, call_cut, call_full, call_answered}
+use Rattle.script.proofs.Calls.{has_room_lem, script_done, call_unknown, lone_full, lone_answered, step_start, step-path, call_cut, call_full, call_answered}
 use Rattle.script.proofs.replay_on.Goals as goal
 use Rattle.script.proofs.replay_on.Goals.{then-call-eq115, else-call-eq115}
 

@@ -1,13 +1,7 @@
 use Prim.Native.Nat.{◌-◌}
-use mathlib.Core.Path.{refl, ◌∙◌}
-use mathlib.Core.Logic.{⊎_elim}
-use borrow.Author.Rules.{rules}
-use borrow.Author.Tests.{not-true, not-false}
-use native.Mathlib.Omega.{arith}
 use lib.ListN.{length}
 use Rattle.script.specs.Replay.{replay_on}
-use Rattle.script.proofs.Parts.{part_within}
-use Rattle.script.proofs.Calls.{Replaying, has_room_lem, script_done, call_unknown, lone_full, lone_answered, step_start, step-path, call_cut, call_full, call_answered}
+use Rattle.script.proofs.Calls.{Replaying}
 use Rattle.script.proofs.replay_on.Given as goal
 
 abbrev pub invariant-loop-at : goal.invariant-loop-at

@@ -2,7 +2,6 @@
 
 use mathlib.Core.Path.{◌∙◌}
 use borrow.Author.Tests.{eq-eqb, ne_eqb}
-use borrow.Author.Rules.{rules}
 use Rattle.script.proofs.step.Goals as goal
 
 pub returns-then-call-eq115 : goal.returns-then-call-eq115

@@ -1,7 +1,6 @@
 -- `search::entry` meets its contract: past the end it gives the default. Assumes nothing.
 
 use native.Mathlib.Omega.{arith}
-use borrow.Author.Rules.{rules}
 use Rattle.search.proofs.Back.{entry_past, entry_out, entry_in}
 use Rattle.search.proofs.entry.Goals as goal
 

@@ -1,6 +1,5 @@
 -- `search::explore` meets its contract: the seeds are put, then come the visits. Assumes nothing.
 
-use borrow.Author.Rules.{rules}
 use Rattle.construction.specs.Sets.{members}
 use Rattle.construction.specs.Search.{explore}
 use Rattle.search.proofs.Members.{members-low}

@@ -1,11 +1,11 @@
 -- `search::put_all` meets its contract: after i turns the array holds the first i numbers of the list. Assumes nothing.
 
-use Prim.Native.Nat.{◌+◌, ◌-◌, ◌≤◌}
-use mathlib.Core.Path.{◌≡◌, refl}
+use Prim.Native.Nat.{◌+◌, ◌≤◌}
+use mathlib.Core.Path.{refl}
 use native.Mathlib.Omega.{arith}
 use borrow.Author.Rules.{rules}
 use lib.ListN.{length, length-set}
-use lib.Seq.{paste, paste-zero}
+use lib.Seq.{paste-zero}
 use Rattle.search.proofs.Puts.{put_none, put_turn, put_done}
 use Rattle.search.proofs.put_all.Goals as goal
 

@@ -1,11 +1,10 @@
 -- `search::put_copies` meets its contract: after i turns the array holds i of the copies. Assumes nothing.
 
-use Prim.Native.Nat.{◌-◌, ◌≤◌}
 use mathlib.Core.Path.{◌≡◌, refl}
 use native.Mathlib.Omega.{arith}
 use borrow.Author.Rules.{rules}
 use lib.ListN.{length, get_or, replicate, length-set, length-replicate, get_or-replicate}
-use lib.Seq.{paste, paste-zero}
+use lib.Seq.{paste-zero}
 use Rattle.search.proofs.Puts.{put_none, put_turn, put_done}
 use Rattle.search.proofs.put_copies.Goals as goal
 

@@ -1,10 +1,7 @@
 use Prim.Native.Nat.{◌-◌, ◌≤◌}
-use mathlib.Core.Path.{◌≡◌, refl}
-use native.Mathlib.Omega.{arith}
-use borrow.Author.Rules.{rules}
-use lib.ListN.{length, get_or, replicate, length-set, length-replicate, get_or-replicate}
-use lib.Seq.{paste, paste-zero}
-use Rattle.search.proofs.Puts.{put_none, put_turn, put_done}
+use mathlib.Core.Path.{◌≡◌}
+use lib.ListN.{length, replicate}
+use lib.Seq.{paste}
 use Rattle.search.proofs.put_copies.Given as goal
 
 abbrev pub invariant-loop-i : goal.invariant-loop-i

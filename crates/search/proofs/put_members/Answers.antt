@@ -7,8 +7,8 @@ use mir.Val.{Fits}
 use mir.Syntax.{w64}
 use borrow.Author.Rules.{rules}
 use Rattle.vertexset.specs.Set.{Words, word_count}
-use Rattle.vertexset.proofs.Walks.{Walks, ahead, left, walks_begin, walks_on, walks_less}
-use Rattle.search.proofs.Filling.{Filling, fill_length}
+use Rattle.vertexset.proofs.Walks.{walks_begin, walks_on, walks_less}
+use Rattle.search.proofs.Filling.{fill_length}
 use Rattle.search.proofs.Members.{listed, members-none, members-begin, members-place, members-turn, members-passes, members-done}
 use Rattle.search.proofs.put_members.Goals as goal
 

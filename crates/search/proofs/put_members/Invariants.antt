@@ -1,13 +1,6 @@
-use mathlib.Core.Path.{◌≡◌, sym, ◌∙◌}
-use native.Mathlib.Omega.{arith}
-use lib.ListN.{length, get_or}
-use mir.Val.{Fits}
-use mir.Syntax.{w64}
-use borrow.Author.Rules.{rules}
-use Rattle.vertexset.specs.Set.{Words, word_count}
-use Rattle.vertexset.proofs.Walks.{Walks, ahead, left, walks_begin, walks_on, walks_less}
-use Rattle.search.proofs.Filling.{Filling, fill_length}
-use Rattle.search.proofs.Members.{listed, members-none, members-begin, members-place, members-turn, members-passes, members-done}
+use Rattle.vertexset.proofs.Walks.{Walks, ahead, left}
+use Rattle.search.proofs.Filling.{Filling}
+use Rattle.search.proofs.Members.{listed}
 use Rattle.search.proofs.put_members.Given as goal
 
 abbrev pub invariant-loop-set : goal.invariant-loop-set

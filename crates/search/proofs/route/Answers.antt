@@ -1,11 +1,7 @@
 -- `search::route` meets its contract: what was put so far, with the way back that is left, is the whole route. Assumes nothing.
 
 use native.Mathlib.Omega.{arith}
-use lib.ListN.{take, drop}
-use borrow.Author.Rules.{rules}
-use Rattle.vertexset.specs.Set.{capacity}
-use Rattle.search.specs.Code.{route_in}
-use Rattle.search.proofs.Back.{Going, going-first, going_end, going-seed, going_on}
+use Rattle.search.proofs.Back.{going-first, going_end, going-seed, going_on}
 use Rattle.search.proofs.route.Goals as goal
 
 pub loop-left-init : goal.loop-left-init

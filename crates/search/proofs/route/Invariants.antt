@@ -1,9 +1,7 @@
-use native.Mathlib.Omega.{arith}
 use lib.ListN.{take, drop}
-use borrow.Author.Rules.{rules}
 use Rattle.vertexset.specs.Set.{capacity}
 use Rattle.search.specs.Code.{route_in}
-use Rattle.search.proofs.Back.{Going, going-first, going_end, going-seed, going_on}
+use Rattle.search.proofs.Back.{Going}
 use Rattle.search.proofs.route.Given as goal
 
 abbrev pub invariant-loop-left : goal.invariant-loop-left

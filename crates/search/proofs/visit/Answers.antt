@@ -1,12 +1,9 @@
 -- `search::visit` meets its contract: what is left of the definition's visits gives the whole. Assumes nothing.
 
-use Prim.Native.Nat.{◌-◌}
 use mathlib.Core.Path.{sym, ◌∙◌}
 use native.Mathlib.Omega.{arith}
 use borrow.Author.Rules.{rules}
-use Rattle.vertexset.specs.Set.{capacity}
-use Rattle.search.specs.Code.{visits_in}
-use Rattle.search.proofs.Visits.{Visiting, begun, now_length, head_low, goal_of, found, ended, again}
+use Rattle.search.proofs.Visits.{begun, now_length, head_low, goal_of, found, ended, again}
 use Rattle.search.proofs.visit.Goals as goal
 
 pub loop-head-init : goal.loop-head-init

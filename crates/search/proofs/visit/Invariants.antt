@@ -1,10 +1,7 @@
 use Prim.Native.Nat.{◌-◌}
-use mathlib.Core.Path.{sym, ◌∙◌}
-use native.Mathlib.Omega.{arith}
-use borrow.Author.Rules.{rules}
 use Rattle.vertexset.specs.Set.{capacity}
 use Rattle.search.specs.Code.{visits_in}
-use Rattle.search.proofs.Visits.{Visiting, begun, now_length, head_low, goal_of, found, ended, again}
+use Rattle.search.proofs.Visits.{Visiting}
 use Rattle.search.proofs.visit.Given as goal
 
 abbrev pub invariant-loop-head : goal.invariant-loop-head

@@ -2,7 +2,6 @@
 
 use mathlib.Core.Path.{◌∙◌}
 use Rattle.sessions.proofs.Calls.{open_refused, open_few, open_accepted}
-use borrow.Author.Rules.{rules}
 use Rattle.sessions.proofs.open.Goals as goal
 
 pub returns-in_default : goal.returns-in_default

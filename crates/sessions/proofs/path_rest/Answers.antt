@@ -1,7 +1,6 @@
 -- `sessions::path_rest` meets its contract. Assumes nothing.
 
 use mathlib.Core.Path.{◌∙◌}
-use borrow.Author.Rules.{rules}
 use Rattle.sessions.proofs.path_rest.Goals as goal
 
 pub returns : goal.returns

@@ -1,6 +1,5 @@
 -- `sessions::rest` meets its contract. Assumes nothing.
 
-use borrow.Author.Rules.{rules}
 use Rattle.sessions.proofs.Calls.{part_rest, no_rest}
 use Rattle.sessions.proofs.rest.Goals as goal
 

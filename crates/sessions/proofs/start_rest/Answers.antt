@@ -1,7 +1,6 @@
 -- `sessions::start_rest` meets its contract. Assumes nothing.
 
 use mathlib.Core.Path.{◌∙◌}
-use borrow.Author.Rules.{rules}
 use Rattle.sessions.proofs.start_rest.Goals as goal
 
 pub returns : goal.returns

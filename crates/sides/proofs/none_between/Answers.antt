@@ -7,9 +7,8 @@ use mir.Syntax.{w64}
 use borrow.Author.Rules.{rules}
 use borrow.Author.Tests.{not-true, not-false}
 use Rattle.vertexset.specs.Set.{Words, has, word_count}
-use Rattle.vertexset.proofs.Walks.{Walks, ahead, left, walks_begin, walks_on, walks_less}
-use Rattle.connectivity.specs.Lists.{all}
-use Rattle.sides.specs.Code.{misses_row, none_between}
+use Rattle.vertexset.proofs.Walks.{walks_begin, walks_on, walks_less}
+use Rattle.sides.specs.Code.{misses_row}
 use Rattle.sides.proofs.Between.{clear_begin, clear_over, clear_passes, met_all}
 use Rattle.sides.proofs.none_between.Goals as goal
 

@@ -1,7 +1,6 @@
 -- `sides::read_pair` meets its contract: a pair is read whole, then tested. Assumes nothing.
 
 use mathlib.Core.Path.{◌∙◌, sym, ap, refl}
-use borrow.Author.Rules.{rules}
 use Rattle.sides.specs.Code.{pair_read}
 use Rattle.paths.proofs.Told.{value_told, fault_told}
 use Rattle.sides.proofs.Reading.{pair-first, pair-second, pair-tested}

@@ -1,7 +1,6 @@
 -- `sides::read_side` meets its contract: a side is read whole, then tested. Assumes nothing.
 
 use mathlib.Core.Path.{◌∙◌}
-use borrow.Author.Rules.{rules}
 use Rattle.vertexset.specs.Set.{has}
 use Rattle.certificates.specs.Records.{side}
 use Rattle.graph.specs.Rows.{rows_graph}

@@ -1,7 +1,6 @@
 -- `sides::read_side_vertex` meets its contract: a vertex is read, then tested. Assumes nothing.
 
 use mathlib.Core.Path.{◌∙◌, sym, ap, refl}
-use borrow.Author.Rules.{rules}
 use borrow.Author.Tests.{le-leb, lt-leb}
 use Rattle.paths.specs.Items.{item_read}
 use Rattle.paths.proofs.Told.{value_told, fault_told}

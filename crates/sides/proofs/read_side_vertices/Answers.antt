@@ -1,12 +1,9 @@
 -- `sides::read_side_vertices` meets its contract: what is left to read gives the same from here as from the start. Assumes nothing.
 
-use mathlib.Core.Path.{◌≡◌, ◌∙◌}
+use mathlib.Core.Path.{◌∙◌}
 use native.Mathlib.Numerals.{add-one}
 use borrow.Author.Rules.{rules}
-use Rattle.vertexset.specs.Set.{has, empty_set}
-use Rattle.record.specs.Loop.{runs}
 use Rattle.record.proofs.Loops.{turn_go, turn_stop, turn_done}
-use Rattle.sides.specs.Code.{side_loop}
 use Rattle.paths.proofs.Told.{value_told, fault_told}
 use Rattle.sides.proofs.Reading.{side_vertex-low}
 use Rattle.sides.proofs.read_side_vertices.Goals as goal

@@ -1,12 +1,7 @@
-use mathlib.Core.Path.{◌≡◌, ◌∙◌}
-use native.Mathlib.Numerals.{add-one}
-use borrow.Author.Rules.{rules}
+use mathlib.Core.Path.{◌≡◌}
 use Rattle.vertexset.specs.Set.{has, empty_set}
 use Rattle.record.specs.Loop.{runs}
-use Rattle.record.proofs.Loops.{turn_go, turn_stop, turn_done}
 use Rattle.sides.specs.Code.{side_loop}
-use Rattle.paths.proofs.Told.{value_told, fault_told}
-use Rattle.sides.proofs.Reading.{side_vertex-low}
 use Rattle.sides.proofs.read_side_vertices.Given as goal
 
 abbrev pub invariant-loop-left : goal.invariant-loop-left

@@ -4,7 +4,6 @@ use Prim.Native.Nat.{ℕ}
 use mathlib.Core.Bool.{Bool}
 use mathlib.Core.Path.{◌≡◌, ◌∙◌, ap, sym}
 use native.Mathlib.Omega.{arith}
-use borrow.Author.Rules.{rules}
 use Rattle.vertexset.specs.Set.{has}
 use Rattle.certificates.specs.Tests.{with, nobody}
 use Rattle.certificates.specs.Records.{side, body}

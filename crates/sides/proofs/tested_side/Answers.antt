@@ -1,7 +1,6 @@
 -- `sides::tested_side` meets its contract: the tests that led to a return pick the case. Assumes nothing.
 
 use mathlib.Core.Path.{refl, ◌∙◌, sym}
-use borrow.Author.Rules.{rules}
 use borrow.Author.Tests.{not-true, not-false}
 use Rattle.vertexset.specs.Set.{has}
 use Rattle.graph.specs.Rows.{rows_graph}

@@ -3,7 +3,6 @@
 use mathlib.Core.Path.{ap, ◌∙◌}
 use mathlib.Core.List.{List, ◌∷◌}
 use Prim.Native.Nat.{ℕ}
-use borrow.Author.Rules.{rules}
 use Rattle.construction.specs.Sets.{stop}
 use Rattle.construction.specs.Start.{link_in}
 use Rattle.search.specs.Arrays.{placed, placed_end}

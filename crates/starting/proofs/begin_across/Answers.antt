@@ -1,7 +1,6 @@
 -- `starting::begin_across` meets its contract. Assumes nothing.
 
 use mathlib.Core.Path.{ap, ◌∙◌}
-use borrow.Author.Rules.{rules}
 use Rattle.starting.specs.Code.{start_of}
 use Rattle.starting.proofs.Searches.{across-cut, across-on}
 use Rattle.starting.proofs.begin_across.Goals as goal

@@ -1,7 +1,6 @@
 -- `starting::begin_around` meets its contract. Assumes nothing.
 
 use mathlib.Core.Path.{ap, ◌∙◌}
-use borrow.Author.Rules.{rules}
 use Rattle.starting.specs.Code.{start_of}
 use Rattle.starting.proofs.Searches.{third_cut, third_on}
 use Rattle.starting.proofs.begin_around.Goals as goal

@@ -2,7 +2,6 @@
 
 use mathlib.Core.Path.{◌∙◌}
 use native.Mathlib.Omega.{arith}
-use borrow.Author.Rules.{rules}
 use Rattle.detours.proofs.Filled.{filled_length}
 use Rattle.starting.proofs.Paths.{closed_filled, three_room, three_marked}
 use Rattle.starting.proofs.join_paths.Goals as goal

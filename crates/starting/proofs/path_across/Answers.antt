@@ -2,7 +2,6 @@
 
 use mathlib.Core.Path.{ap, ◌∙◌}
 use mathlib.Core.List.{[]}
-use borrow.Author.Rules.{rules}
 use Rattle.construction.specs.Search.{explore}
 use Rattle.detours.specs.Code.{found_of}
 use Rattle.detours.proofs.Answered.{answered-told}

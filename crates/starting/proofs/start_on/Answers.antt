@@ -1,6 +1,5 @@
 -- `starting::start_on` meets its contract. Assumes nothing.
 
-use borrow.Author.Rules.{rules}
 use Rattle.starting.proofs.Links.{start_is}
 use Rattle.starting.proofs.start_on.Goals as goal
 

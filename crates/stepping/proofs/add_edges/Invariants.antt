@@ -1,16 +1,11 @@
-use Prim.Native.Nat.{ℕ, ◌+◌}
-use mathlib.Core.Path.{◌≡◌, refl, sym, ap, ◌∙◌}
-use mathlib.Core.List.{List, [], ◌∷◌}
-use lib.ListN.{length, get_or, set, take, length-set}
-use mir.Val.{Fits}
-use mir.Syntax.{w64}
-use borrow.Author.Rules.{rules}
-use Rattle.vertexset.specs.Set.{Words, word_count}
-use Rattle.vertexset.proofs.Walks.{Walks, ahead, left, walks_begin, walks_on, walks_less}
+use Prim.Native.Nat.{◌+◌}
+use mathlib.Core.Path.{◌≡◌}
+use mathlib.Core.List.{[], ◌∷◌}
+use lib.ListN.{get_or, take}
+use Rattle.vertexset.proofs.Walks.{Walks, ahead, left}
 use Rattle.construction.specs.Sets.{members_from}
 use Rattle.construction.specs.Steps.{add_edges}
-use Rattle.detours.proofs.Filled.{filled_length, kept_flat}
-use Rattle.stepping.proofs.Edges.{Adding, edges-start, edges-turn, edges-passes, edges-end}
+use Rattle.stepping.proofs.Edges.{Adding}
 use Rattle.stepping.proofs.add_edges.Given as goal
 
 abbrev pub invariant-loop-set : goal.invariant-loop-set

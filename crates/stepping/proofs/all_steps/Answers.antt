@@ -1,13 +1,6 @@
 -- `stepping::all_steps` meets its contract: the steps that are left give the state that all steps give. Assumes nothing.
 
-use Prim.Native.Nat.{◌+◌}
-use mathlib.Core.Path.{◌≡◌, refl, sym, ◌∙◌}
-use lib.ListN.{length}
-use borrow.Author.Rules.{rules}
-use Rattle.graph.specs.Limits.{max_edges}
-use Rattle.search.specs.Code.{search_space}
-use Rattle.construction.specs.Steps.{steps}
-use Rattle.stepping.specs.Code.{state_in, Holds, Works}
+use mathlib.Core.Path.{refl, sym, ◌∙◌}
 use Rattle.detours.proofs.Kept.{kept_length}
 use Rattle.stepping.proofs.Working.{none-works}
 use Rattle.stepping.proofs.Stepping.{steps-stopped, steps-none, steps-turn}

@@ -1,14 +1,10 @@
 use Prim.Native.Nat.{◌+◌}
-use mathlib.Core.Path.{◌≡◌, refl, sym, ◌∙◌}
+use mathlib.Core.Path.{◌≡◌}
 use lib.ListN.{length}
-use borrow.Author.Rules.{rules}
 use Rattle.graph.specs.Limits.{max_edges}
 use Rattle.search.specs.Code.{search_space}
 use Rattle.construction.specs.Steps.{steps}
 use Rattle.stepping.specs.Code.{state_in, Holds, Works}
-use Rattle.detours.proofs.Kept.{kept_length}
-use Rattle.stepping.proofs.Working.{none-works}
-use Rattle.stepping.proofs.Stepping.{steps-stopped, steps-none, steps-turn}
 use Rattle.stepping.proofs.all_steps.Given as goal
 
 abbrev pub invariant-loop-left : goal.invariant-loop-left

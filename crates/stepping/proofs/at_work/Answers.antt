@@ -1,7 +1,6 @@
 -- `stepping::at_work` meets its contract. Assumes nothing.
 
 use mathlib.Core.Path.{sym, ◌∙◌}
-use borrow.Author.Rules.{rules}
 use Rattle.stepping.proofs.Working.{none-works, none-inner, run_works, run_over}
 use Rattle.stepping.proofs.at_work.Goals as goal
 

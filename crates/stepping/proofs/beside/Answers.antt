@@ -1,7 +1,6 @@
 -- `stepping::beside` meets its contract. Assumes nothing.
 
 use mathlib.Core.Path.{◌∙◌}
-use borrow.Author.Rules.{rules}
 use Rattle.stepping.proofs.beside.Goals as goal
 
 pub returns-then-adjacent : goal.returns-then-adjacent

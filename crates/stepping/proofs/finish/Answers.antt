@@ -4,12 +4,10 @@ use Prim.Native.Nat.{ℕ, ◌-◌}
 use mathlib.Core.Path.{◌≡◌, sym, ap, ◌∙◌}
 use native.Mathlib.Omega.{arith}
 use lib.ListN.{take}
-use borrow.Author.Rules.{rules}
 use Rattle.graph.specs.Rows.{bare_rows}
 use Rattle.construction.specs.Start.{marked}
-use Rattle.construction.specs.Steps as construction
 use Rattle.detours.proofs.Filled.{filled_length, flat_kept, kept_flat}
-use Rattle.stepping.proofs.Edges.{Finishing, rows_start, rows_turn, rows_end}
+use Rattle.stepping.proofs.Edges.{rows_start, rows_turn, rows_end}
 use Rattle.stepping.proofs.finish.Goals as goal
 
 pub slice_bounds-mark-end : goal.slice_bounds-mark-end

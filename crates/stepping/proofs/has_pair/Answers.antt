@@ -1,10 +1,10 @@
 -- `stepping::has_pair` meets its contract: what was met so far, or what is left, tells of the whole list. Assumes nothing.
 
-use Prim.Native.Nat.{◌+◌, ◌-◌, ◌≤◌}
+use Prim.Native.Nat.{◌+◌, ◌-◌}
 use mathlib.Core.Path.{◌≡◌, refl, sym, ap, ◌∙◌}
 use mathlib.Core.Bool.{Bool, ◌||◌, or-false, or_assoc}
 use native.Mathlib.Omega.{arith}
-use lib.ListN.{length, drop, get_or}
+use lib.ListN.{drop, get_or}
 use borrow.Author.Rules.{rules}
 use Rattle.stepping.specs.Code.{has_pair}
 use Rattle.stepping.proofs.Lists.{two_are}

@@ -1,12 +1,8 @@
-use Prim.Native.Nat.{◌+◌, ◌-◌, ◌≤◌}
-use mathlib.Core.Path.{◌≡◌, refl, sym, ap, ◌∙◌}
-use mathlib.Core.Bool.{Bool, ◌||◌, or-false, or_assoc}
-use native.Mathlib.Omega.{arith}
-use lib.ListN.{length, drop, get_or}
-use borrow.Author.Rules.{rules}
+use Prim.Native.Nat.{◌-◌, ◌≤◌}
+use mathlib.Core.Path.{◌≡◌}
+use mathlib.Core.Bool.{◌||◌}
+use lib.ListN.{length, drop}
 use Rattle.stepping.specs.Code.{has_pair}
-use Rattle.stepping.proofs.Lists.{two_are}
-use Rattle.stepping.proofs.Pairs.{has-turn, has_end}
 use Rattle.stepping.proofs.has_pair.Given as goal
 
 abbrev pub invariant-loop-i : goal.invariant-loop-i

@@ -1,7 +1,6 @@
 -- `stepping::out_step` meets its contract. Assumes nothing.
 
 use native.Mathlib.Omega.{arith}
-use borrow.Author.Rules.{rules}
 use Rattle.detours.proofs.Answered.{detour-told}
 use Rattle.detours.proofs.Kept.{kept_length}
 use Rattle.stepping.proofs.Stepping.{part_short, out_done, out_stops, out_reroutes, out_extends}

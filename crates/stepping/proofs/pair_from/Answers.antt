@@ -1,10 +1,7 @@
 -- `stepping::pair_from` meets its contract: the place from here on is the place from where it began. Assumes nothing.
 
-use Prim.Native.Nat.{◌+◌, ◌-◌, ◌≤◌}
-use mathlib.Core.Path.{◌≡◌, refl, ◌∙◌}
+use mathlib.Core.Path.{refl, ◌∙◌}
 use borrow.Author.Rules.{rules}
-use lib.ListN.{length, drop}
-use Rattle.construction.specs.Steps.{pair_place}
 use Rattle.stepping.proofs.Lists.{pair-here, pair_turn, pair_end}
 use Rattle.stepping.proofs.pair_from.Goals as goal
 

@@ -1,9 +1,7 @@
 use Prim.Native.Nat.{◌+◌, ◌-◌, ◌≤◌}
-use mathlib.Core.Path.{◌≡◌, refl, ◌∙◌}
-use borrow.Author.Rules.{rules}
+use mathlib.Core.Path.{◌≡◌}
 use lib.ListN.{length, drop}
 use Rattle.construction.specs.Steps.{pair_place}
-use Rattle.stepping.proofs.Lists.{pair-here, pair_turn, pair_end}
 use Rattle.stepping.proofs.pair_from.Given as goal
 
 abbrev pub invariant-loop-i : goal.invariant-loop-i

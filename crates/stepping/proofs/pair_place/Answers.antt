@@ -1,11 +1,8 @@
 -- `stepping::pair_place` meets its contract: the place from here on is the place from the start. Assumes nothing.
 
-use Prim.Native.Nat.{◌+◌, ◌-◌, ◌≤◌}
-use mathlib.Core.Path.{◌≡◌, sym, ◌∙◌}
+use mathlib.Core.Path.{sym, ◌∙◌}
 use native.Mathlib.Omega.{arith}
 use borrow.Author.Rules.{rules}
-use lib.ListN.{length, drop}
-use Rattle.construction.specs.Steps.{pair_place}
 use Rattle.stepping.proofs.Pairs.{pair-skip_from}
 use Rattle.stepping.proofs.pair_place.Goals as goal
 

@@ -1,10 +1,7 @@
 use Prim.Native.Nat.{◌+◌, ◌-◌, ◌≤◌}
-use mathlib.Core.Path.{◌≡◌, sym, ◌∙◌}
-use native.Mathlib.Omega.{arith}
-use borrow.Author.Rules.{rules}
+use mathlib.Core.Path.{◌≡◌}
 use lib.ListN.{length, drop}
 use Rattle.construction.specs.Steps.{pair_place}
-use Rattle.stepping.proofs.Pairs.{pair-skip_from}
 use Rattle.stepping.proofs.pair_place.Given as goal
 
 abbrev pub invariant-loop-i : goal.invariant-loop-i

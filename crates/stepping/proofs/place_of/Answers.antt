@@ -1,10 +1,6 @@
 -- `stepping::place_of` meets its contract: the place from here on is the place from the start. Assumes nothing.
 
-use Prim.Native.Nat.{◌+◌, ◌-◌}
-use mathlib.Core.Path.{◌≡◌, refl, ◌∙◌}
-use borrow.Author.Rules.{rules}
-use lib.ListN.{length, drop}
-use Rattle.construction.specs.Sets.{place_of}
+use mathlib.Core.Path.{refl, ◌∙◌}
 use Rattle.stepping.specs.Code.{side_of}
 use Rattle.stepping.proofs.Lists.{side-test, place_here, place_turn, place_end}
 use Rattle.stepping.proofs.place_of.Goals as goal

@@ -1,10 +1,8 @@
 use Prim.Native.Nat.{◌+◌, ◌-◌}
-use mathlib.Core.Path.{◌≡◌, refl, ◌∙◌}
-use borrow.Author.Rules.{rules}
+use mathlib.Core.Path.{◌≡◌}
 use lib.ListN.{length, drop}
 use Rattle.construction.specs.Sets.{place_of}
 use Rattle.stepping.specs.Code.{side_of}
-use Rattle.stepping.proofs.Lists.{side-test, place_here, place_turn, place_end}
 use Rattle.stepping.proofs.place_of.Given as goal
 
 abbrev pub invariant-loop-i : goal.invariant-loop-i

@@ -1,13 +1,8 @@
 -- `stepping::reversed` meets its contract: what was passed stands reversed at the front. Assumes nothing.
 
-use Prim.Native.Nat.{◌+◌, ◌≤◌}
-use mathlib.Core.Path.{◌≡◌}
+use Prim.Native.Nat.{◌≤◌}
 use native.Mathlib.Omega.{arith}
-use borrow.Author.Rules.{rules}
-use lib.ListN.{length, drop}
-use Rattle.search.specs.Arrays.{padded}
-use Rattle.search.specs.Code.{path_room}
-use Rattle.construction.specs.Sets.{reversed}
+use lib.ListN.{length}
 use Rattle.stepping.proofs.Lists.{reversed-none, reversed-put, reversed-done}
 use Rattle.stepping.proofs.reversed.Goals as goal
 

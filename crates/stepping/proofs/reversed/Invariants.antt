@@ -1,12 +1,9 @@
-use Prim.Native.Nat.{◌+◌, ◌≤◌}
+use Prim.Native.Nat.{◌+◌}
 use mathlib.Core.Path.{◌≡◌}
-use native.Mathlib.Omega.{arith}
-use borrow.Author.Rules.{rules}
 use lib.ListN.{length, drop}
 use Rattle.search.specs.Arrays.{padded}
 use Rattle.search.specs.Code.{path_room}
 use Rattle.construction.specs.Sets.{reversed}
-use Rattle.stepping.proofs.Lists.{reversed-none, reversed-put, reversed-done}
 use Rattle.stepping.proofs.reversed.Given as goal
 
 abbrev pub invariant-loop-i : goal.invariant-loop-i

@@ -1,10 +1,9 @@
 -- `stepping::shift` meets its contract: the numbers from here on have moved up. Assumes nothing.
 
-use Prim.Native.Nat.{ℕ, ◌≤◌}
+use Prim.Native.Nat.{ℕ}
 use mathlib.Core.Path.{◌≡◌, refl, ap, ◌∙◌}
 use native.Mathlib.Omega.{arith}
-use borrow.Author.Rules.{rules}
-use lib.ListN.{length, length-set}
+use lib.ListN.{length-set}
 use Rattle.stepping.proofs.Lists.{moved, moved_none, moved_turn}
 use Rattle.stepping.proofs.shift.Goals as goal
 

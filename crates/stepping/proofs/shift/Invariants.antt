@@ -1,9 +1,7 @@
-use Prim.Native.Nat.{ℕ, ◌≤◌}
-use mathlib.Core.Path.{◌≡◌, refl, ap, ◌∙◌}
-use native.Mathlib.Omega.{arith}
-use borrow.Author.Rules.{rules}
-use lib.ListN.{length, length-set}
-use Rattle.stepping.proofs.Lists.{moved, moved_none, moved_turn}
+use Prim.Native.Nat.{◌≤◌}
+use mathlib.Core.Path.{◌≡◌}
+use lib.ListN.{length}
+use Rattle.stepping.proofs.Lists.{moved}
 use Rattle.stepping.proofs.shift.Given as goal
 
 abbrev pub invariant-loop-i : goal.invariant-loop-i

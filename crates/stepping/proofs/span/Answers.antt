@@ -1,11 +1,8 @@
 -- `stepping::span` meets its contract: what was looked at so far, and the rest of the run, are the run. Assumes nothing.
 
-use Prim.Native.Nat.{◌-◌}
 use mathlib.Core.Path.{refl, sym, ap, ◌∙◌}
 use mathlib.Core.Bool.{not}
-use lib.ListN.{length}
-use borrow.Author.Rules.{rules}
-use Rattle.stepping.proofs.Working.{Looked, look_begin, look_turn, look_stop, look_end}
+use Rattle.stepping.proofs.Working.{look_begin, look_turn, look_stop, look_end}
 use Rattle.stepping.proofs.span.Goals as goal
 
 pub loop-i-init : goal.loop-i-init

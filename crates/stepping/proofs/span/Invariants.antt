@@ -1,9 +1,6 @@
 use Prim.Native.Nat.{◌-◌}
-use mathlib.Core.Path.{refl, sym, ap, ◌∙◌}
-use mathlib.Core.Bool.{not}
 use lib.ListN.{length}
-use borrow.Author.Rules.{rules}
-use Rattle.stepping.proofs.Working.{Looked, look_begin, look_turn, look_stop, look_end}
+use Rattle.stepping.proofs.Working.{Looked}
 use Rattle.stepping.proofs.span.Given as goal
 
 abbrev pub invariant-loop-i : goal.invariant-loop-i

@@ -1,7 +1,6 @@
 -- `stepping::step` meets its contract. Assumes nothing.
 
 use native.Mathlib.Omega.{arith}
-use borrow.Author.Rules.{rules}
 use Rattle.detours.proofs.Kept.{kept_length}
 use Rattle.stepping.proofs.Working.{none-works}
 use Rattle.stepping.proofs.Stepping.{front_works, works_front, front_over, step-link, step-out}

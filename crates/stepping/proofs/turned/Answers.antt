@@ -2,7 +2,6 @@
 
 use mathlib.Core.Path.{sym, ap, ◌∙◌}
 use native.Mathlib.Omega.{arith}
-use borrow.Author.Rules.{rules}
 use Rattle.search.specs.Code.{path_of}
 use Rattle.stepping.proofs.Turns.{inner_length, turned_none, turned_same, turned-other}
 use Rattle.stepping.proofs.turned.Goals as goal

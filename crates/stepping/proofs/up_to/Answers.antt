@@ -1,6 +1,5 @@
 -- `stepping::up_to` meets its contract. Assumes nothing.
 
-use borrow.Author.Rules.{rules}
 use Rattle.stepping.proofs.Stepping.{up_to-part, up_to-all}
 use Rattle.stepping.proofs.up_to.Goals as goal
 

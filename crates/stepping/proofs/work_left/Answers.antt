@@ -2,7 +2,6 @@
 
 use mathlib.Core.Path.{refl}
 use mathlib.Core.Logic.{inl, inr}
-use borrow.Author.Rules.{rules}
 use Rattle.stepping.proofs.Working.{left_told}
 use Rattle.stepping.proofs.work_left.Goals as goal
 

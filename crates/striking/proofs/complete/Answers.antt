@@ -1,11 +1,6 @@
 -- `striking::complete` meets its contract: the rows, with the pairs joined that are still to come, stay the same. Assumes nothing.
 
-use Prim.Native.Nat.{◌+◌, ◌-◌, ◌*◌}
-use borrow.Author.Rules.{rules}
-use Rattle.record.specs.Read.{folded}
-use Rattle.graph.specs.Rows.{joined}
-use Rattle.reading.specs.Pairs.{pairs_of}
-use Rattle.striking.proofs.Forward.{Joining, join_start, join_row, join_next, join_end}
+use Rattle.striking.proofs.Forward.{join_start, join_row, join_next, join_end}
 use Rattle.striking.proofs.complete.Goals as goal
 
 pub loop-u-init : goal.loop-u-init

@@ -1,9 +1,8 @@
 use Prim.Native.Nat.{◌+◌, ◌-◌, ◌*◌}
-use borrow.Author.Rules.{rules}
 use Rattle.record.specs.Read.{folded}
 use Rattle.graph.specs.Rows.{joined}
 use Rattle.reading.specs.Pairs.{pairs_of}
-use Rattle.striking.proofs.Forward.{Joining, join_start, join_row, join_next, join_end}
+use Rattle.striking.proofs.Forward.{Joining}
 use Rattle.striking.proofs.complete.Given as goal
 
 abbrev pub invariant-loop-u : goal.invariant-loop-u

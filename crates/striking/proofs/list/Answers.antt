@@ -1,11 +1,9 @@
 -- `striking::list` meets its contract: the pairs listed, with those still to come, are all. Assumes nothing.
 
-use Prim.Native.Nat.{◌+◌, ◌-◌, ◌*◌}
 use mathlib.Core.Path.{sym, ◌∙◌}
 use native.Mathlib.Omega.{arith}
 use borrow.Author.Tests.{not-true, not-false}
-use borrow.Author.Rules.{rules}
-use Rattle.striking.proofs.Listing.{Listing, list_start, list_few, list_row, list_apart, list_planned, list_full, list_put, list_end}
+use Rattle.striking.proofs.Listing.{list_start, list_few, list_row, list_apart, list_planned, list_full, list_put, list_end}
 use Rattle.striking.proofs.list.Goals as goal
 
 pub loop-u-init : goal.loop-u-init

@@ -1,9 +1,5 @@
 use Prim.Native.Nat.{◌+◌, ◌-◌, ◌*◌}
-use mathlib.Core.Path.{sym, ◌∙◌}
-use native.Mathlib.Omega.{arith}
-use borrow.Author.Tests.{not-true, not-false}
-use borrow.Author.Rules.{rules}
-use Rattle.striking.proofs.Listing.{Listing, list_start, list_few, list_row, list_apart, list_planned, list_full, list_put, list_end}
+use Rattle.striking.proofs.Listing.{Listing}
 use Rattle.striking.proofs.list.Given as goal
 
 abbrev pub invariant-loop-u : goal.invariant-loop-u

@@ -2,7 +2,6 @@
 
 use mathlib.Core.Path.{◌∙◌}
 use borrow.Author.Tests.{lt-ltb, le-ltb}
-use borrow.Author.Rules.{rules}
 use Rattle.vertexset.specs.Set.{capacity}
 use Rattle.striking.specs.Code.{list_in}
 use Rattle.striking.proofs.mend_list.Goals as goal

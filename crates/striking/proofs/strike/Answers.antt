@@ -1,7 +1,6 @@
 -- `striking::strike` meets its contract: the tests are known at each way out. Assumes nothing.
 
 use mathlib.Core.Path.{sym, ◌∙◌}
-use borrow.Author.Rules.{rules}
 use Rattle.striking.specs.Code.{struck_by}
 use Rattle.striking.proofs.strike.Goals as goal
 

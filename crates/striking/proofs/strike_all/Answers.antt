@@ -1,13 +1,7 @@
 -- `striking::strike_all` meets its contract: the rows, with the pairs looked at that are still to come, stay the same. Assumes nothing.
 
-use Prim.Native.Nat.{◌+◌, ◌*◌}
-use mathlib.Core.List.{reverse}
 use native.Mathlib.Omega.{arith}
-use borrow.Author.Rules.{rules}
-use Rattle.record.specs.Read.{folded}
-use Rattle.reading.specs.Pairs.{pairs_of}
-use Rattle.striking.specs.Code.{struck_by}
-use Rattle.striking.proofs.Backward.{Striking, strike_start, strike_row, strike_next, strike_end}
+use Rattle.striking.proofs.Backward.{strike_start, strike_row, strike_next, strike_end}
 use Rattle.striking.proofs.strike_all.Goals as goal
 
 pub loop-v-init : goal.loop-v-init

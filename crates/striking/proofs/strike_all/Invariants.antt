@@ -1,11 +1,9 @@
 use Prim.Native.Nat.{◌+◌, ◌*◌}
 use mathlib.Core.List.{reverse}
-use native.Mathlib.Omega.{arith}
-use borrow.Author.Rules.{rules}
 use Rattle.record.specs.Read.{folded}
 use Rattle.reading.specs.Pairs.{pairs_of}
 use Rattle.striking.specs.Code.{struck_by}
-use Rattle.striking.proofs.Backward.{Striking, strike_start, strike_row, strike_next, strike_end}
+use Rattle.striking.proofs.Backward.{Striking}
 use Rattle.striking.proofs.strike_all.Given as goal
 
 abbrev pub invariant-loop-v : goal.invariant-loop-v

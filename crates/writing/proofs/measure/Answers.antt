@@ -1,15 +1,12 @@
 -- `writing::measure` meets its contract: what is left is in order where all are, and what was counted and what is left are all. Assumes nothing.
 
-use Prim.Native.Nat.{◌≤◌, ◌-◌}
 use mathlib.Core.Path.{◌≡◌, sym, ◌∙◌}
 use native.Mathlib.Omega.{arith}
-use borrow.Author.Rules.{rules}
-use borrow.Author.Tests.{not-true, not-false}
-use mathlib.Core.Logic.{⊎_elim}
+use borrow.Author.Tests.{not-false}
 use mathlib.Core.Bool.{false}
 use Rattle.record.proofs.Write.{few_bytes}
 use Rattle.writing.specs.Write.{edge_at, edges_of, edges_in_order}
-use Rattle.writing.proofs.Edges.{Measured, measure_start, measure_here, measure_improper, measure_behind, measure_end}
+use Rattle.writing.proofs.Edges.{measure_start, measure_here, measure_improper, measure_behind, measure_end}
 use Rattle.writing.proofs.measure.Goals as goal
 use Rattle.writing.proofs.measure.Goals.{then-not-proper-via-then-not-proper, then-not-proper-via-else-not-proper+then-not-follows}
 

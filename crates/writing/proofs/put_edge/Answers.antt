@@ -4,7 +4,6 @@ use Prim.Native.Nat.{◌+◌, ◌≤◌}
 use lib.ListN.{length}
 use Rattle.record.specs.Number.{number_bytes}
 use Rattle.record.proofs.Write.{both_room, both_put}
-use borrow.Author.Rules.{rules}
 use native.Mathlib.Omega.{arith}
 use Rattle.writing.proofs.Edges.{edge-bytes}
 use Rattle.writing.proofs.put_edge.Goals as goal

@@ -1,9 +1,7 @@
 -- `writing::put_edges` meets its contract: with what is left written the buffer is what it is to be. Assumes nothing.
 
-use Prim.Native.Nat.{◌≤◌, ◌-◌}
 use native.Mathlib.Omega.{arith}
-use borrow.Author.Rules.{rules}
-use Rattle.writing.proofs.Edges.{Putting, put_start, put_room, put_here, put_end}
+use Rattle.writing.proofs.Edges.{put_start, put_room, put_here, put_end}
 use Rattle.writing.proofs.put_edges.Goals as goal
 
 pub loop-i-init : goal.loop-i-init

@@ -1,7 +1,5 @@
 use Prim.Native.Nat.{◌≤◌, ◌-◌}
-use native.Mathlib.Omega.{arith}
-use borrow.Author.Rules.{rules}
-use Rattle.writing.proofs.Edges.{Putting, put_start, put_room, put_here, put_end}
+use Rattle.writing.proofs.Edges.{Putting}
 use Rattle.writing.proofs.put_edges.Given as goal
 
 abbrev pub invariant-loop-i : goal.invariant-loop-i

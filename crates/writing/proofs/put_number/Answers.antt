@@ -1,6 +1,5 @@
 -- `writing::put_number` meets its contract: there is room, so the number is written. Assumes nothing.
 
-use borrow.Author.Rules.{rules}
 use Rattle.record.proofs.Write.{can_write_lem, put_told, put_fails}
 use Rattle.writing.proofs.put_number.Goals as goal
 

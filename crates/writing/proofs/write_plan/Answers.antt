@@ -1,6 +1,5 @@
 -- `writing::write_plan` meets its contract: a test that fails leaves the buffer as it is, else the parts of the record are written one after the other. Assumes nothing.
 
-use borrow.Author.Rules.{rules}
 use borrow.Author.Tests.{not-true, not-false}
 use native.Mathlib.Omega.{arith}
 use Rattle.record.proofs.Write.{few_bytes}

@@ -1,6 +1,5 @@
 -- `build::Four::as_set` meets its contract. Assumes nothing.
 
-use borrow.Author.Rules.{rules}
 use Rattle.build.proofs.Turns.{four-set}
 use Rattle.build.proofs.Four.as_set.Goals as goal
 

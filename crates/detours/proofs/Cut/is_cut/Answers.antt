@@ -1,6 +1,5 @@
 -- `detours::Cut::is_cut` meets its contract. Assumes nothing.
 
-use borrow.Author.Rules.{rules}
 use Rattle.detours.proofs.Cut.is_cut.Goals as goal
 
 pub returns : goal.returns

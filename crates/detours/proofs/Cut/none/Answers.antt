@@ -1,6 +1,5 @@
 -- `detours::Cut::none` meets its contract. Assumes nothing.
 
-use borrow.Author.Rules.{rules}
 use Rattle.detours.proofs.Cut.none.Goals as goal
 
 pub returns : goal.returns

@@ -1,7 +1,6 @@
 -- `Ears::fault` meets its contract: the tests that led to a return pick the case. Assumes nothing.
 
 use mathlib.Core.Bool.{◌&&◌, ◌||◌, not}
-use borrow.Author.Rules.{rules}
 use borrow.Author.Tests.{not-true, not-false}
 use Rattle.ears.proofs.Ears.fault.Goals as goal
 

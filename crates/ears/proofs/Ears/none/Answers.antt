@@ -1,6 +1,5 @@
 -- `Ears::none` meets its contract. Assumes nothing.
 
-use borrow.Author.Rules.{rules}
 use Rattle.ears.proofs.Ears.none.Goals as goal
 
 pub returns : goal.returns

@@ -1,6 +1,5 @@
 -- `links::End::is_inner` meets its contract. Assumes nothing.
 
-use borrow.Author.Rules.{rules}
 use Rattle.links.proofs.End.is_inner.Goals as goal
 
 pub returns-in-Branch : goal.returns-in-Branch

@@ -1,6 +1,5 @@
 -- `links::Ends::addition` meets its contract: the cases of the two ends, and the test of each. Assumes nothing.
 
-use borrow.Author.Rules.{rules}
 use Rattle.links.proofs.Ends.addition.Goals as goal
 
 pub returns-then-adjacent : goal.returns-then-adjacent

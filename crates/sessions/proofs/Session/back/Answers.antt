@@ -1,7 +1,6 @@
 -- `sessions::Session::back` meets its contract. Assumes nothing.
 
 use mathlib.Core.Path.{sym, ◌∙◌}
-use borrow.Author.Rules.{rules}
 use borrow.Author.Tests.{not-true, not-false}
 use native.Mathlib.Omega.{arith}
 use Rattle.sessions.proofs.Calls.{back-not, back-there, back-room, path-out}

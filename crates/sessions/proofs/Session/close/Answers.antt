@@ -1,7 +1,6 @@
 -- `sessions::Session::close` meets its contract. Assumes nothing.
 
 use Rattle.sessions.specs.Session.{close_step}
-use borrow.Author.Rules.{rules}
 use Rattle.sessions.proofs.Session.close.Goals as goal
 
 pub returns : goal.returns

@@ -1,7 +1,6 @@
 -- `sessions::Session::closing` meets its contract: the tests that led to a return pick the case. Assumes nothing.
 
 use mathlib.Core.Path.{sym, ◌∙◌}
-use borrow.Author.Rules.{rules}
 use borrow.Author.Tests.{not-true, not-false}
 use Rattle.sessions.proofs.Calls.{closing-early, closing-few, closing-good, closing-open}
 use Rattle.sessions.proofs.Session.closing.Goals as goal

@@ -1,6 +1,5 @@
 -- `sessions::Session::is_due` meets its contract. Assumes nothing.
 
-use borrow.Author.Rules.{rules}
 use Rattle.sessions.proofs.Session.is_due.Goals as goal
 
 pub returns : goal.returns

@@ -1,6 +1,5 @@
 -- `sessions::Session::none` meets its contract. Assumes nothing.
 
-use borrow.Author.Rules.{rules}
 use Rattle.sessions.proofs.Session.none.Goals as goal
 
 pub returns : goal.returns

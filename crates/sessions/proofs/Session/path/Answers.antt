@@ -1,7 +1,6 @@
 -- `sessions::Session::path` meets its contract. Assumes nothing.
 
 use mathlib.Core.Path.{refl, sym, ◌∙◌}
-use borrow.Author.Rules.{rules}
 use borrow.Author.Tests.{not-true, not-false}
 use native.Mathlib.Omega.{arith}
 use Rattle.sessions.proofs.Calls.{path-not, path-due, due-room, due-refused, due-accepted}

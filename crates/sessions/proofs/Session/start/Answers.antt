@@ -3,7 +3,6 @@
 use mathlib.Core.Path.{◌∙◌}
 use borrow.Author.Tests.{not-true, not-false}
 use Rattle.sessions.proofs.Calls.{start-closed, start-refused, start-accepted}
-use borrow.Author.Rules.{rules}
 use Rattle.sessions.proofs.Session.start.Goals as goal
 
 pub returns-then-not-ready : goal.returns-then-not-ready

@@ -2,7 +2,6 @@
 
 use native.Mathlib.Omega.{arith}
 use lib.Count.{trailing_le}
-use borrow.Author.Rules.{rules}
 use Rattle.vertexset.proofs.Cursor.member.Goals as goal
 
 pub overflow_cast-result-2 : goal.overflow_cast-result-2

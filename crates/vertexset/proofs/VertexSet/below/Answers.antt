@@ -1,13 +1,12 @@
 -- `VertexSet::below` meets its contract: the words in front of i are those of the set. Assumes nothing.
 
-use mathlib.Core.Path.{◌≡◌, refl, sym, ap, ◌∙◌}
-use Prim.Native.Nat.{◌-◌, ◌<◌, ◌≤◌}
+use mathlib.Core.Path.{refl, sym, ap, ◌∙◌}
+use Prim.Native.Nat.{◌<◌, ◌≤◌}
 use native.Mathlib.Omega.{arith}
 use native.Mathlib.Numerals.{add-one}
-use lib.ListN.{length, take, length-set}
+use lib.ListN.{length, length-set}
 use lib.Seq.{take-suc, take-suc-set, take_all}
-use borrow.Author.Rules.{rules}
-use Rattle.vertexset.specs.Set.{word_count, below_set}
+use Rattle.vertexset.specs.Set.{below_set}
 use Rattle.vertexset.proofs.Below.{below_length}
 use Rattle.vertexset.proofs.VertexSet.below.Goals as goal
 

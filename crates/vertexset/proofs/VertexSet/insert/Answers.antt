@@ -1,15 +1,14 @@
 -- `VertexSet::insert` meets its contract: the word of v is changed when it is passed, and no other. Assumes nothing.
 
 use mathlib.Core.Path.{◌≡◌, ◌∙◌}
-use Prim.Native.Nat.{◌≤◌, ◌+◌, ◌-◌, ◌/◌}
+use Prim.Native.Nat.{◌≤◌, ◌+◌, ◌/◌}
 use native.Mathlib.Omega.{arith}
-use lib.Dec.{ltb}
 use lib.ListN.{length}
 use borrow.Author.Rules.{rules}
 use borrow.Author.Tests.{lt-ltb, le-ltb}
-use Rattle.vertexset.specs.Set.{word_count, inserted}
+use Rattle.vertexset.specs.Set.{word_count}
 use Rattle.vertexset.proofs.Bit.{bit_of_lem}
-use Rattle.vertexset.proofs.Passed.{passed, other, all-passed}
+use Rattle.vertexset.proofs.Passed.{other, all-passed}
 use Rattle.vertexset.proofs.VertexSet.insert.Goals as goal
 
 pub loop-i-init : goal.loop-i-init

@@ -1,13 +1,8 @@
-use mathlib.Core.Path.{◌≡◌, ◌∙◌}
-use Prim.Native.Nat.{◌≤◌, ◌+◌, ◌-◌, ◌/◌}
-use native.Mathlib.Omega.{arith}
+use mathlib.Core.Path.{◌≡◌}
+use Prim.Native.Nat.{◌-◌, ◌/◌}
 use lib.Dec.{ltb}
-use lib.ListN.{length}
-use borrow.Author.Rules.{rules}
-use borrow.Author.Tests.{lt-ltb, le-ltb}
 use Rattle.vertexset.specs.Set.{word_count, inserted}
-use Rattle.vertexset.proofs.Bit.{bit_of_lem}
-use Rattle.vertexset.proofs.Passed.{passed, other, all-passed}
+use Rattle.vertexset.proofs.Passed.{passed}
 use Rattle.vertexset.proofs.VertexSet.insert.Given as goal
 
 abbrev pub invariant-loop-i : goal.invariant-loop-i

@@ -1,12 +1,11 @@
 -- `VertexSet::minus` meets its contract: word by word. Assumes nothing.
 
 use mathlib.Core.Path.{◌≡◌, sym, ap, ◌∙◌}
-use Prim.Native.Nat.{◌-◌}
 use native.Mathlib.Omega.{arith}
 use lib.ListN.{length}
 use borrow.Author.Rules.{rules}
 use Rattle.vertexset.specs.Set.{less, word_count}
-use Rattle.vertexset.proofs.Steps.{Zipping, zip-begin, zip-step, zip_end}
+use Rattle.vertexset.proofs.Steps.{zip-begin, zip-step, zip_end}
 use Rattle.vertexset.proofs.VertexSet.minus.Goals as goal
 
 pub loop-i-init : goal.loop-i-init

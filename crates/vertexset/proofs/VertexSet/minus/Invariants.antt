@@ -1,10 +1,6 @@
-use mathlib.Core.Path.{◌≡◌, sym, ap, ◌∙◌}
 use Prim.Native.Nat.{◌-◌}
-use native.Mathlib.Omega.{arith}
-use lib.ListN.{length}
-use borrow.Author.Rules.{rules}
 use Rattle.vertexset.specs.Set.{less, word_count}
-use Rattle.vertexset.proofs.Steps.{Zipping, zip-begin, zip-step, zip_end}
+use Rattle.vertexset.proofs.Steps.{Zipping}
 use Rattle.vertexset.proofs.VertexSet.minus.Given as goal
 
 abbrev pub invariant-loop-i : goal.invariant-loop-i

@@ -6,8 +6,8 @@ use lib.ListN.{length, get_or}
 use mir.Val.{Fits}
 use mir.Syntax.{w64}
 use borrow.Author.Rules.{rules}
-use Rattle.vertexset.specs.Set.{Words, next, word_count}
-use Rattle.vertexset.proofs.Walks.{ahead, left, first_of, next-begin, Walks, walks_begin, walks_on, walks_meets, walks_passes, walks_over, walks_less}
+use Rattle.vertexset.specs.Set.{Words, word_count}
+use Rattle.vertexset.proofs.Walks.{first_of, next-begin, walks_begin, walks_on, walks_meets, walks_passes, walks_over, walks_less}
 use Rattle.vertexset.proofs.VertexSet.next_from.Goals as goal
 
 pub loop-self-init : goal.loop-self-init

@@ -1,11 +1,7 @@
-use mathlib.Core.Path.{◌≡◌, refl, sym, ap, ◌∙◌}
+use mathlib.Core.Path.{◌≡◌}
 use Prim.Native.Nat.{◌*◌}
-use lib.ListN.{length, get_or}
-use mir.Val.{Fits}
-use mir.Syntax.{w64}
-use borrow.Author.Rules.{rules}
-use Rattle.vertexset.specs.Set.{Words, next, word_count}
-use Rattle.vertexset.proofs.Walks.{ahead, left, first_of, next-begin, Walks, walks_begin, walks_on, walks_meets, walks_passes, walks_over, walks_less}
+use Rattle.vertexset.specs.Set.{next, word_count}
+use Rattle.vertexset.proofs.Walks.{ahead, left, first_of, Walks}
 use Rattle.vertexset.proofs.VertexSet.next_from.Given as goal
 
 abbrev pub invariant-loop-self : goal.invariant-loop-self

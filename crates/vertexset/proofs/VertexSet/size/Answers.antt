@@ -1,7 +1,7 @@
 -- `VertexSet::size` meets its contract: the words passed are counted. Assumes nothing.
 
 use mathlib.Core.Path.{◌≡◌, ap}
-use Prim.Native.Nat.{◌≤◌, ◌+◌, ◌-◌, ◌*◌}
+use Prim.Native.Nat.{◌+◌}
 use native.Mathlib.Omega.{arith}
 use lib.ListN.{length, get_or, drop, drop_of_length-le}
 use lib.Count.{ones, ones-le}

@@ -1,13 +1,7 @@
-use mathlib.Core.Path.{◌≡◌, ap}
+use mathlib.Core.Path.{◌≡◌}
 use Prim.Native.Nat.{◌≤◌, ◌+◌, ◌-◌, ◌*◌}
-use native.Mathlib.Omega.{arith}
-use lib.ListN.{length, get_or, drop, drop_of_length-le}
-use lib.Count.{ones, ones-le}
-use mir.Val.{Fits}
-use mir.Syntax.{w64}
-use borrow.Author.Rules.{rules}
+use lib.ListN.{drop}
 use Rattle.vertexset.specs.Set.{count, word_count}
-use Rattle.vertexset.proofs.Steps.{drop_next}
 use Rattle.vertexset.proofs.VertexSet.size.Given as goal
 
 abbrev pub invariant-loop-i : goal.invariant-loop-i

@@ -1,7 +1,6 @@
 -- `VertexSet::subset` meets its contract: what its two callees promise. Assumes nothing.
 
 use mathlib.Core.Path.{ap, ◌∙◌}
-use borrow.Author.Rules.{rules}
 use Rattle.vertexset.specs.declared.VertexSet.{VertexSet}
 use Rattle.vertexset.specs.Set.{none}
 use Rattle.vertexset.proofs.VertexSet.subset.Goals as goal

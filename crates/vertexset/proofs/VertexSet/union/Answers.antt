@@ -1,13 +1,12 @@
 -- `VertexSet::union` meets its contract: word by word. Assumes nothing.
 
 use mathlib.Core.Path.{◌≡◌, sym, ap, ◌∙◌}
-use Prim.Native.Nat.{◌-◌}
 use native.Mathlib.Omega.{arith}
 use lib.ListN.{length}
 use lib.Bits.{bit_or}
 use borrow.Author.Rules.{rules}
 use Rattle.vertexset.specs.Set.{word_count}
-use Rattle.vertexset.proofs.Steps.{Zipping, zip-begin, zip-step, zip_end}
+use Rattle.vertexset.proofs.Steps.{zip-begin, zip-step, zip_end}
 use Rattle.vertexset.proofs.VertexSet.union.Goals as goal
 
 pub loop-i-init : goal.loop-i-init

@@ -1,11 +1,7 @@
-use mathlib.Core.Path.{◌≡◌, sym, ap, ◌∙◌}
 use Prim.Native.Nat.{◌-◌}
-use native.Mathlib.Omega.{arith}
-use lib.ListN.{length}
 use lib.Bits.{bit_or}
-use borrow.Author.Rules.{rules}
 use Rattle.vertexset.specs.Set.{word_count}
-use Rattle.vertexset.proofs.Steps.{Zipping, zip-begin, zip-step, zip_end}
+use Rattle.vertexset.proofs.Steps.{Zipping}
 use Rattle.vertexset.proofs.VertexSet.union.Given as goal
 
 abbrev pub invariant-loop-i : goal.invariant-loop-i

@@ -4,7 +4,6 @@ use mathlib.Core.Path.{◌≡◌}
 use Prim.Native.Nat.{◌%◌}
 use native.Mathlib.Omega.{arith}
 use lib.Pow.{pow_pos}
-use borrow.Author.Rules.{rules}
 use Rattle.vertexset.proofs.Bit.{bit_of_lem}
 use Rattle.vertexset.proofs.Below.{lows, below_word}
 use Rattle.vertexset.proofs.VertexSet.word_below.Goals as goal
