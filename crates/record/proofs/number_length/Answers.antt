@@ -10,4 +10,4 @@ pub returns-then-v-ge-GROUP : goal.returns-then-v-ge-GROUP
 returns-then-v-ge-GROUP c = sym (long_bytes c.args.v (omega (arith, c.if-v-ge-GROUP.true)))
 
 pub returns : goal.returns
-returns c = sym (ap length (one_byte c.args.v c.if-v-ge-GROUP.false))
+returns c = sym (ap length (one_byte c.args.v (omega (arith, c.if-v-ge-GROUP.false))))

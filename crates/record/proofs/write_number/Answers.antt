@@ -15,7 +15,7 @@ returns-then-out-at c = let a = c.args in
 
 pub returns-then-v-lt-GROUP : goal.returns-then-v-lt-GROUP
 returns-then-v-lt-GROUP c = let a = c.args in
-    room a.out.now a.at a.v (one_byte a.v c.if-v-lt-GROUP.true) (omega arith) (omega arith)
+    room a.out.now a.at a.v (one_byte a.v (omega (arith, c.if-v-lt-GROUP.true))) (omega arith) (omega arith)
 
 pub returns-then-v-ge-LIMIT : goal.returns-then-v-ge-LIMIT
 returns-then-v-ge-LIMIT c = let a = c.args in
@@ -23,11 +23,11 @@ returns-then-v-ge-LIMIT c = let a = c.args in
 
 pub returns-then-out-second : goal.returns-then-out-second
 returns-then-out-second c = let a = c.args in
-    let e = two_bytes a.v c.if-v-lt-GROUP.false (omega arith) in
+    let e = two_bytes a.v (omega (arith, c.if-v-lt-GROUP.false)) (omega arith) in
     no_room a.out.now a.at a.v (too_short a.out.now a.at a.v (omega (arith, ap length e)))
 
 pub returns : goal.returns
 returns c = let a = c.args in
-    let r = room a.out.now a.at a.v (two_bytes a.v c.if-v-lt-GROUP.false (omega arith)) (omega arith) (omega arith) in
+    let r = room a.out.now a.at a.v (two_bytes a.v (omega (arith, c.if-v-lt-GROUP.false)) (omega arith)) (omega arith) (omega arith) in
     let z : a.at + 1 + 1 ≡ a.at + 2 = omega arith in
     (ap Next z ∙ r.0, rw (add-one a.at) r.1)
