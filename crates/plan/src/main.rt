@@ -1,15 +1,16 @@
 // Reads a plan record from standard input and prints its boxes and cables, or why it is refused.
 #![tactic(auto)]
 
-ghost use Rattle.std.specs.Prelude.{◌≡◌, ◌≤◌, length, take, IfSome, OnOk};
+ghost use Rattle.std.specs.Prelude.{◌≡◌, ◌≤◌, length, IfSome, OnErr, OnOk};
 ghost use Rattle.std.specs.Io.KnownBytes.{Appends};
+ghost use Rattle.streams.specs.Front.{AppendsFront};
 ghost use Rattle.record.specs.declared.Answer.TheVariants.{Accepted};
 ghost use Rattle.lines.specs.Lines.{place_after, written, longest};
 ghost use Rattle.plan.specs.Line.{size_line, plan_line};
 
-use input::read_full;
 use record::Answer;
 use std::io::{self, Read, Write};
+use streams::{read_full, write_full};
 
 // By way of a line of its own: the buffer changes only where the whole line has room.
 fn put_size(out: &mut [u8], n: u16, m: u16) -> usize
@@ -43,16 +44,17 @@ fn line<'a>(input: &'a [u8], out: &'a mut [u8]) -> usize
     }
 }
 
-// One byte more than the limit tells that the input is too long. A read or a write that fails ends the program with its error.
+// One byte more than the limit tells that the input is too long. A read or a write that fails ends the program with its error;
+// what is on standard output then is a front of the answer.
 fn run<R: Read, W: Write>(reader: &mut R, writer: &mut W) -> io::Result<()>
-    ensures { OnOk result (IfSome (R.remaining reader.old) (λ xs.
-        Appends (W.contents writer.old) (W.contents writer.new) (plan_line (take 4097 xs)))) }
+    ensures ok { OnOk result (IfSome (R.remaining reader.old) (λ xs. Appends (W.contents writer.old) (W.contents writer.new) (plan_line xs))) }
+    ensures err { OnErr result (IfSome (R.remaining reader.old) (λ xs. AppendsFront (W.contents writer.old) (W.contents writer.new) (plan_line xs))) }
 {
     let mut bytes = [0u8; lines::LIMIT + 1];
     let n = read_full(reader, &mut bytes)?;
     let mut out = [0u8; lines::LONGEST];
     let len = line(&bytes[..n], &mut out);
-    writer.write_all(&out[..len])
+    write_full(writer, &out[..len])
 }
 
 fn main(rt: HostRuntime) -> io::Result<()> {

@@ -3,26 +3,28 @@
 // A length is two bytes, the lower first. A script that ends inside a call, or has another call, ends the output.
 #![tactic(auto)]
 
-ghost use Rattle.std.specs.Prelude.{IfSome, OnOk, take};
+ghost use Rattle.std.specs.Prelude.{IfSome, OnErr, OnOk};
 ghost use Rattle.std.specs.Io.KnownBytes.{Appends};
+ghost use Rattle.streams.specs.Front.{AppendsFront};
 ghost use Rattle.sessionlines.specs.Lines.{script_lines};
 
-use input::read_full;
 use std::io::{self, Read, Write};
+use streams::{read_full, write_full};
 
-// One byte more than the limit tells that the script is too long. A read or a write that fails ends the program with its error.
+// One byte more than the limit tells that the script is too long. A read or a write that fails ends the program with its error;
+// what is on standard output then is a front of the answer.
 fn run<R: Read, W: Write>(reader: &mut R, writer: &mut W) -> io::Result<()>
-    ensures { OnOk result (IfSome (R.remaining reader.old) (λ xs.
-        Appends (W.contents writer.old) (W.contents writer.new) (script_lines (take 65537 xs)))) }
+    ensures ok { OnOk result (IfSome (R.remaining reader.old) (λ xs. Appends (W.contents writer.old) (W.contents writer.new) (script_lines xs))) }
+    ensures err { OnErr result (IfSome (R.remaining reader.old) (λ xs. AppendsFront (W.contents writer.old) (W.contents writer.new) (script_lines xs))) }
 {
     let mut bytes = [0u8; sessionlines::LIMIT + 1];
     let n = read_full(reader, &mut bytes)?;
     let mut out = [0u8; lines::LONGEST];
     let mut turn = sessionlines::open(&bytes[..n], &mut out);
-    writer.write_all(&out[..turn.len])?;
+    write_full(writer, &out[..turn.len])?;
     while turn.at < n {
         turn = sessionlines::call(&bytes[..n], turn, &mut out);
-        writer.write_all(&out[..turn.len])?;
+        write_full(writer, &out[..turn.len])?;
     }
     Ok(())
 }
