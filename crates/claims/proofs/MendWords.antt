@@ -83,7 +83,7 @@ mends_worded P list mended certificate bytes =
       answer = λ h. grade-decoded (lengths_place m) m.answer (listed-fits listed.mending_answers (length P) 0 refl refl refl h (omega arith) m.answer a);
       in_list = λ k e. (lengths_told m (byte_grade P m.answer a e) b e).0;
       in_mended = λ k e. (lengths_told m (byte_grade P m.answer a e) b e).1;
-      in_certificate = λ k e. (lengths_told m (byte_grade P m.answer a e) b e).2;
+      in_certificate_lem = λ k e. (lengths_told m (byte_grade P m.answer a e) b e).2;
     }
 
 -- THE BYTES

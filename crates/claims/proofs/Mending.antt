@@ -122,7 +122,7 @@ module _ (P list mended certificate : List ℕ) where
         answer = ap (λ (o : Outcome). o.answer.answer) (sym e);
         in_list = subst (λ (o : Outcome). Begins list x.list o.list o.answer.list) e (begun list x.list);
         in_mended = subst (λ (o : Outcome). Begins mended x.mended o.mended o.answer.mended) e (begun mended x.mended);
-        in_certificate = subst (λ (o : Outcome). Begins certificate x.certificate o.certificate o.answer.certificate) e (begun certificate x.certificate);
+        in_certificate_lem = subst (λ (o : Outcome). Begins certificate x.certificate o.certificate o.answer.certificate) e (begun certificate x.certificate);
       }
 
 pub written-mends : WrittenMends

@@ -91,7 +91,7 @@ pub record MendWrites (P list mended certificate : List ℕ) : Type 0 where
   pub answer : (mend_from P list mended certificate).answer.answer ≡ (records_from P).answer
   pub in_list : Begins list (records_from P).list (mend_from P list mended certificate).list (mend_from P list mended certificate).answer.list
   pub in_mended : Begins mended (records_from P).mended (mend_from P list mended certificate).mended (mend_from P list mended certificate).answer.mended
-  pub in_certificate : Begins certificate (records_from P).certificate (mend_from P list mended certificate).certificate (mend_from P list mended certificate).answer.certificate
+  pub in_certificate_lem : Begins certificate (records_from P).certificate (mend_from P list mended certificate).certificate (mend_from P list mended certificate).answer.certificate
 
 abbrev pub WrittenMends : Type 0
 WrittenMends = (P list mended certificate : List ℕ) → length (records_from P).list ≤ length list → length (records_from P).mended ≤ length mended → length (records_from P).certificate ≤ length certificate
@@ -102,7 +102,7 @@ pub record MendWorded (P list mended certificate : List ℕ) : Type 0 where
   pub answer : length P < 2 ^ 48 → decoded (mended_word (mend_from P list mended certificate).answer) ≡ (mend_from P list mended certificate).answer.answer
   pub in_list : (k : ℕ) → (mend_from P list mended certificate).answer.answer ≡ Grade k → mended_word (mend_from P list mended certificate).answer / 65536 % 65536 ≡ (mend_from P list mended certificate).answer.list
   pub in_mended : (k : ℕ) → (mend_from P list mended certificate).answer.answer ≡ Grade k → mended_word (mend_from P list mended certificate).answer / 4294967296 % 65536 ≡ (mend_from P list mended certificate).answer.mended
-  pub in_certificate : (k : ℕ) → (mend_from P list mended certificate).answer.answer ≡ Grade k
+  pub in_certificate_lem : (k : ℕ) → (mend_from P list mended certificate).answer.answer ≡ Grade k
       → mended_word (mend_from P list mended certificate).answer / 281474976710656 ≡ (mend_from P list mended certificate).answer.certificate
 
 abbrev pub MendsWorded : Type 0

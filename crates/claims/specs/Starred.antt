@@ -88,13 +88,13 @@ AllAnswered [] = Unit {0}
 AllAnswered (b ∷ l) = (check_of b.plan b.certificate ≡ b.answer) × AllAnswered l
 
 -- the line `boxes 4 cables 6 grade 3`
-abbrev pub barn_a_line : List ℕ
-barn_a_line =
+abbrev pub barnALine : List ℕ
+barnALine =
     98 ∷ 111 ∷ 120 ∷ 101 ∷ 115 ∷ 32 ∷ 52 ∷ 32 ∷ 99 ∷ 97 ∷ 98 ∷ 108 ∷ 101 ∷ 115 ∷ 32 ∷ 54 ∷ 32 ∷ 103 ∷ 114 ∷ 97 ∷ 100 ∷ 101 ∷ 32 ∷ 51 ∷ 10 ∷ []
 
 -- the checking program prints it for barn A
 abbrev pub BarnAPrinted : Type 0
-BarnAPrinted = grade_line (example_a.plan ++ example_a.certificate) ≡ barn_a_line
+BarnAPrinted = grade_line (example_a.plan ++ example_a.certificate) ≡ barnALine
 
 -- the mistake that document 01 names, "taking 0 4 1 beside the link 0 1 (27 in a five-box plan with every cable)": the start has the link 0 1
 abbrev pub beside_link : Example
