@@ -21,10 +21,9 @@ no_value (Ended p) k = refl
 no_value (Padded p) k = refl
 no_value (Overlong p) k = refl
 
--- the same with the code's own number and place
-pub unread : {x : Number} (s : List ℕ) (at : ℕ) {r p : ℕ} → x ≡ number_at s at → NoValue x → r ≡ fault_number x → p ≡ fault_place x
-    → as_read (number_at s at) ≡ Refused r p
-unread {x} s at e k f g = rw (← e, f, g) (no_value x k)
+-- the same of the number at a place: the number and the place are those of the answers plan_fault and certificate_fault
+pub unread : {x : Number} (s : List ℕ) (at : ℕ) → x ≡ number_at s at → NoValue x → as_read (number_at s at) ≡ Refused (fault_number x) (fault_place x)
+unread {x} s at e k = rw (← e) (no_value x k)
 
 -- a number that is tested once it is read
 module _ (r : ℕ) (ok : ℕ → Bool) (s : List ℕ) (at : ℕ) where

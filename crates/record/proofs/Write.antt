@@ -3,6 +3,7 @@ use Prim.Native.Nat.{ℕ, ◌+◌, ◌%◌, ◌/◌, ◌^◌, ◌<◌, ◌≤◌
 use mathlib.Core.List.{List, [], ◌∷◌, ◌++◌, append_assoc, append-nil}
 use mathlib.Core.Bool.{Bool, true, false, cond, and-false}
 use mathlib.Core.Path.{◌≡◌, refl, sym, ap, ◌∙◌}
+use Rattle.std.specs.Prelude.{Option, Some, None}
 use native.Mathlib.Nat.{add-zero}
 use native.Mathlib.Omega.{arith}
 use lib.ListN.{length, get_or, take, drop, length-append, length-drop, take-append-drop}
@@ -12,8 +13,6 @@ use borrow.Author.Tests.{ltb-true, ltb-false, lt-ltb, le-ltb, le-leb, lt-leb}
 use Rattle.record.specs.Number.{groups_of, number_bytes, number_in, number_limit}
 use Rattle.record.specs.Write.{can_write, written_number, with_number, overwritten}
 use Rattle.record.specs.declared.Number.TheVariants.{Value}
-use Rattle.record.specs.declared.Written.{Written}
-use Rattle.record.specs.declared.Written.TheVariants.{Next, Nothing}
 use Rattle.record.proofs.Laws.{Spans, Spans.none, Spans.more}
 use Rattle.record.proofs.Groups.{number-back}
 
@@ -51,7 +50,7 @@ few_bytes v = go (ltb v 128) refl
     go false e = omega (arith, long_bytes v (ltb-false _ _ e))
 
 module _ (buffer : List ℕ) (at v : ℕ) where
-  pub no_room : can_write buffer at v ≡ false → (Nothing ≡ written_number buffer at v) × (buffer ≡ with_number buffer at v)
+  pub no_room : can_write buffer at v ≡ false → (None ≡ written_number buffer at v) × (buffer ≡ with_number buffer at v)
   no_room e = (rw e, rw e)
 
   pub too_large : number_limit ≤ v → can_write buffer at v ≡ false
@@ -64,19 +63,19 @@ module _ (buffer : List ℕ) (at v : ℕ) where
   can_write_lem h r = rw (lt-ltb v number_limit h, le-leb (at + length (number_bytes v)) (length buffer) r)
 
   -- what a caller who has seen to the room gets
-  pub put_told : can_write buffer at v ≡ true → {x : Written} {next : ℕ} {out : List ℕ} → x ≡ written_number buffer at v → x ≡ Next next → out ≡ with_number buffer at v
+  pub put_told : can_write buffer at v ≡ true → {x : Option ℕ} {next : ℕ} {out : List ℕ} → x ≡ written_number buffer at v → x ≡ Some next → out ≡ with_number buffer at v
       → (next ≡ at + length (number_bytes v)) × (out ≡ overwritten buffer at (number_bytes v))
   put_told e {x} {next} a b c =
-      let f : Next next ≡ Next (at + length (number_bytes v)) = sym b ∙ a ∙ rw e in
+      let f : Some next ≡ Some (at + length (number_bytes v)) = sym b ∙ a ∙ rw e in
       (cc, c ∙ rw e)
 
-  pub put_fails : can_write buffer at v ≡ true → {x : Written} → x ≡ written_number buffer at v → x ≡ Nothing → ⊥
+  pub put_fails : can_write buffer at v ≡ true → {x : Option ℕ} → x ≡ written_number buffer at v → x ≡ None → ⊥
   put_fails e a b =
-      let f : Nothing ≡ Next (at + length (number_bytes v)) = sym b ∙ a ∙ rw e in
+      let f : None ≡ Some (at + length (number_bytes v)) = sym b ∙ a ∙ rw e in
       let z : ◌≡◌ {A = ℕ} 0 1 = cc in omega arith
 
   pub room : {bytes : List ℕ} → number_bytes v ≡ bytes → v < number_limit → at + length bytes ≤ length buffer
-      → (Next (at + length bytes) ≡ written_number buffer at v) × (sets buffer at bytes ≡ with_number buffer at v)
+      → (Some (at + length bytes) ≡ written_number buffer at v) × (sets buffer at bytes ≡ with_number buffer at v)
   room {bytes} e h r =
       (rw (e, lt-ltb v number_limit h, le-leb (at + length bytes) (length buffer) r), rw (e, lt-ltb v number_limit h, le-leb (at + length bytes) (length buffer) r) (sets-eq bytes buffer at r))
 

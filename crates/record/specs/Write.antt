@@ -1,8 +1,6 @@
 -- Writing into a lent buffer.
-use Rattle.std.specs.Prelude.{ℕ, ◌+◌, List, ◌++◌, Bool, cond, ◌&&◌, length, take, drop, ltb, leb}
+use Rattle.std.specs.Prelude.{ℕ, ◌+◌, List, ◌++◌, Bool, cond, ◌&&◌, Option, Some, None, length, take, drop, ltb, leb}
 use Rattle.record.specs.Number.{number_bytes, number_limit}
-use Rattle.record.specs.declared.Written.{Written}
-use Rattle.record.specs.declared.Written.TheVariants.{Next, Nothing}
 
 -- the buffer with these bytes at a place; every other byte keeps its value
 abbrev pub overwritten : List ℕ → ℕ → List ℕ → List ℕ
@@ -17,8 +15,8 @@ abbrev pub can_write : List ℕ → ℕ → ℕ → Bool
 can_write buffer at v = ltb v number_limit && has_room buffer at (number_bytes v)
 
 -- the place after the number, or that nothing was written
-abbrev pub written_number : List ℕ → ℕ → ℕ → Written
-written_number buffer at v = cond (can_write buffer at v) (Next (at + length (number_bytes v))) Nothing
+abbrev pub written_number : List ℕ → ℕ → ℕ → Option ℕ
+written_number buffer at v = cond (can_write buffer at v) (Some (at + length (number_bytes v))) None
 
 -- the buffer then
 abbrev pub with_number : List ℕ → ℕ → ℕ → List ℕ

@@ -23,6 +23,34 @@ impl Number {
 
     // every number that one or two bytes can hold is below it
     pub const LIMIT: u16 = Number::GROUP * Number::GROUP;
+
+    // The papers' number for what is wrong with it, and where; 0 and 0 for a number that was read.
+    fn fault(self) -> (u8, usize)
+        ensures { result ≡ (fault_number self, fault_place self) }
+    {
+        match self {
+            Number::Value(_, _) => (0, 0),
+            Number::Ended(p) => (1, p),
+            Number::Padded(p) => (2, p),
+            Number::Overlong(p) => (33, p),
+        }
+    }
+
+    // The answer to a plan in which it stands.
+    pub fn plan_fault(self) -> Answer
+        ensures { result ≡ Answer.PlanFault (fault_number self) (fault_place self) }
+    {
+        let (number, place) = self.fault();
+        Answer::PlanFault(number, place)
+    }
+
+    // The answer to a certificate in which it stands.
+    pub fn certificate_fault(self) -> Answer
+        ensures { result ≡ Answer.CertificateFault (fault_number self) (fault_place self) }
+    {
+        let (number, place) = self.fault();
+        Answer::CertificateFault(number, place)
+    }
 }
 
 // An answer: accepted without a grade; a grade; or the record at fault with the papers' number and a place.
@@ -32,13 +60,6 @@ pub enum Answer {
     Grade(u8),
     PlanFault(u8, usize),
     CertificateFault(u8, usize),
-}
-
-// The place after what was written; or that nothing was written, for want of room or because it has no form.
-#[derive(Clone, Copy)]
-pub enum Written {
-    Next(usize),
-    Nothing,
 }
 
 pub fn read_number(s: &[u8], at: usize) -> Number
@@ -65,29 +86,6 @@ pub fn read_number(s: &[u8], at: usize) -> Number
     Number::Overlong(at)
 }
 
-// The papers' number for what is wrong with a number, and where; 0 and 0 for a number that was read.
-pub fn fault_number(x: Number) -> u8
-    ensures { result ≡ fault_number x }
-{
-    match x {
-        Number::Value(_, _) => 0,
-        Number::Ended(_) => 1,
-        Number::Padded(_) => 2,
-        Number::Overlong(_) => 33,
-    }
-}
-
-pub fn fault_place(x: Number) -> usize
-    ensures { result ≡ fault_place x }
-{
-    match x {
-        Number::Value(_, _) => 0,
-        Number::Ended(p) => p,
-        Number::Padded(p) => p,
-        Number::Overlong(p) => p,
-    }
-}
-
 // How many bytes the form of a number takes; 2 where it has none.
 pub fn number_length(v: u16) -> usize
     ensures { result ≡ length (number_bytes v) }
@@ -98,24 +96,25 @@ pub fn number_length(v: u16) -> usize
     1
 }
 
-pub fn write_number(out: &mut [u8], at: usize, v: u16) -> Written
+// The place after the number; None where nothing was written, for want of room or because it has no form.
+pub fn write_number(out: &mut [u8], at: usize, v: u16) -> Option<usize>
     ensures { (result ≡ written_number out.old at v) × (out.new ≡ with_number out.old at v) }
 {
     if out.len() <= at {
-        return Written::Nothing;
+        return None;
     }
     if v < Number::GROUP {
         out[at] = v as u8;
-        return Written::Next(at + 1);
+        return Some(at + 1);
     }
     if Number::LIMIT <= v {
-        return Written::Nothing;
+        return None;
     }
     let second = at + 1;
     if out.len() <= second {
-        return Written::Nothing;
+        return None;
     }
     out[at] = (v % Number::GROUP + Number::GROUP) as u8;
     out[second] = (v / Number::GROUP) as u8;
-    Written::Next(second + 1)
+    Some(second + 1)
 }

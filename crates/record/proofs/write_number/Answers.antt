@@ -5,7 +5,7 @@ use mathlib.Core.Path.{◌≡◌, ap, ◌∙◌}
 use lib.ListN.{length}
 use native.Mathlib.Numerals.{add-one}
 use native.Mathlib.Omega.{arith}
-use Rattle.record.specs.declared.Written.TheVariants.{Next}
+use Rattle.std.specs.Prelude.{Some}
 use Rattle.record.proofs.Write.{one_byte, two_bytes, no_room, too_large, too_short, some_bytes, room}
 use Rattle.record.proofs.write_number.Goals as goal
 
@@ -30,4 +30,4 @@ pub returns : goal.returns
 returns c = let a = c.args in
     let r = room a.out.now a.at a.v (two_bytes a.v (omega (arith, c.if-v-lt-GROUP.false)) (omega arith)) (omega arith) (omega arith) in
     let z : a.at + 1 + 1 ≡ a.at + 2 = omega arith in
-    (ap Next z ∙ r.0, rw (add-one a.at) r.1)
+    (ap Some z ∙ r.0, rw (add-one a.at) r.1)
