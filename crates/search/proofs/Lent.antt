@@ -8,8 +8,7 @@ use Rattle.vertexset.specs.declared.VertexSet.{VertexSet}
 use Rattle.construction.specs.Sets.{members}
 use Rattle.construction.specs.Search as construction
 use Rattle.construction.specs.Search.{explore, back, route}
-use Rattle.search.specs.Code.{search_space, path_of, reach_of, space_after, left_in, answer_in, route_in}
-use Rattle.search.specs.declared.VertexList.{VertexList}
+use Rattle.search.specs.Code.{search_space, reach_of, space_after, left_in, answer_in, route_in}
 use Rattle.search.specs.declared.Reach.{Reach}
 use Rattle.search.proofs.Sizes.{Sized, explore-sized}
 use Rattle.search.proofs.Spaces.{both_order, both_from}
@@ -40,8 +39,8 @@ module _ (rows space : List ℕ) (seeds goals removed : VertexSet) (size : lengt
         ap (λ (a : List ℕ). take (length found.order) (drop capacity a)) left_is
         ∙ both_from (first space) (second space) (first_size space size) (second_size space size) found.order found.from sized.same sized.low
 
-    pub routed : {r : Reach} {x : VertexList} → r ≡ answer_in space found → x ≡ path_of (route_in out r) → x ≡ path_of (route found)
-    routed e q =
-        q ∙ ap (λ (y : Reach). path_of (route_in out y)) (answer_is e)
-        ∙ ap (λ (l : List ℕ). path_of (found.goal ∷ back capacity l (take (length found.order) (drop capacity out)) found.seeds found.last)) order_is
-        ∙ ap (λ (l : List ℕ). path_of (found.goal ∷ back capacity found.order l found.seeds found.last)) from_is
+    pub routed : {r : Reach} → r ≡ answer_in space found → route_in out r ≡ route found
+    routed e =
+        ap (λ (y : Reach). route_in out y) (answer_is e)
+        ∙ ap (λ (l : List ℕ). found.goal ∷ back capacity l (take (length found.order) (drop capacity out)) found.seeds found.last) order_is
+        ∙ ap (λ (l : List ℕ). found.goal ∷ back capacity found.order l found.seeds found.last) from_is

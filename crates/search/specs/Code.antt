@@ -1,20 +1,19 @@
 -- What the functions give: the search of the definition, its lists at the front of arrays.
 use Rattle.std.specs.Prelude.{ℕ, ◌+◌, ◌*◌, cond, List, ◌∷◌, ◌++◌, eqb, leb, length, take, drop, replicate}
+use Rattle.arrayvec.specs.ArrayVec.{ArrayVec}
 use Rattle.record.specs.Write.{overwritten}
 use Rattle.vertexset.specs.Set.{empty_set, capacity}
 use Rattle.vertexset.specs.declared.VertexSet.{VertexSet}
 use Rattle.construction.specs.Search as construction
 use Rattle.construction.specs.Search.{back, visit}
-use Rattle.search.specs.Arrays.{padded}
 use Rattle.search.specs.declared.Reach.{Reach}
-use Rattle.search.specs.declared.VertexList.{VertexList}
 
 -- a path has at most as many vertices as can be, and two more
 abbrev pub path_room : ℕ
 path_room = capacity + 2
 
-abbrev pub path_of : List ℕ → VertexList
-path_of l = record { vertices = padded path_room l; count = length l }
+abbrev pub path_of : List ℕ → ArrayVec ℕ
+path_of l = record { items = l }
 
 abbrev pub reach_of : construction.Reach → Reach
 reach_of r = record {

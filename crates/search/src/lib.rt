@@ -1,18 +1,20 @@
 // One search serves the certifier: from seeds to the nearest goal, with vertices removed; a path, or the closed set that was reached.
 #![tactic(auto)]
 
-ghost use Rattle.std.specs.Prelude.{◌≡◌, ◌≤◌, get_or, length, replicate, take, drop};
+ghost use Rattle.std.specs.Prelude.{◌≡◌, ◌≤◌, get_or, replicate, take, drop};
 ghost use Rattle.construction.specs.Sets.{members};
 ghost use Rattle.construction.specs.Search.{explore};
 ghost use Rattle.search.specs.Arrays.{placed, placed_end};
-ghost use Rattle.search.specs.Code.{reach_of, path_of, route_in, search_space, space_after, left_in, answer_in, reached_after, reached_end, visits_in};
+ghost use Rattle.search.specs.Code.{reach_of, route_in, space_after, left_in, answer_in, reached_after, reached_end, visits_in};
 ghost use Rattle.vertexset.specs.Set.{capacity};
 
+use arrayvec::ArrayVec;
 use graph::GraphTable;
 use vertexset::VertexSet;
 
 // What a search answers: how many vertices it reached, and how many of them are seeds; the vertices reached or removed; the goal that
-// was met, or CAPACITY, and the place of the vertex next to it.
+// was met, or CAPACITY, and the place of the vertex next to it. CAPACITY for none, since explore promises the answer of its definition,
+// `answer_in`, whose goal is the number capacity there.
 #[derive(Clone, Copy)]
 pub struct Reach {
     pub count: usize,
@@ -30,17 +32,11 @@ impl Reach {
     pub const HALF: usize = VertexSet::CAPACITY as usize;
 }
 
-// A list of vertices.
-#[derive(Clone, Copy)]
-pub struct VertexList {
-    pub vertices: [u16; VertexList::ROOM],
-    pub count: usize,
-}
+// every vertex, and two more
+pub const PATH_ROOM: usize = VertexSet::CAPACITY as usize + 2;
 
-impl VertexList {
-    // every vertex, and two more
-    pub const ROOM: usize = VertexSet::CAPACITY as usize + 2;
-}
+// A list of vertices that lies in the value itself: no heap.
+pub type VertexList = ArrayVec<u16, PATH_ROOM>;
 
 // The numbers of a list, put from a place on; the place behind them. Nothing is put where they have no room.
 pub fn put_all<'a>(items: &'a mut [u16], at: usize, list: &'a [u16]) -> usize
@@ -53,15 +49,12 @@ pub fn put_all<'a>(items: &'a mut [u16], at: usize, list: &'a [u16]) -> usize
     if items.len() - at < list.len() {
         return at;
     }
-    let mut i = 0;
-    while i < list.len() {
-        items[at + i] = list[i];
-        i += 1;
-    }
-    at + i
+    let end = at + list.len();
+    items[at..end].copy_from_slice(list);
+    end
 }
 
-// The members of a set, ascending.
+// The members of a set, ascending. The walk takes one step for each member and word, and stays a walk.
 pub fn put_members(items: &mut [u16], at: usize, set: VertexSet) -> usize
     ensures after { items.new ≡ placed items.old at (members set) }
     ensures value { result ≡ placed_end items.old at (members set) }
@@ -96,17 +89,13 @@ pub fn put_copies(items: &mut [u16], at: usize, times: usize, v: u16) -> usize
     if items.len() - at < times {
         return at;
     }
-    let mut i = 0;
-    while i < times {
-        items[at + i] = v;
-        i += 1;
-    }
-    at + i
+    let end = at + times;
+    items[at..end].fill(v);
+    end
 }
 
 // Vertices reached from the one at a place, behind the others.
-fn put_reached(space: &mut [u16], at: usize, set: VertexSet, from: u16) -> usize
-    requires { length space.old ≡ search_space }
+fn put_reached(space: &mut [u16; Reach::SPACE], at: usize, set: VertexSet, from: u16) -> usize
     ensures space_after { space.new ≡ reached_after space.old at (members set) from }
     ensures value { result ≡ reached_end at (members set) }
 {
@@ -128,18 +117,19 @@ fn put_reached(space: &mut [u16], at: usize, set: VertexSet, from: u16) -> usize
 // The visits, from the seeds on, which stand in the space already; to the first goal.
 fn visit<'a>(
     rows: &'a [u64; GraphTable::ROW_WORDS],
-    space: &'a mut [u16],
+    space: &'a mut [u16; Reach::SPACE],
     goals: VertexSet,
     seeds: usize,
     closed: VertexSet,
 ) -> Reach
-    requires { (length space.old ≡ search_space) × (seeds ≤ capacity) }
+    requires { seeds ≤ capacity }
     ensures space_after { space.new ≡ space_after space.old (visits_in rows.now goals seeds space.old closed) }
     ensures value { result ≡ reach_of (visits_in rows.now goals seeds space.old closed) }
 {
     let mut count = seeds;
     let mut shut = closed;
     let mut head = 0;
+    // A visit reaches more vertices: the bound grows while the loop runs.
     while head < count {
         let row = graph::row(rows, space[head]);
         let goal = row.minus(row.minus(goals)).next_from(0);
@@ -177,7 +167,7 @@ pub fn explore<'a>(
     ensures space_after { space.new ≡ left_in space.old (explore rows.now seeds goals removed) }
     ensures value { result ≡ answer_in space.old (explore rows.now seeds goals removed) }
 {
-    if space.len() != Reach::SPACE {
+    let Some(space) = space.as_mut_array() else {
         return Reach {
             count: 0,
             seeds: 0,
@@ -185,7 +175,7 @@ pub fn explore<'a>(
             goal: VertexSet::CAPACITY,
             last: 0,
         };
-    }
+    };
     let count = put_reached(space, 0, seeds, 0);
     visit(rows, space, goals, count, seeds.union(removed))
 }
@@ -197,32 +187,25 @@ pub fn entry(items: &[u16], start: usize, count: usize, i: usize) -> u16
     if count <= i {
         return 0;
     }
-    if items.len() < start {
+    let Some(list) = items.get(start..) else {
         return 0;
-    }
-    if items.len() - start <= i {
-        return 0;
-    }
-    items[start + i]
+    };
+    list.get(i).copied().unwrap_or(0)
 }
 
 // The path that was found, from its goal back to a seed, out of the space that the search left.
 pub fn route(space: &[u16], r: Reach) -> VertexList
-    ensures { result ≡ path_of (route_in space.now r) }
+    ensures { result.items ≡ route_in space.now r }
 {
-    let mut vertices = [0u16; VertexList::ROOM];
-    vertices[0] = r.goal;
-    let mut count = 1;
+    let mut path = VertexList::new();
+    path.push(r.goal);
     let mut i = r.last;
-    let mut left = VertexSet::CAPACITY;
-    while 0 < left {
-        left -= 1;
-        vertices[count] = entry(space, 0, r.count, i);
-        count += 1;
+    for _ in 0..VertexSet::CAPACITY {
+        path.push(entry(space, 0, r.count, i));
         if i < r.seeds {
-            return VertexList { vertices, count };
+            return path;
         }
         i = entry(space, Reach::HALF, r.count, i) as usize;
     }
-    VertexList { vertices, count }
+    path
 }

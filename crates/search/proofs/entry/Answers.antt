@@ -1,17 +1,14 @@
--- `search::entry` meets its contract: past the end it gives the default. Assumes nothing.
-
+-- `search::entry` meets its contract: what is before the end of the list is in it. Assumes nothing.
+use Prim.Native.Nat.{◌<◌}
+use mathlib.Core.Path.{◌≡◌, sym, ◌∙◌}
 use native.Mathlib.Omega.{arith}
-use Rattle.search.proofs.Back.{entry_past, entry_out, entry_in}
+use lib.ListN.{get_or, drop}
+use lib.Seq.{get_or-take}
+use Rattle.std.proofs.lemmas.Grind.{common_steps}
 use Rattle.search.proofs.entry.Goals as goal
 
-pub returns-then-count-i : goal.returns-then-count-i
-returns-then-count-i c = let a = c.args in entry_past a.items.now a.start a.count a.i (omega arith)
-
-pub returns-then-items-start : goal.returns-then-items-start
-returns-then-items-start c = let a = c.args in entry_out a.items.now a.start a.count a.i (omega arith)
-
-pub returns-then-items-start-2 : goal.returns-then-items-start-2
-returns-then-items-start-2 c = let a = c.args in entry_out a.items.now a.start a.count a.i (omega arith)
-
 pub returns : goal.returns
-returns c = let a = c.args in entry_in a.items.now a.start a.count a.i (omega arith)
+returns c = let a = c.args in
+    let e : c.unwrap_or.result ≡ get_or (drop a.start a.items.now) a.i 0 = grind (arith, common_steps) in
+    let h : a.i < a.count = omega arith in
+    e ∙ sym (get_or-take a.count (drop a.start a.items.now) a.i 0 h)

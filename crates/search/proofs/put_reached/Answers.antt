@@ -8,6 +8,7 @@ use mir.Syntax.{w64}
 use borrow.Author.Rules.{rules}
 use Rattle.vertexset.specs.Set.{Words, word_count}
 use Rattle.construction.specs.Sets.{members}
+use Rattle.search.specs.Code.{search_space}
 use Rattle.search.proofs.Members.{members-size}
 use Rattle.search.proofs.Spaces.{reached-nothing, reached-none, reached-done}
 use Rattle.search.proofs.put_reached.Goals as goal
@@ -32,7 +33,7 @@ returns-then-at-k c = let rest = let a = c.args in
 
 pub returns : goal.returns
 returns c = let rest = let a = c.args in
-    let g = c.well_formed.1.1 in
     let l : length a.set.words ≡ word_count = search rules in
     let w : Words a.set.words = λ i. let f : Fits w64 (get_or a.set.words i 0) = search rules in f.fits in
-    reached-done a.space.now a.at (members a.set) a.from (members-size a.set l w ∙ sym c.size-k.ensures) c.requires (omega arith) c.put_members.ensures.after c.put_copies.ensures.after in record { space_after = rest.0; value = rest.1 }
+    let s : length a.space.now ≡ search_space = search rules in
+    reached-done a.space.now a.at (members a.set) a.from (members-size a.set l w ∙ sym c.size-k.ensures) s (omega arith) c.put_members.ensures.after c.put_copies.ensures.after in record { space_after = rest.0; value = rest.1 }
