@@ -7,7 +7,9 @@ use native.Mathlib.Omega.{arith}
 use lib.ListN.{length}
 use lib.Dec.{ltb}
 use borrow.Author.Tests.{ltb-true}
-use Rattle.record.specs.Read.{Read, Read.Got, Read.Refused, on_read, ◌needs⟨◌⟩◌, ◌▹◌, into, many, within, folded}
+use Rattle.std.specs.Prelude.{Ok, Err}
+use Rattle.record.specs.Read.{Read, Read.Got, Read.Refused, on_read, ◌needs⟨◌⟩◌, ◌▹◌, into, many, or_kept, within, folded}
+use Rattle.record.specs.declared.Answer.{Answer}
 use Rattle.record.specs.Number.{number}
 use Rattle.record.specs.Loop.{Loop, runs, finish}
 use Rattle.record.proofs.Laws.{on_got, carry}
@@ -18,15 +20,16 @@ use Rattle.vertexset.specs.declared.VertexSet.{VertexSet}
 use Rattle.connectivity.specs.Path.{Path, vertices}
 use Rattle.certificates.specs.Records.{vertex, vertex_list, link_of, path}
 use Rattle.paths.specs.declared.Item.{Item}
-use Rattle.paths.specs.Items.{item_read}
+use Rattle.paths.specs.Items.{told, item_read}
 use Rattle.paths.specs.Paths.{path_read, vertices_read, vertices_at}
 use Rattle.paths.specs.Code.{path_loop, path_begun}
+use Rattle.paths.proofs.Told.{told-err, item-ok}
 use Rattle.paths.proofs.Walk.{tail_vertices, path-walked}
 
--- the values of k vertices, read from a place on without a look at their answers
+-- the values of k vertices from a place on, up to the first that can't be read
 unfoldable pub values_from : ℕ → ℕ → List ℕ → ℕ → List ℕ
 values_from n zero s at = []
-values_from n (suc k) s at = (item_read (vertex n s at)).value ∷ values_from n k s (item_read (vertex n s at)).next
+values_from n (suc k) s at = or_kept (vertex n s at) (λ v next. v ∷ values_from n k s next) []
 
 link-vertices : (l : List ℕ) → 2 ≤ length l → vertices (link_of l) ≡ l
 link-vertices [] h = absurd (omega arith)
@@ -58,27 +61,40 @@ path-again n least s at two e =
         → many (λ (u : Unit {0}). vertex n) (λ u v. u) k tt s mid ≡ Got l next → Again n least s at (vertices (link_of l)) next
     go l next k mid d h e f = subst (λ (m : List ℕ). Again n least s at m next) (sym (link-vertices l (omega arith))) (mid, rw d e, rw d f)
 
--- and the same without a look at the answers
+-- and the same by its values
 module _ (n : ℕ) (s : List ℕ) where
-  pub values_next : (k at : ℕ) {x : Item} → 0 < k → x ≡ item_read (vertex n s at) → values_from n k s at ≡ x.value ∷ values_from n (k - 1) s x.next
+  pub values_next : (k at : ℕ) {x : Item} → 0 < k → Ok x ≡ item_read (vertex n s at) → values_from n k s at ≡ x.value ∷ values_from n (k - 1) s x.next
   unfolding values_from
   values_next zero at h e = absurd (omega arith)
-  values_next (suc k) at h e = let z : suc k - 1 ≡ k = omega arith in rw (z, e)
+  values_next (suc k) at h e = let z : suc k - 1 ≡ k = omega arith in rw (z, item-ok (vertex n s at) e)
+
+  pub values_none : (k at : ℕ) {d : Answer} → Err d ≡ item_read (vertex n s at) → values_from n k s at ≡ []
+  unfolding values_from
+  values_none zero at e = refl
+  values_none (suc k) at e = rw (told-err _ (vertex n s at) e).2
 
   many-values : (k at : ℕ) {l : List ℕ} {next : ℕ} → many (λ (u : Unit {0}). vertex n) (λ u v. u) k tt s at ≡ Got l next → values_from n k s at ≡ l
-  unfolding many values_from item_read
+  unfolding many values_from
   many-values zero at e = carry (λ l z. [] ≡ l) e refl
   many-values (suc k) at e =
       let g = on_got (vertex n s at) _ e in
       let q = on_got (many (λ (u : Unit {0}). vertex n) (λ u v. u) k tt s g.1) _ g.3 in
       rw g.2 (carry (λ l z. g.0 ∷ values_from n k s g.1 ≡ l) q.3 (ap (λ (l : List ℕ). g.0 ∷ l) (many-values k g.1 q.2)))
 
-  pub path-values : (least at : ℕ) {P : Path} {next : ℕ} {x : Item} → 2 ≤ least → path n least s at ≡ Got P next → x ≡ item_read ((number needs⟨ 9 ⟩ within least n) s at)
-      → (x.value ≡ length (vertices P)) × (values_from n x.value s x.next ≡ vertices P)
-  unfolding item_read
-  path-values least at two e f =
-      let g = path-again n least s at two e in
-      rw (f, g.1) (refl, many-values _ g.0 g.2)
+  module _ (least at : ℕ) {P : Path} {next : ℕ} (two : 2 ≤ least) (e : path n least s at ≡ Got P next) where
+    pub path-values : {x : Item} → Ok x ≡ item_read ((number needs⟨ 9 ⟩ within least n) s at) → (x.value ≡ length (vertices P)) × (values_from n x.value s x.next ≡ vertices P)
+    path-values f =
+        let g = path-again n least s at two e in
+        let k = sym (item-ok _ f) ∙ g.1 in
+        carry (λ v z. (v ≡ length (vertices P)) × (values_from n v s z ≡ vertices P)) (sym k) (refl, many-values _ g.0 g.2)
+
+    -- its length can be read
+    pub path-counted : {d : Answer} → Err d ≡ item_read ((number needs⟨ 9 ⟩ within least n) s at) → ⊥
+    path-counted f =
+        let g = path-again n least s at two e in
+        let k = told-err _ ((number needs⟨ 9 ⟩ within least n) s at) f in
+        let z : Got (length (vertices P)) g.0 ≡ Refused k.0 k.1 = sym g.1 ∙ k.2 in
+        cc
 
 module _ (n least : ℕ) (s : List ℕ) (at : ℕ) where
   pub path-length : {q p : ℕ} → (number needs⟨ 9 ⟩ within least n) s at ≡ Refused q p → path n least s at ≡ Refused q p
@@ -100,7 +116,7 @@ module _ (n least : ℕ) (s : List ℕ) (at : ℕ) where
 
     pub path-rest : (adj : ℕ → ℕ → Bool) (old : ℕ → Bool) {first from : ℕ} → n ≤ capacity → vertex n s mid ≡ Got first from
         → runs (path_loop adj old n first len) (len - 1) tt (path_begun first len) s from ≡ path_read adj old (path n least s at)
-    unfolding runs path_read many
+    unfolding runs told many
     path-rest adj old {first} {from} h f =
         let k : first < n = vertex-low n s mid f in
         go (many (λ (u : Unit {0}). vertex n) (λ u v. u) (len - 1) tt s from) refl (omega arith) ∙ ap (path_read adj old) (sym (path-many (more len two)))

@@ -1,63 +1,50 @@
--- What an item, or a path, that was handed back tells of what was read. Assumes nothing.
+-- What was handed back tells of what was read. Assumes nothing.
 use Prim.Native.Nat.{ℕ, ◌≤◌}
+use mathlib.Core.List.{List}
 use mathlib.Core.Bool.{Bool, cond}
-use mathlib.Core.Path.{◌≡◌, refl, ap}
-use native.Mathlib.Omega.{arith}
+use mathlib.Core.Path.{◌≡◌, refl}
 use lib.Dec.{leb}
 use borrow.Author.Tests.{le-leb}
-use Rattle.record.specs.Read.{Read, Read.Got, Read.Refused}
+use Rattle.std.specs.Prelude.{Result, Ok, Err}
+use Rattle.std.specs.Result.{IsErrAnd}
+use Rattle.std.proofs.lemmas.Result.{err_from_is_err_and}
+use Rattle.record.specs.Read.{Read, Read.Got, Read.Refused, ◌needs⟨◌⟩◌}
+use Rattle.record.specs.Number.{number}
+use Rattle.record.proofs.Loops.{needs_got}
 use Rattle.record.specs.declared.Answer.{Answer}
-use Rattle.record.specs.declared.Answer.TheVariants.{Accepted, CertificateFault}
-use Rattle.record.proofs.Faults.{NotAccepted, not_accepted}
+use Rattle.record.specs.declared.Answer.TheVariants.{CertificateFault}
 use Rattle.vertexset.specs.Set.{capacity}
-use Rattle.connectivity.specs.Path.{Path}
-use Rattle.paths.specs.Items.{refused, item_read, end_read}
-use Rattle.paths.specs.Paths.{path_read, path_told}
-use Rattle.paths.specs.declared.PathRead.{PathRead}
 use Rattle.paths.specs.declared.Item.{Item}
+use Rattle.paths.specs.Items.{told, item_read}
 
--- a refusal, as it was read and as it is handed on
-abbrev pub Stopped : {A : Type 0} → Read A → Item → Type 0
-Stopped r x = (q : ℕ) × (p : ℕ) × (r ≡ Refused q p) × (x ≡ refused q p)
+module _ {A B : Type 0} (f : A → ℕ → B) where
+  -- the value that an Ok was made of, and the place after it
+  pub told-ok : (R : Read A) {x : B} → Ok x ≡ told f R → (a : A) × (next : ℕ) × (R ≡ Got a next) × (x ≡ f a next)
+  unfolding told
+  told-ok (Got a next) e = (a, next, refl, cc)
+  told-ok (Refused q p) e = cc
 
--- no answer is both
-pub never : {A : Type 0} {a : Answer} (r p : ℕ) → a ≡ Accepted → a ≡ CertificateFault r p → A
-never r p d e = let z : ◌≡◌ {A = ℕ} 0 1 = cc in absurd (omega arith)
+  -- the refusal that an Err was made of
+  pub told-err : (R : Read A) {d : Answer} → Err d ≡ told f R → (q : ℕ) × (p : ℕ) × (R ≡ Refused q p) × (d ≡ CertificateFault q p)
+  unfolding told
+  told-err (Got a next) e = cc
+  told-err (Refused q p) e = (q, p, refl, cc)
 
-answer_is : {x y : Item} → x ≡ y → x.answer ≡ y.answer
-answer_is e = ap (λ (z : Item). z.answer) e
+  -- and what a `?` makes of it
+  pub told-exit : {C : Type 0} (r : Result C Answer) (R : Read A) {d : Answer} → Err d ≡ told f R → IsErrAnd r (λ y. y ≡ d) → (q : ℕ) × (p : ℕ) × (R ≡ Refused q p) × (r ≡ Err (CertificateFault q p))
+  told-exit r R e k =
+      let g = told-err R e in
+      let h = err_from_is_err_and r k in
+      (g.0, g.1, g.2, cc)
 
-pub value_told : (r : Read ℕ) {x : Item} → x.answer ≡ Accepted → x ≡ item_read r → r ≡ Got x.value x.next
-unfolding item_read
-value_told (Got v next) d e = rw e
-value_told (Refused q p) d e = never q p d (answer_is e)
+-- a number that was handed back is the one that was read
+pub item-ok : (R : Read ℕ) {x : Item} → Ok x ≡ item_read R → R ≡ Got x.value x.next
+item-ok R {x} e = let g = told-ok _ R e in rw g.3 g.2
 
-pub fault_told : (r : Read ℕ) {x : Item} → NotAccepted x.answer → x ≡ item_read r → Stopped r x
-unfolding item_read
-fault_told (Got v next) k e = absurd (not_accepted _ k (answer_is e))
-fault_told (Refused q p) k e = (q, p, refl, e)
-
-pub end_told : {A : Type 0} (r : Read A) {x : Item} → x.answer ≡ Accepted → x ≡ end_read r → (a : A) × (r ≡ Got a x.next)
-unfolding end_read
-end_told (Got a next) d e = (a, rw e)
-end_told (Refused q p) d e = never q p d (answer_is e)
-
-pub end_fault : {A : Type 0} (r : Read A) {x : Item} → NotAccepted x.answer → x ≡ end_read r → Stopped r x
-unfolding end_read
-end_fault (Got a next) k e = absurd (not_accepted _ k (answer_is e))
-end_fault (Refused q p) k e = (q, p, refl, e)
-
-module _ (adj : ℕ → ℕ → Bool) (old : ℕ → Bool) where
-  pub path-told : (r : Read Path) {x : PathRead} → x.end.answer ≡ Accepted → x ≡ path_read adj old r
-      → (P : Path) × ((r ≡ Got P x.end.next) × (x ≡ path_told adj old P x.end.next))
-  unfolding path_read
-  path-told (Got P next) d e = (P, (rw e, rw e))
-  path-told (Refused q p) d e = never q p d (ap (λ (y : PathRead). y.end.answer) e)
-
-  pub path-fault : (r : Read Path) {x : PathRead} → NotAccepted x.end.answer → x ≡ path_read adj old r → Stopped r x.end
-  unfolding path_read
-  path-fault (Got P next) k e = absurd (not_accepted _ k (ap (λ (y : PathRead). y.end.answer) e))
-  path-fault (Refused q p) k e = (q, p, refl, ap (λ (y : PathRead). y.end) e)
+-- and is then tested
+pub item_tested : (r : ℕ) (ok : ℕ → Bool) (s : List ℕ) (at : ℕ) {x : Item} {b : Bool} → Ok x ≡ item_read (number s at) → ok x.value ≡ b
+    → item_read (cond b (Got x.value x.next) (Refused r at)) ≡ item_read ((number needs⟨ r ⟩ ok) s at)
+item_tested r ok s at e f = rw (needs_got number r ok (item-ok (number s at) e), f)
 
 -- within the limit
 pub limited-in : {A : Type 0} (n at : ℕ) (x : Read A) → n ≤ capacity → cond (leb n capacity) x (Refused 9 at) ≡ x

@@ -8,7 +8,9 @@ use native.Mathlib.Decide.{ℕ_discrete}
 use lib.Dec.{eqb}
 use lib.ListN.{length}
 use borrow.Author.Tests.{ne_eqb}
+use Rattle.std.specs.Prelude.{Result, Ok}
 use Rattle.record.specs.Read.{folded}
+use Rattle.record.specs.declared.Answer.{Answer}
 use Rattle.record.proofs.Loops.{All}
 use Rattle.vertexset.specs.Set.{has, empty_set, inserted, word_count, capacity}
 use Rattle.vertexset.specs.declared.VertexSet.{VertexSet}
@@ -18,7 +20,6 @@ use Rattle.connectivity.specs.Path.{Path, vertices}
 use Rattle.certificates.specs.Tests.{with, along, each, distinct}
 use Rattle.certificates.specs.Records.{tail_link}
 use Rattle.paths.specs.declared.PathRead.{PathRead}
-use Rattle.paths.specs.Items.{taken}
 use Rattle.paths.specs.Paths.{path_told}
 use Rattle.paths.specs.Code.{path_loop, path_begun, walked_on, Walked}
 
@@ -121,7 +122,7 @@ module _ (adj : ℕ → ℕ → Bool) (old : ℕ → Bool) where
 
   -- from the first vertex on, they tell what the path tells
   pub path-walked : (n first len v : ℕ) (l : List ℕ) (next : ℕ) → suc (suc (length l)) ≡ len → first < capacity → All (λ x. x < capacity) (v ∷ l)
-      → (path_loop adj old n first len).ok (folded (walked_on adj old) (path_begun first len) (v ∷ l)) next ≡ path_told adj old (tail_link first v l) next
+      → (path_loop adj old n first len).ok (folded (walked_on adj old) (path_begun first len) (v ∷ l)) next ≡ Ok (path_told adj old (tail_link first v l) next)
   path-walked n first len v l next e k q =
       let i : first < 64 * word_count = omega arith in
       let d : len - 1 ≡ suc (length l) = omega arith in
@@ -129,6 +130,6 @@ module _ (adj : ℕ → ℕ → Bool) (old : ℕ → Bool) where
       ∙ same (tail_link first v l) _ _ (tail_first first v l) (tail_vertices first v l) (new_told first v l i))
     where
       same : (P : Path) {w : Bool} (z : ℕ) (vs : List ℕ) → z ≡ first → vs ≡ first ∷ v ∷ l → w ≡ (distinct (first ∷ v ∷ l) && clear old P.inner)
-          → ◌≡◌ {A = PathRead} (record { end = taken 0 next; first = first; last = P.t; along = along adj first P.inner P.t; new = w; len = len })
-          (record { end = taken 0 next; first = z; last = P.t; along = along adj z P.inner P.t; new = distinct vs && clear old P.inner; len = length vs })
+          → ◌≡◌ {A = Result PathRead Answer} (Ok (record { next = next; first = first; last = P.t; along = along adj first P.inner P.t; new = w; len = len }))
+          (Ok (record { next = next; first = z; last = P.t; along = along adj z P.inner P.t; new = distinct vs && clear old P.inner; len = length vs }))
       same P z vs f g w = rw (w, g, f, ← e)

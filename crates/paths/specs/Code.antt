@@ -1,11 +1,11 @@
 -- What the private functions give, and what reading a path again gives.
-use Rattle.std.specs.Prelude.{ℕ, ◌-◌, Bool, true, ◌&&◌, ◌||◌, not, eqb}
+use Rattle.std.specs.Prelude.{ℕ, ◌-◌, Bool, true, ◌&&◌, ◌||◌, not, eqb, Result, Ok, Err}
 use Rattle.record.specs.Loop.{Loop}
+use Rattle.record.specs.declared.Answer.{Answer}
+use Rattle.record.specs.declared.Answer.TheVariants.{CertificateFault}
 use Rattle.vertexset.specs.Set.{has, empty_set, inserted}
 use Rattle.vertexset.specs.declared.VertexSet.{VertexSet}
 use Rattle.certificates.specs.Records.{vertex}
-use Rattle.paths.specs.Items.{taken, refused}
-use Rattle.paths.specs.Paths.{no_path}
 use Rattle.paths.specs.declared.PathRead.{PathRead}
 
 -- what is known of a path up to the vertex read last, and how many vertices are left to read
@@ -30,11 +30,11 @@ walked_on adj old t v = record {
 }
 
 -- the loop over the vertices after the first
-abbrev pub path_loop : (ℕ → ℕ → Bool) → (ℕ → Bool) → ℕ → ℕ → ℕ → Loop (Unit {0}) ℕ Walked PathRead
+abbrev pub path_loop : (ℕ → ℕ → Bool) → (ℕ → Bool) → ℕ → ℕ → ℕ → Loop (Unit {0}) ℕ Walked (Result PathRead Answer)
 path_loop adj old n first len = record {
   item = λ u. vertex n;
   after = λ u v. u;
   step = walked_on adj old;
-  ok = λ t next. record { end = taken 0 next; first = first; last = t.last; along = t.along; new = t.new; len = len };
-  bad = λ r p. no_path (refused r p);
+  ok = λ t next. Ok (record { next = next; first = first; last = t.last; along = t.along; new = t.new; len = len });
+  bad = λ r p. Err (CertificateFault r p);
 }

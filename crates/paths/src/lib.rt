@@ -9,50 +9,26 @@ ghost use Rattle.vertexset.specs.Set.{has, inserted, capacity};
 ghost use Rattle.graph.specs.Rows.{adjacent_in};
 ghost use Rattle.certificates.specs.Tests.{all_below};
 ghost use Rattle.certificates.specs.Records.{vertex, path};
-ghost use Rattle.paths.specs.Items.{taken, refused, item_read, limited};
-ghost use Rattle.paths.specs.Paths.{path_read, no_path, vertices_at};
+ghost use Rattle.paths.specs.Items.{item_read, limited};
+ghost use Rattle.paths.specs.Paths.{path_read, vertices_at};
 ghost use Rattle.paths.specs.Code.{path_loop, path_begun};
 
 use graph::GraphTable;
 use record::{Answer, Number};
 use vertexset::VertexSet;
 
-// A number of a certificate that was read and tested: accepted, with its value and the place after it; or the certificate's
-// fault, beside 0 and 0.
+// A number of a certificate that was read and tested, and the place after it.
 #[derive(Clone, Copy)]
 pub struct Item {
-    pub answer: Answer,
     pub value: u16,
     pub next: usize,
 }
 
-impl Item {
-    pub fn taken(value: u16, next: usize) -> Self
-        ensures { result ≡ taken value next }
-    {
-        Item {
-            answer: Answer::Accepted,
-            value,
-            next,
-        }
-    }
-
-    pub fn refused(number: u8, place: usize) -> Self
-        ensures { result ≡ refused number place }
-    {
-        Item {
-            answer: Answer::CertificateFault(number, place),
-            value: 0,
-            next: 0,
-        }
-    }
-}
-
-// A path that was read: where reading goes on (or its fault), its two ends, whether its neighbours are adjacent, whether no
-// vertex is twice on it and all inner ones are new, and how many vertices it has.
+// A path that was read: where reading goes on, its two ends, whether its neighbours are adjacent, whether no vertex is twice on it
+// and all inner ones are new, and how many vertices it has.
 #[derive(Clone, Copy)]
 pub struct PathRead {
-    pub end: Item,
+    pub next: usize,
     pub first: u16,
     pub last: u16,
     pub along: bool,
@@ -60,49 +36,36 @@ pub struct PathRead {
     pub len: u16,
 }
 
-// A number from least to most, refused 9 otherwise.
-pub fn read_ranged(s: &[u8], least: u16, most: u16, at: usize) -> Item
-    ensures { result ≡ item_read ((number needs⟨ 9 ⟩ within least most) s.now at) }
+fn read_item(s: &[u8], at: usize) -> Result<Item, Answer>
+    ensures { result ≡ item_read (number s.now at) }
 {
     let x = record::read_number(s, at);
-    let Number::Value(v, next) = x else {
-        return Item::refused(record::fault_number(x), record::fault_place(x));
+    let Number::Value(value, next) = x else {
+        return Err(x.certificate_fault());
     };
-    if v < least {
-        return Item::refused(9, at);
+    Ok(Item { value, next })
+}
+
+// A number from least to most, refused 9 otherwise.
+pub fn read_ranged(s: &[u8], least: u16, most: u16, at: usize) -> Result<Item, Answer>
+    ensures { result ≡ item_read ((number needs⟨ 9 ⟩ within least most) s.now at) }
+{
+    let x = read_item(s, at)?;
+    if x.value < least || most < x.value {
+        return Err(Answer::CertificateFault(9, at));
     }
-    if most < v {
-        return Item::refused(9, at);
-    }
-    Item::taken(v, next)
+    Ok(x)
 }
 
 // A vertex below n, refused 9 otherwise.
-pub fn read_vertex(s: &[u8], n: u16, at: usize) -> Item
+pub fn read_vertex(s: &[u8], n: u16, at: usize) -> Result<Item, Answer>
     ensures { result ≡ item_read (vertex n s.now at) }
 {
-    let x = record::read_number(s, at);
-    let Number::Value(v, next) = x else {
-        return Item::refused(record::fault_number(x), record::fault_place(x));
-    };
-    if n <= v {
-        return Item::refused(9, at);
+    let x = read_item(s, at)?;
+    if n <= x.value {
+        return Err(Answer::CertificateFault(9, at));
     }
-    Item::taken(v, next)
-}
-
-// A path that can't be read: its fault, and nothing beside it.
-fn no_path(end: Item) -> PathRead
-    ensures { result ≡ no_path end }
-{
-    PathRead {
-        end,
-        first: 0,
-        last: 0,
-        along: false,
-        new: false,
-        len: 0,
-    }
+    Ok(x)
 }
 
 // The vertices of a path after its first. The words of their set are changed in place, so that no set is copied for a vertex.
@@ -114,7 +77,7 @@ fn read_rest(
     len: u16,
     first: u16,
     from: usize,
-) -> PathRead
+) -> Result<PathRead, Answer>
     requires { (0 < len) × (n ≤ capacity) }
     ensures { result ≡ runs (path_loop (adjacent_in rows.now) (has old.words) n first len) (len - 1) tt (path_begun first len) s.now from }
 {
@@ -123,35 +86,29 @@ fn read_rest(
     let mut along = true;
     let mut new = true;
     let mut last = first;
-    let mut at = from;
-    let mut left = len - 1;
-    while 0 < left {
-        let x = read_vertex(s, n, at);
-        let a = x.answer;
-        let Answer::Accepted = a else {
-            return no_path(x);
-        };
+    let mut next = from;
+    for i in 1..len {
+        let x = read_vertex(s, n, next)?;
         let v = x.value;
-        let i = (v / 64) as usize;
-        let w = words[i];
+        let word = (v / 64) as usize;
+        let w = words[word];
         along = along & graph::adjacent(rows, last, v);
-        new = new & ((w >> (v % 64)) % 2 == 0) & ((left == 1) | !old.contains(v));
-        words[i] = w | (1u64 << (v % 64));
+        new = new & ((w >> (v % 64)) % 2 == 0) & ((i + 1 == len) | !old.contains(v));
+        words[word] = w | (1u64 << (v % 64));
         last = v;
-        at = x.next;
-        left -= 1;
+        next = x.next;
     }
-    PathRead {
-        end: Item::taken(0, at),
+    Ok(PathRead {
+        next,
         first,
         last,
         along,
         new,
         len,
-    }
+    })
 }
 
-// A path of at least as many vertices.
+// A path of at least as many vertices. The two public readers below keep their names, each with its own least number.
 fn read_path(
     s: &[u8],
     rows: &[u64; GraphTable::ROW_WORDS],
@@ -159,23 +116,15 @@ fn read_path(
     old: VertexSet,
     least: u16,
     at: usize,
-) -> PathRead
+) -> Result<PathRead, Answer>
     requires { 2 ≤ least }
     ensures { result ≡ path_read (adjacent_in rows.now) (has old.words) (limited n (path n least) s.now at) }
 {
     if VertexSet::CAPACITY < n {
-        return no_path(Item::refused(9, at));
+        return Err(Answer::CertificateFault(9, at));
     }
-    let x = read_ranged(s, least, n, at);
-    let a = x.answer;
-    let Answer::Accepted = a else {
-        return no_path(x);
-    };
-    let y = read_vertex(s, n, x.next);
-    let b = y.answer;
-    let Answer::Accepted = b else {
-        return no_path(y);
-    };
+    let x = read_ranged(s, least, n, at)?;
+    let y = read_vertex(s, n, x.next)?;
     read_rest(s, rows, n, old, x.value, y.value, y.next)
 }
 
@@ -196,7 +145,7 @@ pub fn read_link_path(
     n: u16,
     old: VertexSet,
     at: usize,
-) -> PathRead
+) -> Result<PathRead, Answer>
     ensures { result ≡ path_read (adjacent_in rows.now) (has old.words) (limited n (path n 2) s.now at) }
 {
     read_path(s, rows, n, old, 2, at)
@@ -209,7 +158,7 @@ pub fn read_ear_path(
     n: u16,
     old: VertexSet,
     at: usize,
-) -> PathRead
+) -> Result<PathRead, Answer>
     ensures { result ≡ path_read (adjacent_in rows.now) (has old.words) (limited n (path n 3) s.now at) }
 {
     read_path(s, rows, n, old, 3, at)
@@ -220,23 +169,17 @@ pub fn read_ear_path(
 pub fn with_path(s: &[u8], n: u16, at: usize, set: VertexSet) -> VertexSet
     ensures { result ≡ folded inserted set (vertices_at n s.now at) }
 {
-    let x = read_ranged(s, 2, n, at);
-    let a = x.answer;
-    let Answer::Accepted = a else {
+    let Ok(x) = read_ranged(s, 2, n, at) else {
         return set;
     };
     let mut words = set.words;
     let mut next = x.next;
-    let mut left = x.value;
-    while 0 < left {
-        let y = read_vertex(s, n, next);
-        let b = y.answer;
-        let Answer::Accepted = b else {
+    for _ in 0..x.value {
+        let Ok(y) = read_vertex(s, n, next) else {
             return set;
         };
         let v = y.value;
         next = y.next;
-        left -= 1;
         if v < VertexSet::CAPACITY {
             words[(v / 64) as usize] |= 1u64 << (v % 64);
         }

@@ -13,10 +13,7 @@ use Rattle.paths.proofs.read_rest.Given as goal
 abbrev pub walkedTo : List ℕ → Bool → Bool → ℕ → ℕ → Walked
 walkedTo words along new last left = record { last = last; along = along; new = new; set = of_words words; left = left }
 
-abbrev pub invariant-loop-left : goal.invariant-loop-left
-invariant-loop-left l = (length l.words ≡ word_count)
-    × (runs (path_loop (adjacent_in l.rows) (has l.old.words) l.n l.first l.len) l.left tt (walkedTo l.words l.along l.new l.last l.left) l.s l.at
+abbrev pub invariant-loop-i : goal.invariant-loop-i
+invariant-loop-i l = (length l.words ≡ word_count)
+    × (runs (path_loop (adjacent_in l.rows) (has l.old.words) l.n l.first l.len) (l.len - l.i) tt (walkedTo l.words l.along l.new l.last (l.len - l.i)) l.s l.next
     ≡ runs (path_loop (adjacent_in l.rows) (has l.old.words) l.n l.first l.len) (l.len - 1) tt (path_begun l.first l.len) l.s l.from)
-
-abbrev pub decreases-loop-left : goal.decreases-loop-left
-decreases-loop-left l = l.left

@@ -2,20 +2,21 @@
 
 use mathlib.Core.Path.{◌∙◌, sym, ap}
 use borrow.Author.Tests.{lt-ltb, le-ltb}
-use Rattle.record.proofs.Faults.{unread, tested_unread, tested_value}
+use Rattle.record.proofs.Loops.{needs_bad}
 use Rattle.certificates.specs.Records.{vertex}
-use Rattle.paths.specs.Items.{item_read}
+use Rattle.paths.specs.Items.{told, item_read}
+use Rattle.paths.proofs.Told.{told-exit, item_tested}
 use Rattle.paths.proofs.read_vertex.Goals as goal
 
-pub returns-in_default : goal.returns-in_default
-unfolding item_read vertex
-returns-in_default c = c.refused.ensures
-    ∙ ap item_read (sym (tested_unread _ _ _ _ (unread _ _ c.read_number-x.ensures c.in_default.not-Value c.fault_number.ensures c.fault_place.ensures)))
+pub returns-in_err-x : goal.returns-in_err-x
+unfolding told vertex
+returns-in_err-x c = let f = told-exit _ c.from_residual.result _ c.in_err-x.ensures c.from_residual.ensures.1 in
+    f.3 ∙ ap item_read (sym (needs_bad _ 9 _ f.2))
 
-pub returns-then-n-v : goal.returns-then-n-v
-unfolding item_read vertex
-returns-then-n-v c = c.refused-then-n-v.ensures ∙ ap item_read (sym (tested_value 9 _ _ _ (sym c.in-Value.is ∙ c.read_number-x.ensures) (le-ltb _ _ c.if-n-v.true)))
+pub returns-then-n-x : goal.returns-then-n-x
+unfolding told vertex
+returns-then-n-x c = item_tested 9 _ _ _ c.in_ok-x.ensures (le-ltb _ _ c.if-n-x.true)
 
 pub returns : goal.returns
-unfolding item_read vertex
-returns c = c.taken.ensures ∙ ap item_read (sym (tested_value 9 _ _ _ (sym c.in-Value.is ∙ c.read_number-x.ensures) (lt-ltb _ _ c.if-n-v.false)))
+unfolding told vertex
+returns c = item_tested 9 _ _ _ c.in_ok-x.ensures (lt-ltb _ _ c.if-n-x.false)

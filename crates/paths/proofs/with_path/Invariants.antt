@@ -1,3 +1,4 @@
+use Prim.Native.Nat.{◌-◌}
 use mathlib.Core.Path.{◌≡◌}
 use lib.ListN.{length}
 use Rattle.record.specs.Read.{folded}
@@ -8,8 +9,5 @@ use Rattle.paths.proofs.Reading.{set_loop}
 use Rattle.paths.proofs.Sets.{of_words}
 use Rattle.paths.proofs.with_path.Given as goal
 
-abbrev pub invariant-loop-left : goal.invariant-loop-left
-invariant-loop-left l = (length l.words ≡ word_count) × (runs (set_loop l.n l.set) l.left tt (of_words l.words) l.s l.next ≡ folded inserted l.set (vertices_at l.n l.s l.at))
-
-abbrev pub decreases-loop-left : goal.decreases-loop-left
-decreases-loop-left l = l.left
+abbrev pub invariant-loop : goal.invariant-loop
+invariant-loop l = (length l.words ≡ word_count) × (runs (set_loop l.n l.set) (l.end - l.counter) tt (of_words l.words) l.s l.next ≡ folded inserted l.set (vertices_at l.n l.s l.at))
