@@ -1,4 +1,5 @@
 pub mod EdgeTests
+pub mod Results
 pub mod Doubles
 pub mod Ends
 pub mod Reading

@@ -5,6 +5,7 @@ use mathlib.Core.Path.{◌≡◌, refl, sym, ap, subst, ◌∙◌}
 use native.Mathlib.Omega.{arith}
 use lib.ListN.{length, drop}
 use Rattle.record.specs.Read.{Read, Read.Got, Read.Refused, Bytes, ended, within}
+use Rattle.std.specs.Prelude.{Ok}
 use Rattle.record.specs.declared.Answer.TheVariants.{Accepted}
 use Rattle.record.proofs.Laws.{Reads, needs_law, pair-law, counted-law, into-law, each_same, ended-got, ended-there, ended-back}
 use Rattle.record.proofs.Groups.{number-law}
@@ -12,12 +13,12 @@ use Rattle.record.proofs.Parts.{one_value, leads_there, leads_back}
 use Rattle.reading.specs.Plan.{Plan, Allowed, proper, follows, edge, plan, plan_bytes}
 use Rattle.graph.specs.Limits.{min_vertices, max_vertices, max_edges}
 use Rattle.graph.specs.Rows.{bare_rows}
-use Rattle.reading.specs.Code.{graph_of, no_ends, table_of, plan_read, whole_plan, leading_plan, head_of, rows_left, ends_read, by_value}
+use Rattle.reading.specs.Code.{PlanTold, graph_of, no_ends, table_of, plan_read, whole_plan, leading_plan, plan_result, head_of, rows_left, ends_read, by_value}
 use Rattle.reading.specs.declared.PlanHead.{PlanHead}
 use Rattle.reading.specs.declared.PlanTable.{PlanTable}
-use Rattle.reading.specs.declared.PlanRead.{PlanRead}
 use Rattle.record.proofs.Bounds.{within-true, true_within}
 use Rattle.reading.proofs.EdgeTests.{proper-true}
+use Rattle.reading.proofs.Results.{ok_told}
 use Rattle.reading.proofs.Reading.{rows_got}
 use Rattle.reading.proofs.Ends.{plan-few, ends_got}
 use Rattle.record.specs.Number.{number_limit}
@@ -73,32 +74,30 @@ got_arrays s e = (plan-few s e, rows_got bare_rows s e, ends_got s e)
 pub leading_arrays : (s : List ℕ) → (leading_plan s).answer ≡ Accepted → Arrays s (leading_plan s).plan
 leading_arrays s e =
     let t = told (plan s 0) e in
-    subst (λ (r : PlanRead). Arrays s r.plan) (sym (got (plan s 0) t.0 t.1 t.2)) (got_arrays s t.2)
+    subst (λ (r : PlanTold). Arrays s r.plan) (sym (got (plan s 0) t.0 t.1 t.2)) (got_arrays s t.2)
 
 pub whole_arrays : (s : List ℕ) → (whole_plan s).answer ≡ Accepted → Arrays s (whole_plan s).plan
 whole_arrays s e =
     let t = told (ended plan s 0) e in
-    subst (λ (r : PlanRead). Arrays s r.plan) (sym (got (ended plan s 0) t.0 t.1 t.2)) (got_arrays s (ended-got plan t.2).0)
+    subst (λ (r : PlanTold). Arrays s r.plan) (sym (got (ended plan s 0) t.0 t.1 t.2)) (got_arrays s (ended-got plan t.2).0)
 
--- a plan that was refused has no edges
-pub head_few : (x : Read Plan) {h : PlanHead} → h ≡ head_of (plan_read x) → ((plan_read x).answer ≡ Accepted → (plan_read x).plan.m ≤ max_edges) → h.m ≤ max_edges
-unfolding plan_read
-head_few (Got p next) e f = omega (arith, ap (λ (h : PlanHead). h.m) e, f refl)
-head_few (Refused r p) e f = omega (arith, ap (λ (h : PlanHead). h.m) e)
+-- the plan by value from its numbers, its rows and its edges
+module _ (s : List ℕ) (t : PlanTold) {h : PlanHead} (e : Ok h ≡ head_of t) where
+  pub head_few : (t.answer ≡ Accepted → t.plan.m ≤ max_edges) → h.m ≤ max_edges
+  head_few f = let k = ok_told t.answer e in omega (arith, ap (λ (x : PlanHead). x.m) k.1, f k.0)
 
--- the plan by value from its numbers, those rows and those edges
-pub valued : (x : Read Plan) (s : List ℕ) {h : PlanHead} {rows : List ℕ} → h ≡ head_of (plan_read x)
-    → ((plan_read x).answer ≡ Accepted → (rows ≡ (plan_read x).plan.graph.rows) × (ends_read no_ends (plan_read x).plan.m s ≡ (plan_read x).plan.ends))
-    → by_value h rows (ends_read no_ends h.m s) ≡ plan_read x
-unfolding plan_read
-valued (Got p next) s {rows = rows} e f = ap (λ (h : PlanHead). by_value h rows (ends_read no_ends h.m s)) e ∙ rw ((f refl).0, (f refl).1)
-valued (Refused r p) s {rows = rows} e f = ap (λ (h : PlanHead). by_value h rows (ends_read no_ends h.m s)) e
+  pub valued : {rows : List ℕ} → (t.answer ≡ Accepted → (rows ≡ t.plan.graph.rows) × (ends_read no_ends t.plan.m s ≡ t.plan.ends))
+      → Ok (by_value h rows (ends_read no_ends h.m s)) ≡ plan_result t
+  valued {rows} f =
+      let k = ok_told t.answer e in
+      let r = f k.0 in
+      rw (k.0, k.1, r.0, r.1)
 
 pub accepted : (s : List ℕ) → Bytes s → (whole_plan s).answer ≡ Accepted → (p : Plan) × Allowed p × (s ≡ plan_bytes p) × ((whole_plan s).plan ≡ table_of p)
 accepted s bytes e =
     let t = told (ended plan s 0) e in
     let q = ended-there plan-law bytes t.2 in
-    (t.0, q.1, q.0, ap (λ (r : PlanRead). r.plan) (got (ended plan s 0) t.0 t.1 t.2))
+    (t.0, q.1, q.0, ap (λ (r : PlanTold). r.plan) (got (ended plan s 0) t.0 t.1 t.2))
 
 -- and its graph is the plan's
 pub accepted_graph : (s : List ℕ) (p : Plan) → (whole_plan s).plan ≡ table_of p → (whole_plan s).plan.graph ≡ graph_of p
@@ -115,7 +114,7 @@ led s bytes e =
     let t = told (plan s 0) e in
     let q = leads_there plan-law bytes t.2 in
     let g = got (plan s 0) t.0 t.1 t.2 in
-    (t.0, drop t.1 s, q.2, q.0, ap (λ (r : PlanRead). r.plan) g, ap (λ (r : PlanRead). r.next) g ∙ q.1)
+    (t.0, drop t.1 s, q.2, q.0, ap (λ (r : PlanTold). r.plan) g, ap (λ (r : PlanTold). r.next) g ∙ q.1)
 
 pub leads : (p : Plan) (rest : List ℕ) → Allowed p → leading_plan (plan_bytes p ++ rest) ≡ record { answer = Accepted; plan = table_of p; next = length (plan_bytes p) }
 leads p rest a = got (plan (plan_bytes p ++ rest) 0) p (length (plan_bytes p)) (leads_back plan-law p rest a)

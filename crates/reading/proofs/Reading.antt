@@ -9,21 +9,20 @@ use lib.Dec.{ltb}
 use borrow.Author.Tests.{lt-ltb, le-ltb}
 use Rattle.record.specs.Read.{Each, Read, Read.Got, Read.Refused, on_read, ◌needs⟨◌⟩◌, ◌▸◌, ◌▹◌, into, many, or_kept, folded, ended, within}
 use Rattle.record.specs.Number.{number, number_at, as_read}
+use Rattle.std.specs.Prelude.{Ok, Err}
 use Rattle.record.specs.Loop.{runs, finish}
 use Rattle.record.specs.declared.Number.TheVariants.{Value}
 use Rattle.record.specs.declared.Answer.{Answer}
-use Rattle.record.specs.declared.Answer.TheVariants.{Accepted, Grade, PlanFault, CertificateFault}
-use Rattle.record.proofs.Faults.{NotAccepted, not_accepted}
+use Rattle.record.specs.declared.Answer.TheVariants.{Accepted, PlanFault}
 use Rattle.record.proofs.Bounds.{within-true}
 use Rattle.record.proofs.Laws.{on_got, carry}
 use Rattle.record.proofs.Loops.{needs_true, many-length, many-same, led-folded}
 use Rattle.reading.specs.Plan.{Plan, EdgeAllowed, edge, plan, proper, follows}
 use Rattle.graph.specs.Limits.{min_vertices, max_vertices, max_edges}
 use Rattle.graph.specs.Rows.{joined}
-use Rattle.reading.specs.Code.{graph_of, table_of, no_plan, tested_edge, edge_read, edge_loop, refused_head, plan_read, head_of, edge_after, edge_joined, edges_in, rows_left, with_arrays}
+use Rattle.reading.specs.Code.{graph_of, table_of, edge_read, edge_loop, plan_read, whole_plan, leading_plan, head_of, edge_after, edge_joined, edges_in, rows_left}
 use Rattle.reading.specs.declared.PlanHead.{PlanHead}
-use Rattle.reading.specs.declared.Edge.{Edge}
-use Rattle.reading.specs.declared.Edge.TheVariants.{Joins, Fault}
+use Rattle.reading.proofs.Results.{ok_told}
 use Rattle.reading.proofs.EdgeTests.{proper-true}
 use Rattle.reading.proofs.Doubles.{pairs_counted}
 
@@ -37,7 +36,7 @@ module _ (n : ℕ) (before : ℕ × ℕ) (s : List ℕ) (at : ℕ) where
   edge-second e f = rw (← e, f)
 
   pub edge-whole : {u mid v next : ℕ} → Value u mid ≡ number_at s at → Value v next ≡ number_at s mid
-      → edge n before s at ≡ tested_edge n before at (u, v) next
+      → edge n before s at ≡ cond (proper n (u, v)) (cond (follows before (u, v)) (Got (u, v) next) (Refused 6 at)) (Refused 5 at)
   unfolding edge number ◌needs⟨◌⟩◌ ◌▸◌
   edge-whole {u} {mid} {v} {next} e f = rw (← e, ← f) (go (proper n (u, v)))
     where
@@ -46,19 +45,16 @@ module _ (n : ℕ) (before : ℕ × ℕ) (s : List ℕ) (at : ℕ) where
       go true = refl
       go false = refl
 
--- what an edge that was handed back tells of what was read
-pub joins_told : (r : Read (ℕ × ℕ)) {x : Edge} {u v next : ℕ} → x ≡ Joins u v next → x ≡ edge_read r → r ≡ Got (u, v) next
+-- what an edge that was handed back, or a fault, tells of what was read
+pub edge_got : (r : Read (ℕ × ℕ)) {e : ℕ × ℕ} {next : ℕ} → Ok (e, next) ≡ edge_read r → r ≡ Got e next
 unfolding edge_read
-joins_told (Got e z) {x} {u} {v} {next} d k = let a : e.0 ≡ u = cc in let b : e.1 ≡ v = cc in let c : z ≡ next = cc in same e z u v next a b c
-  where
-    same : (e : ℕ × ℕ) (z u v next : ℕ) → e.0 ≡ u → e.1 ≡ v → z ≡ next → Got e z ≡ Got (u, v) next
-    same e z u v next a b c = rw (← a, ← b, c)
-joins_told (Refused r p) d k = let z : ◌≡◌ {A = ℕ} 0 1 = cc in absurd (omega arith)
+edge_got (Got d z) {e} {next} k = let i : (d, z) ≡ (e, next) = cc in ap (λ (x : (ℕ × ℕ) × ℕ). Got x.0 x.1) i
+edge_got (Refused r p) k = cc
 
-pub fault_told : (r : Read (ℕ × ℕ)) {x : Edge} {q p : ℕ} → x ≡ Fault q p → x ≡ edge_read r → r ≡ Refused q p
+pub edge-bad : (r : Read (ℕ × ℕ)) {a : Answer} → Err a ≡ edge_read r → (q : ℕ) × (p : ℕ) × (r ≡ Refused q p) × (a ≡ PlanFault q p)
 unfolding edge_read
-fault_told (Got e z) d k = let z : ◌≡◌ {A = ℕ} 0 1 = cc in absurd (omega arith)
-fault_told (Refused r p) d k = cc
+edge-bad (Got d z) k = cc
+edge-bad (Refused q p) k = (q, p, refl, cc)
 
 -- an edge that was read has passed the tests
 edge-tested : (n : ℕ) (before : ℕ × ℕ) (s : List ℕ) (at : ℕ) {e : ℕ × ℕ} {next : ℕ} → edge n before s at ≡ Got e next → EdgeAllowed n before e
@@ -109,7 +105,7 @@ module _ (s : List ℕ) where
         paired l next = Got (n, l) next
 
         go : (x : Read (List (ℕ × ℕ))) → many (edge n) (λ before e. e) m (0, 0) s at ≡ x
-            → finish (edge_loop n m).step (edge_loop n m).ok refused_head ((0, 0), 0) x
+            → finish (edge_loop n m).step (edge_loop n m).ok (edge_loop n m).bad ((0, 0), 0) x
             ≡ head_of (plan_read (on_read (on_read x paired) (λ p next. Got (record { n = p.0; edges = p.1 }) next)))
         go (Got l next) k = rw (many-length (edge n) (λ before e. e) m (0, 0) s at k, pairs_counted n l (within-true min_vertices max_vertices n f).0 (edges-tested n m (0, 0) s at k) m)
         go (Refused r p) k = refl
@@ -166,40 +162,34 @@ rows_got rows s {p} {next} e =
     carry (λ p n. rows_left rows s ≡ folded joined rows p.edges) a.3 (carry (λ (x : ℕ × List (ℕ × ℕ)) n. rows_left rows s ≡ folded joined rows x.1) c.3 k)
 
 -- a whole record, from what was read up to the last edge
-module _ (s : List ℕ) {r : PlanHead} (e : r ≡ head_of (plan_read (plan s 0))) where
-  pub whole_more : r.answer ≡ Accepted → r.next < length s → refused_head 7 r.next ≡ head_of (plan_read (ended plan s 0))
+module _ (s : List ℕ) where
+  pub whole_fault : {a : Answer} → Err a ≡ head_of (leading_plan s) → Err a ≡ head_of (whole_plan s)
   unfolding ended plan_read
-  whole_more f h = go (plan s 0) e
+  whole_fault {a} e = go (plan s 0) e
     where
-      go : (x : Read Plan) → r ≡ head_of (plan_read x) → refused_head 7 r.next ≡ head_of (plan_read (on_read x (λ v next. cond (ltb next (length s)) (Refused 7 next) (Got v next))))
-      go (Got p next) e =
-          let n : r.next ≡ next = ap (λ (q : PlanHead). q.next) e in
-          let l : next < length s = omega arith in
-          rw (lt-ltb next (length s) l, n)
-      go (Refused q p) e = let a : r.answer ≡ PlanFault q p = ap (λ (q : PlanHead). q.answer) e in let z : ◌≡◌ {A = ℕ} 0 1 = cc in absurd (omega arith)
-
-  pub whole_done : r.answer ≡ Accepted → length s ≤ r.next → r ≡ head_of (plan_read (ended plan s 0))
-  unfolding ended plan_read
-  whole_done f h = go (plan s 0) e
-    where
-      go : (x : Read Plan) → r ≡ head_of (plan_read x) → r ≡ head_of (plan_read (on_read x (λ v next. cond (ltb next (length s)) (Refused 7 next) (Got v next))))
-      go (Got p next) e =
-          let n : r.next ≡ next = ap (λ (q : PlanHead). q.next) e in
-          let l : length s ≤ next = omega arith in
-          rw (le-ltb next (length s) l) e
+      go : (x : Read Plan) → Err a ≡ head_of (plan_read x) → Err a ≡ head_of (plan_read (on_read x (λ v next. cond (ltb next (length s)) (Refused 7 next) (Got v next))))
+      go (Got p next) e = cc
       go (Refused q p) e = e
 
-  pub whole_fault : (r.answer ≡ Accepted → ⊥) → r ≡ head_of (plan_read (ended plan s 0))
-  unfolding ended plan_read
-  whole_fault f = go (plan s 0) e
-    where
-      go : (x : Read Plan) → r ≡ head_of (plan_read x) → r ≡ head_of (plan_read (on_read x (λ v next. cond (ltb next (length s)) (Refused 7 next) (Got v next))))
-      go (Got p next) e = absurd (f (ap (λ (q : PlanHead). q.answer) e))
-      go (Refused q p) e = e
+  module _ {h : PlanHead} (e : Ok h ≡ head_of (leading_plan s)) where
+    pub whole_more : h.next < length s → Err (PlanFault 7 h.next) ≡ head_of (whole_plan s)
+    unfolding ended plan_read
+    whole_more f = go (plan s 0) e
+      where
+        go : (x : Read Plan) → Ok h ≡ head_of (plan_read x) → Err (PlanFault 7 h.next) ≡ head_of (plan_read (on_read x (λ v next. cond (ltb next (length s)) (Refused 7 next) (Got v next))))
+        go (Got p next) e =
+            let n : h.next ≡ next = ap (λ (q : PlanHead). q.next) (ok_told Accepted e).1 in
+            let l : next < length s = omega arith in
+            rw (lt-ltb next (length s) l, n)
+        go (Refused q p) e = cc
 
--- a plan that was refused is none
-pub no_table : (a : Answer) (h : PlanHead) (rows ends : List ℕ) → NotAccepted a → no_plan ≡ with_arrays a h rows ends
-no_table Accepted h rows ends k = absurd (not_accepted Accepted k refl)
-no_table (Grade g) h rows ends k = refl
-no_table (PlanFault r p) h rows ends k = refl
-no_table (CertificateFault r p) h rows ends k = refl
+    pub whole_done : length s ≤ h.next → Ok h ≡ head_of (whole_plan s)
+    unfolding ended plan_read
+    whole_done f = go (plan s 0) e
+      where
+        go : (x : Read Plan) → Ok h ≡ head_of (plan_read x) → Ok h ≡ head_of (plan_read (on_read x (λ v next. cond (ltb next (length s)) (Refused 7 next) (Got v next))))
+        go (Got p next) e =
+            let n : h.next ≡ next = ap (λ (q : PlanHead). q.next) (ok_told Accepted e).1 in
+            let l : length s ≤ next = omega arith in
+            rw (le-ltb next (length s) l) e
+        go (Refused q p) e = e

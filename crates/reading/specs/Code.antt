@@ -1,5 +1,5 @@
 -- What the functions of this crate give.
-use Rattle.std.specs.Prelude.{ℕ, ◌+◌, ◌-◌, ◌*◌, List, ◌++◌, cond, length, replicate, set}
+use Rattle.std.specs.Prelude.{ℕ, ◌+◌, ◌-◌, ◌*◌, List, ◌++◌, cond, length, replicate, set, Result, Ok, Err}
 use Rattle.record.specs.Read.{Read, Read.Got, Read.Refused, Reader, within, ◌needs⟨◌⟩◌, or_kept, led, ended, folded}
 use Rattle.record.specs.Number.{number}
 use Rattle.record.specs.Loop.{Loop}
@@ -10,9 +10,7 @@ use Rattle.graph.specs.Rows.{no_graph, bare_rows, joined}
 use Rattle.graph.specs.declared.GraphTable.{GraphTable}
 use Rattle.connectivity.specs.Graph.{is_pair, from_edges, edge_count}
 use Rattle.connectivity.specs.TopologicalGraph.{ends_of}
-use Rattle.reading.specs.Plan.{Plan, proper, follows, edge, plan}
-use Rattle.reading.specs.declared.Edge.{Edge}
-use Rattle.reading.specs.declared.Edge.TheVariants.{Joins, Fault}
+use Rattle.reading.specs.Plan.{Plan, edge, plan}
 use Rattle.reading.specs.declared.PlanHead.{PlanHead}
 use Rattle.reading.specs.declared.PlanTable.{PlanTable}
 use Rattle.reading.specs.declared.PlanRead.{PlanRead}
@@ -44,26 +42,43 @@ table_of p = record { graph = graph_of p; m = length p.edges; ends = ends_array 
 abbrev pub no_plan : PlanTable
 no_plan = record { graph = no_graph; m = 0; ends = no_ends }
 
+-- what reading a plan told: the plan and the place after it, or its fault beside no plan
+pub record PlanTold : Type 0 where
+  pub answer : Answer
+  pub plan : PlanTable
+  pub next : ℕ
+
 -- a refused plan: no graph, and nothing read
-abbrev pub refused_plan : ℕ → ℕ → PlanRead
+abbrev pub refused_plan : ℕ → ℕ → PlanTold
 refused_plan r p = record { answer = PlanFault r p; plan = no_plan; next = 0 }
 
 -- the papers' number and place for what was read: the plan and the place after it, or the plan's fault
-unfoldable pub plan_read : Read Plan → PlanRead
+unfoldable pub plan_read : Read Plan → PlanTold
 plan_read (Got p next) = record { answer = Accepted; plan = table_of p; next = next }
 plan_read (Refused r p) = refused_plan r p
 
 -- a whole plan record: a byte left over is 7
-abbrev pub whole_plan : List ℕ → PlanRead
+abbrev pub whole_plan : List ℕ → PlanTold
 whole_plan s = plan_read (ended plan s 0)
 
 -- a plan record up to its last edge, whatever follows
-abbrev pub leading_plan : List ℕ → PlanRead
+abbrev pub leading_plan : List ℕ → PlanTold
 leading_plan s = plan_read (plan s 0)
 
+-- where the answer accepts, the value; each other answer is the error
+abbrev pub value_or : {A : Type 0} → Answer → A → Result A Answer
+value_or Accepted v = Ok v
+value_or (Grade k) v = Err (Grade k)
+value_or (PlanFault r p) v = Err (PlanFault r p)
+value_or (CertificateFault r p) v = Err (CertificateFault r p)
+
+-- the plan with the place after it, or the plan's fault
+abbrev pub plan_result : PlanTold → Result PlanRead Answer
+plan_result t = value_or t.answer (record { plan = t.plan; next = t.next })
+
 -- the same without the arrays
-abbrev pub head_of : PlanRead → PlanHead
-head_of r = record { answer = r.answer; n = r.plan.graph.n; m = r.plan.m; d = r.plan.graph.d; next = r.next }
+abbrev pub head_of : PlanTold → Result PlanHead Answer
+head_of t = value_or t.answer (record { n = t.plan.graph.n; m = t.plan.m; d = t.plan.graph.d; next = t.next })
 
 -- an edge is read beside the edge before it, and joined in the rows
 abbrev pub edge_after : ℕ → (ℕ × ℕ) × List ℕ → Reader (ℕ × ℕ)
@@ -94,46 +109,25 @@ numbers_in k ends s at = (led (λ st. number) number_laid k (0, ends) s at).1
 unfoldable pub ends_read : List ℕ → ℕ → List ℕ → List ℕ
 ends_read ends m s = or_kept (number s 0) (λ n mid. or_kept (number s mid) (λ k at. numbers_in (2 * m) ends s at) ends) ends
 
--- a plan with these arrays; none where it was refused
-abbrev pub with_arrays : Answer → PlanHead → List ℕ → List ℕ → PlanTable
-with_arrays Accepted h rows ends = record { graph = record { n = h.n; d = h.d; rows = rows }; m = h.m; ends = ends }
-with_arrays (Grade k) h rows ends = no_plan
-with_arrays (PlanFault r p) h rows ends = no_plan
-with_arrays (CertificateFault r p) h rows ends = no_plan
-
+-- a plan with these arrays
 abbrev pub by_value : PlanHead → List ℕ → List ℕ → PlanRead
-by_value h rows ends = record { answer = h.answer; plan = with_arrays h.answer h rows ends; next = h.next }
+by_value h rows ends = record { plan = record { graph = record { n = h.n; d = h.d; rows = rows }; m = h.m; ends = ends }; next = h.next }
 
--- an edge as one number, in the same order where its higher vertex is below 65,536
-abbrev pub key_of : ℕ × ℕ → ℕ
-key_of e = e.0 * 65536 + e.1
-
--- the papers' number and place for one edge
-unfoldable pub edge_read : Read (ℕ × ℕ) → Edge
-edge_read (Got e next) = Joins e.0 e.1 next
-edge_read (Refused r p) = Fault r p
-
--- an edge that was read at a place, tested for 5 and 6
-abbrev pub tested_edge : ℕ → ℕ × ℕ → ℕ → ℕ × ℕ → ℕ → Read (ℕ × ℕ)
-tested_edge n before at e next = cond (proper n e) (cond (follows before e) (Got e next) (Refused 6 at)) (Refused 5 at)
-
-abbrev pub refused_head : ℕ → ℕ → PlanHead
-refused_head r p = head_of (refused_plan r p)
-
-abbrev pub edge_fault : Edge → PlanHead
-edge_fault (Joins u v next) = refused_head 0 0
-edge_fault (Fault r p) = refused_head r p
+-- the edge and the place after it, or the papers' number and place
+unfoldable pub edge_read : Read (ℕ × ℕ) → Result ((ℕ × ℕ) × ℕ) Answer
+edge_read (Got e next) = Ok (e, next)
+edge_read (Refused r p) = Err (PlanFault r p)
 
 -- an edge counts where it differs from the one before it
 abbrev pub counted_pair : ℕ × ℕ → ℕ → ℕ × ℕ → ℕ
 counted_pair before d e = cond (is_pair before e.0 e.1) d (d + 1)
 
 -- the loop over the edges of a plan of n vertices and m edges; it keeps the edge before and the count
-abbrev pub edge_loop : ℕ → ℕ → Loop (ℕ × ℕ) (ℕ × ℕ) ((ℕ × ℕ) × ℕ) PlanHead
+abbrev pub edge_loop : ℕ → ℕ → Loop (ℕ × ℕ) (ℕ × ℕ) ((ℕ × ℕ) × ℕ) (Result PlanHead Answer)
 edge_loop n m = record {
   item = edge n;
   after = λ before e. e;
   step = λ st e. (e, counted_pair st.0 st.1 e);
-  ok = λ st next. record { answer = Accepted; n = n; m = m; d = st.1; next = next };
-  bad = refused_head;
+  ok = λ st next. Ok (record { n = n; m = m; d = st.1; next = next });
+  bad = λ r p. Err (PlanFault r p);
 }

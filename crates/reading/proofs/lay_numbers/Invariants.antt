@@ -1,4 +1,4 @@
-use Prim.Native.Nat.{◌-◌, ◌≤◌}
+use Prim.Native.Nat.{◌-◌}
 use mathlib.Core.Path.{◌≡◌}
 use Rattle.record.specs.Read.{led}
 use Rattle.record.specs.Number.{number}
@@ -6,7 +6,4 @@ use Rattle.reading.specs.Code.{number_laid}
 use Rattle.reading.proofs.lay_numbers.Given as goal
 
 abbrev pub invariant-loop-i : goal.invariant-loop-i
-invariant-loop-i l = (l.i ≤ l.count) × (led (λ st. number) number_laid (l.count - l.i) (l.i, l.ends) l.s l.at ≡ led (λ st. number) number_laid l.count (0, l.initial.ends) l.s l.from)
-
-abbrev pub decreases-loop-i : goal.decreases-loop-i
-decreases-loop-i l = l.count - l.i
+invariant-loop-i l = led (λ st. number) number_laid (l.count - l.i) (l.i, l.ends) l.s l.at ≡ led (λ st. number) number_laid l.count (0, l.initial.ends) l.s l.from

@@ -1,4 +1,4 @@
--- `graph::read_edge` meets its contract: a number that can't be read ends the reading. Assumes nothing.
+-- `reading::read_edge` meets its contract: a number that can't be read ends the reading, and so does an edge out of order. Assumes nothing.
 
 use mathlib.Core.Path.{◌∙◌, sym, ap}
 use Rattle.record.proofs.Faults.{unread}
@@ -8,12 +8,33 @@ use Rattle.reading.proofs.read_edge.Goals as goal
 
 pub returns-in_default : goal.returns-in_default
 unfolding edge_read
-returns-in_default c = ap edge_read (sym (edge-first _ _ _ _ (unread _ _ c.read_number-x.ensures c.in_default.not-Value c.fault_number.ensures c.fault_place.ensures)))
+returns-in_default c = rw c.plan_fault.ensures (ap edge_read (sym (edge-first _ _ _ _ (unread _ _ c.read_number-lower.ensures c.in_default.not-Value))))
 
-pub returns-in_default-y : goal.returns-in_default-y
+pub returns-in_default-higher : goal.returns-in_default-higher
 unfolding edge_read
-returns-in_default-y c = ap edge_read (sym (edge-second _ _ _ _ (sym c.in-Value.is ∙ c.read_number-x.ensures)
-    (unread _ _ c.read_number-y.ensures c.in_default-y.not-Value c.fault_number-in_default-y.ensures c.fault_place-in_default-y.ensures)))
+returns-in_default-higher c =
+    rw c.plan_fault-in_default-higher.ensures
+    (ap edge_read (sym (edge-second _ _ _ _ (sym c.in-Value.is ∙ c.read_number-lower.ensures) (unread _ _ c.read_number-higher.ensures c.in_default-higher.not-Value))))
+
+pub returns-then-not-proper : goal.returns-then-not-proper
+unfolding edge_read
+returns-then-not-proper c =
+    rw (edge-whole _ _ _ _ (sym c.in-Value.is ∙ c.read_number-lower.ensures) (sym c.in-Value-higher.is ∙ c.read_number-higher.ensures), sym c.proper.ensures ∙ c.if-not-proper.true)
+
+pub returns-then-not-follows : goal.returns-then-not-follows
+unfolding edge_read
+returns-then-not-follows c =
+    rw (
+      edge-whole _ _ _ _ (sym c.in-Value.is ∙ c.read_number-lower.ensures) (sym c.in-Value-higher.is ∙ c.read_number-higher.ensures),
+      sym c.proper.ensures ∙ c.if-not-proper.false,
+      sym c.follows.ensures ∙ c.if-not-follows.true,
+    )
 
 pub returns : goal.returns
-returns c = c.tested_edge.ensures ∙ ap edge_read (sym (edge-whole _ _ _ _ (sym c.in-Value.is ∙ c.read_number-x.ensures) (sym c.in-Value-y.is ∙ c.read_number-y.ensures)))
+unfolding edge_read
+returns c =
+    rw (
+      edge-whole _ _ _ _ (sym c.in-Value.is ∙ c.read_number-lower.ensures) (sym c.in-Value-higher.is ∙ c.read_number-higher.ensures),
+      sym c.proper.ensures ∙ c.if-not-proper.false,
+      sym c.follows.ensures ∙ c.if-not-follows.false,
+    )
