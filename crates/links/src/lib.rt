@@ -58,6 +58,7 @@ impl Link {
         (v == self.a) | (v == self.b)
     }
 
+    // A link is the same with its ends turned, which no derived equality says.
     fn same(self, other: Link) -> bool
         ensures { result ≡ same_link self other }
     {
@@ -70,10 +71,7 @@ impl End {
     pub fn is_inner(self) -> bool
         ensures { result ≡ is_inner self }
     {
-        match self {
-            End::Branch(_) => false,
-            End::Inner(_, _) => true,
-        }
+        matches!(self, End::Inner(_, _))
     }
 }
 
@@ -82,37 +80,25 @@ impl Ends {
     pub fn addition(self, linked: &[u64; GraphTable::ROW_WORDS]) -> Addition
         ensures { result ≡ addition_of linked.now self.first self.last }
     {
-        let a = self.first;
-        let b = self.last;
-        match a {
-            End::Branch(x) => match b {
-                End::Branch(y) => {
-                    if graph::adjacent(linked, x, y) {
-                        return Addition::Held;
-                    }
-                    Addition::VertexVertex
+        match (self.first, self.last) {
+            (End::Branch(x), End::Branch(y)) => {
+                if graph::adjacent(linked, x, y) {
+                    return Addition::Held;
                 }
-                End::Inner(y, l) => {
-                    if l.has_end(x) {
-                        return Addition::Held;
-                    }
-                    Addition::EdgeVertex(y, l)
+                Addition::VertexVertex
+            }
+            (End::Branch(x), End::Inner(y, l)) | (End::Inner(y, l), End::Branch(x)) => {
+                if l.has_end(x) {
+                    return Addition::Held;
                 }
-            },
-            End::Inner(x, k) => match b {
-                End::Branch(y) => {
-                    if k.has_end(y) {
-                        return Addition::Held;
-                    }
-                    Addition::EdgeVertex(x, k)
+                Addition::EdgeVertex(y, l)
+            }
+            (End::Inner(x, k), End::Inner(y, l)) => {
+                if k.same(l) {
+                    return Addition::Held;
                 }
-                End::Inner(y, l) => {
-                    if k.same(l) {
-                        return Addition::Held;
-                    }
-                    Addition::EdgeEdge(x, k, y, l)
-                }
-            },
+                Addition::EdgeEdge(x, k, y, l)
+            }
         }
     }
 }
@@ -121,12 +107,7 @@ impl Addition {
     pub fn is_held(self) -> bool
         ensures { result ≡ held self }
     {
-        match self {
-            Addition::Held => true,
-            Addition::VertexVertex => false,
-            Addition::EdgeVertex(_, _) => false,
-            Addition::EdgeEdge(_, _, _, _) => false,
-        }
+        matches!(self, Addition::Held)
     }
 }
 
@@ -159,8 +140,7 @@ fn link_at(pointers: &[u16; Link::POINTERS], branch: VertexSet, v: u16) -> Link
 {
     let mut u = v;
     let mut w = v;
-    let mut left = VertexSet::CAPACITY;
-    while 0 < left {
+    for _ in 0..VertexSet::CAPACITY {
         let before = pointer(pointers, Link::BEFORE, u);
         if branch.contains(before) {
             return link_around(pointers, u, pointer(pointers, Link::MATE, u));
@@ -171,7 +151,6 @@ fn link_at(pointers: &[u16; Link::POINTERS], branch: VertexSet, v: u16) -> Link
         }
         u = before;
         w = after;
-        left -= 1;
     }
     link_around(pointers, u, w)
 }
@@ -273,7 +252,8 @@ pub fn clear(pointers: &mut [u16; Link::POINTERS], v: u16) -> u16
     before
 }
 
-// The neighbour of x on one side of a link that was split at x is no longer outermost; where x is outermost, there is none inside.
+// The neighbour of x on one side of a link that was split at x is no longer outermost; where x is outermost, there is none inside. It shares with
+// mate_aside only where that neighbour stands: one function for both would take a flag for what it does there.
 fn unmate_aside(pointers: &mut [u16; Link::POINTERS], part: usize, x: u16, outer: u16)
     requires { part ≤ 2 * capacity }
     ensures { pointers.new ≡ unmated_aside pointers.old part x outer }
@@ -285,7 +265,8 @@ fn unmate_aside(pointers: &mut [u16; Link::POINTERS], part: usize, x: u16, outer
     point(pointers, Link::MATE, next, 0);
 }
 
-// A link that was split at x is whole again; in the table of links what was done last is taken back first.
+// A link that was split at x is whole again; in the table of links what was done last is taken back first, so that no step is one of split_link's
+// with a flag turned.
 fn rejoin_link<'a>(
     linked: &'a mut [u64; GraphTable::ROW_WORDS],
     pointers: &'a mut [u16; Link::POINTERS],

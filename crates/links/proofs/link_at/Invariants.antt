@@ -1,4 +1,4 @@
-use Prim.Native.Nat.{ℕ}
+use Prim.Native.Nat.{ℕ, ◌-◌}
 use mathlib.Core.List.{List}
 use mathlib.Core.Path.{◌≡◌}
 use Rattle.vertexset.specs.Set.{has, capacity}
@@ -9,8 +9,5 @@ use Rattle.links.proofs.link_at.Given as goal
 abbrev pub walk : List ℕ → VertexSet → ℕ → ℕ → ℕ → ℕ × ℕ
 walk pointers branch = outermost (pointer pointers 0) (pointer pointers capacity) (pointer pointers mates) (has branch.words)
 
-abbrev pub invariant-loop-left : goal.invariant-loop-left
-invariant-loop-left l = walk l.pointers l.branch l.left l.u l.w ≡ walk l.pointers l.branch capacity l.v l.v
-
-abbrev pub decreases-loop-left : goal.decreases-loop-left
-decreases-loop-left l = l.left
+abbrev pub invariant-loop : goal.invariant-loop
+invariant-loop l = walk l.pointers l.branch (capacity - l.counter) l.u l.w ≡ walk l.pointers l.branch capacity l.v l.v
