@@ -86,7 +86,7 @@ module _ (ends : List ℕ) (m : ℕ) where
       here_order h = sym (ap (edges_in_order n before) (left_here h)) ∙ c.order
 
       pub measure_here : k < m → proper n (edge_at ends k) ≡ true → follows before (edge_at ends k) ≡ true → {a b : ℕ} → a ≡ length (number_bytes (edge_at ends k).0) → b ≡ length (number_bytes (edge_at ends k).1)
-          → Measured n (k + 1) (edge_at ends k) (bytes + a + b)
+          → Measured n (k + 1) (edge_at ends k) (bytes + (a + b))
       measure_here h p f d e = record {
         short = omega (arith, c.short, few_bytes (edge_at ends k).0, few_bytes (edge_at ends k).1);
         order = rw (p, f) at (here_order h);

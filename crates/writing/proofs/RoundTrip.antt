@@ -9,7 +9,7 @@ use lib.Dec.{leb}
 use borrow.Author.Tests.{leb-true, le-leb}
 use Rattle.record.specs.Read.{Bytes, Each, within}
 use Rattle.record.specs.declared.Answer.TheVariants.{Accepted}
-use Rattle.record.specs.declared.Written.TheVariants.{Next}
+use Rattle.std.specs.Prelude.{Some}
 use Rattle.reading.specs.Plan.{Plan, Allowed, EdgeAllowed, proper, follows, plan_bytes}
 use Rattle.graph.specs.Limits.{min_vertices, max_vertices, max_edges}
 use Rattle.connectivity.specs.TopologicalGraph.{ends_of}
@@ -86,7 +86,7 @@ module _ (t : PlanTable) (a : Allowed (plan_of t)) (buffer : List ℕ) (room : l
         le-leb (0 + length (plan_bytes (plan_of t))) (length buffer) r,
       )
 
-  pub written-whole : (written_plan buffer t ≡ Next (length (plan_bytes (plan_of t)))) × (with_plan buffer t ≡ plan_bytes (plan_of t) ++ drop (length (plan_bytes (plan_of t))) buffer)
+  pub written-whole : (written_plan buffer t ≡ Some (length (plan_bytes (plan_of t)))) × (with_plan buffer t ≡ plan_bytes (plan_of t) ++ drop (length (plan_bytes (plan_of t))) buffer)
   written-whole =
       let z : 0 + length (plan_bytes (plan_of t)) ≡ length (plan_bytes (plan_of t)) = omega arith in
       (rw can_write_lem, put_first buffer t can_write_lem ∙ rw z)
@@ -96,7 +96,7 @@ module _ (p : Plan) (a : Allowed p) (buffer : List ℕ) (room : length (plan_byt
   can_again = can_write_lem (table_of p) (rw (planned p) a) buffer (rw (planned p) room)
 
   -- WHAT IS WRITTEN OF A PLAN BY VALUE ARE THE BYTES OF THE PLAN; THE REST OF THE BUFFER IS KEPT.
-  pub written-again : (written_plan buffer (table_of p) ≡ Next (length (plan_bytes p))) × (with_plan buffer (table_of p) ≡ plan_bytes p ++ drop (length (plan_bytes p)) buffer)
+  pub written-again : (written_plan buffer (table_of p) ≡ Some (length (plan_bytes p))) × (with_plan buffer (table_of p) ≡ plan_bytes p ++ drop (length (plan_bytes p)) buffer)
   written-again =
       let z : 0 + length (plan_bytes p) ≡ length (plan_bytes p) = omega arith in
       (rw (can_again, planned p), put_first buffer (table_of p) can_again ∙ rw (planned p, z))
@@ -106,9 +106,9 @@ module _ (p : Plan) (a : Allowed p) (buffer : List ℕ) (room : length (plan_byt
 
 -- .. so the plan by value of an accepted record is written as that record
 pub record_again : (s : List ℕ) → Bytes s → (whole_plan s).answer ≡ Accepted → (buffer : List ℕ) → length s ≤ length buffer
-    → (written_plan buffer (whole_plan s).plan ≡ Next (length s)) × (with_plan buffer (whole_plan s).plan ≡ s ++ drop (length s) buffer)
+    → (written_plan buffer (whole_plan s).plan ≡ Some (length s)) × (with_plan buffer (whole_plan s).plan ≡ s ++ drop (length s) buffer)
 record_again s bytes e buffer h = let t = accepted s bytes e in of_plan t.0 t.1 s (whole_plan s).plan t.2 t.3 h
   where
     of_plan : (p : Plan) → Allowed p → (s : List ℕ) (g : PlanTable) → s ≡ plan_bytes p → g ≡ table_of p → length s ≤ length buffer
-        → (written_plan buffer g ≡ Next (length s)) × (with_plan buffer g ≡ s ++ drop (length s) buffer)
+        → (written_plan buffer g ≡ Some (length s)) × (with_plan buffer g ≡ s ++ drop (length s) buffer)
     of_plan p a s g d f h = rw (f, d) (written-again p a buffer (rw (← d) h))

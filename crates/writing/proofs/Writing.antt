@@ -2,22 +2,21 @@
 use Prim.Native.Nat.{ℕ, zero, suc, ◌+◌, ◌*◌, ◌<◌, ◌≤◌}
 use mathlib.Core.List.{List, [], ◌∷◌, ◌++◌}
 use mathlib.Core.Bool.{Bool, true, false, cond, and-false}
-use mathlib.Core.Path.{◌≡◌, refl, sym, ap, ◌∙◌}
+use mathlib.Core.Path.{◌≡◌, refl, ap}
 use native.Mathlib.Omega.{arith}
 use lib.ListN.{length, length-append}
 use lib.Dec.{leb}
 use borrow.Author.Tests.{le-leb, lt-leb}
 use Rattle.record.specs.Number.{number_bytes, list_bytes}
 use Rattle.record.specs.Write.{overwritten, has_room}
-use Rattle.record.specs.declared.Written.TheVariants.{Next, Nothing}
+use Rattle.std.specs.Prelude.{Some, None}
 use Rattle.record.proofs.Write.{few_bytes, both_room, both_put}
 use Rattle.graph.specs.Limits.{min_vertices, max_vertices, max_edges}
 use Rattle.record.specs.Read.{within}
 use Rattle.reading.specs.Plan.{edge_bytes, plan_bytes}
 use Rattle.reading.specs.declared.PlanTable.{PlanTable}
 use Rattle.writing.specs.Write.{edges_from, edges_of, plan_of, edges_bytes, edges_in_order, size_of, can_write_plan, written_plan, with_plan}
-use Rattle.writing.specs.declared.Size.{Size}
-use Rattle.record.proofs.Bounds.{true_within, below-within, above_within}
+use Rattle.record.proofs.Bounds.{true_within}
 use Rattle.writing.proofs.Edges.{edge-bytes}
 
 edges-short : (es : List (ℕ × ℕ)) → length (list_bytes edge_bytes es) ≤ 4 * length es
@@ -34,36 +33,23 @@ pub bytes_short : (ends : List ℕ) (m : ℕ) → length (edges_bytes ends m) �
 bytes_short ends m = omega (arith, edges-short (edges_of ends m), edges-count ends m 0)
 
 -- what was measured tells whether the edges are in order, and then how long they are
-module _ (n : ℕ) (es : List (ℕ × ℕ)) {x : Size} (e : x ≡ size_of n es) where
-  abbrev Is : Bool → Type 0
-  Is b = x ≡ cond b (record { allowed = true; bytes = length (list_bytes edge_bytes es) }) (record { allowed = false; bytes = 0 })
+pub not_allowed : (n : ℕ) (es : List (ℕ × ℕ)) → None ≡ size_of n es → edges_in_order n (0, 0) es ≡ false
+not_allowed n es e = go (edges_in_order n (0, 0) es) e
+  where
+    go : (b : Bool) → None ≡ cond b (Some (length (list_bytes edge_bytes es))) None → b ≡ false
+    go true d = cc
+    go false d = refl
 
-  pub not_allowed : x.allowed ≡ false → edges_in_order n (0, 0) es ≡ false
-  not_allowed f = go (edges_in_order n (0, 0) es) e
-    where
-      go : (b : Bool) → Is b → b ≡ false
-      go true d = sym (ap (λ (s : Size). s.allowed) d) ∙ f
-      go false d = refl
-
-  pub is_allowed : x.allowed ≡ true → (edges_in_order n (0, 0) es ≡ true) × (x.bytes ≡ length (list_bytes edge_bytes es))
-  is_allowed t = go (edges_in_order n (0, 0) es) e
-    where
-      go : (b : Bool) → Is b → (b ≡ true) × (x.bytes ≡ length (list_bytes edge_bytes es))
-      go true d = (refl, ap (λ (s : Size). s.bytes) d)
-      go false d = let f : x.allowed ≡ false = ap (λ (s : Size). s.allowed) d in let z : ◌≡◌ {A = ℕ} 0 1 = cc in absurd (omega arith)
+pub is_allowed : (n : ℕ) (es : List (ℕ × ℕ)) {k : ℕ} → Some k ≡ size_of n es → (edges_in_order n (0, 0) es ≡ true) × (k ≡ length (list_bytes edge_bytes es))
+is_allowed n es {k} e = go (edges_in_order n (0, 0) es) e
+  where
+    go : (b : Bool) → Some k ≡ cond b (Some (length (list_bytes edge_bytes es))) None → (b ≡ true) × (k ≡ length (list_bytes edge_bytes es))
+    go true d = (refl, cc)
+    go false d = cc
 
 module _ (buffer : List ℕ) (p : PlanTable) where
-  pub not_written : can_write_plan buffer p ≡ false → (Nothing ≡ written_plan buffer p) × (buffer ≡ with_plan buffer p)
+  pub not_written : can_write_plan buffer p ≡ false → (None ≡ written_plan buffer p) × (buffer ≡ with_plan buffer p)
   not_written e = (rw e, rw e)
-
-  pub too_few : p.graph.n < min_vertices → can_write_plan buffer p ≡ false
-  too_few h = rw (below-within min_vertices max_vertices p.graph.n h)
-
-  pub too_many : max_vertices < p.graph.n → can_write_plan buffer p ≡ false
-  too_many h = rw (above_within min_vertices max_vertices p.graph.n h)
-
-  pub too_many_edges : max_edges < p.m → can_write_plan buffer p ≡ false
-  too_many_edges h = rw (lt-leb p.m max_edges h) (and-false (within min_vertices max_vertices p.graph.n))
 
   planned_edges : (plan_of p).edges ≡ edges_of p.ends p.m
   unfolding plan_of
@@ -113,11 +99,11 @@ module _ (buffer : List ℕ) (p : PlanTable) where
 
       pub written : min_vertices ≤ p.graph.n → p.graph.n ≤ max_vertices → p.m ≤ max_edges → edges_in_order p.graph.n (0, 0) (edges_of p.ends p.m) ≡ true → {last : List ℕ} {next : ℕ}
           → (next ≡ from + length (edges_bytes p.ends p.m)) × (last ≡ overwritten out₂ from (edges_bytes p.ends p.m))
-          → (Next next ≡ written_plan buffer p) × (last ≡ with_plan buffer p)
+          → (Some next ≡ written_plan buffer p) × (last ≡ with_plan buffer p)
       written a b c o {last} {next} l =
           let u = both_put buffer 0 (number_bytes p.graph.n) first rest s (both_put out at (number_bytes p.m) second (edges_bytes p.ends p.m) t l) in
           let n : next ≡ length whole = omega (arith, u.0) in
           let q : edges_in_order p.graph.n (0, 0) (plan_of p).edges ≡ true = rw planned_edges o in
           let can : can_write_plan buffer p ≡ true =
           rw (whole_bytes, true_within min_vertices max_vertices p.graph.n a b, le-leb p.m max_edges c, q, le-leb (0 + length whole) (length buffer) r) in
-          (rw (can, whole_bytes) (ap Next n), rw (can, whole_bytes) u.1)
+          (rw (can, whole_bytes) (ap (λ (k : ℕ). Some k) n), rw (can, whole_bytes) u.1)

@@ -1,14 +1,11 @@
 -- The record of a plan by value, and what writing it gives.
-use Rattle.std.specs.Prelude.{ℕ, zero, suc, ◌+◌, ◌*◌, ◌<◌, List, [], ◌∷◌, Bool, true, false, cond, ◌&&◌, leb, length, get_or}
+use Rattle.std.specs.Prelude.{ℕ, zero, suc, ◌+◌, ◌*◌, ◌<◌, List, [], ◌∷◌, Bool, true, cond, ◌&&◌, Option, Some, None, leb, length, get_or}
 use Rattle.record.specs.Read.{within}
 use Rattle.record.specs.Number.{list_bytes, number_limit}
 use Rattle.record.specs.Write.{overwritten, has_room}
-use Rattle.record.specs.declared.Written.{Written}
-use Rattle.record.specs.declared.Written.TheVariants.{Next, Nothing}
 use Rattle.graph.specs.Limits.{min_vertices, max_vertices, max_edges}
 use Rattle.reading.specs.declared.PlanTable.{PlanTable}
 use Rattle.reading.specs.Plan.{Plan, proper, follows, edge_bytes, plan_bytes}
-use Rattle.writing.specs.declared.Size.{Size}
 
 -- the edge behind k others in the array
 abbrev pub edge_at : List ℕ → ℕ → ℕ × ℕ
@@ -40,9 +37,9 @@ unfoldable pub edges_in_order : ℕ → ℕ × ℕ → List (ℕ × ℕ) → Boo
 edges_in_order n before [] = true
 edges_in_order n before (e ∷ es) = proper n e && (follows before e && edges_in_order n e es)
 
--- whether the edges are allowed, and how many bytes they then take
-abbrev pub size_of : ℕ → List (ℕ × ℕ) → Size
-size_of n es = cond (edges_in_order n (0, 0) es) (record { allowed = true; bytes = length (list_bytes edge_bytes es) }) (record { allowed = false; bytes = 0 })
+-- how many bytes the edges take, where they are allowed
+abbrev pub size_of : ℕ → List (ℕ × ℕ) → Option ℕ
+size_of n es = cond (edges_in_order n (0, 0) es) (Some (length (list_bytes edge_bytes es))) None
 
 -- the plan can be written: it is one that Records allows, and its record has room
 abbrev pub can_write_plan : List ℕ → PlanTable → Bool
@@ -50,8 +47,8 @@ can_write_plan buffer p =
     within min_vertices max_vertices p.graph.n
     && (leb p.m max_edges && (edges_in_order p.graph.n (0, 0) (plan_of p).edges && has_room buffer 0 (plan_bytes (plan_of p))))
 
-abbrev pub written_plan : List ℕ → PlanTable → Written
-written_plan buffer p = cond (can_write_plan buffer p) (Next (length (plan_bytes (plan_of p)))) Nothing
+abbrev pub written_plan : List ℕ → PlanTable → Option ℕ
+written_plan buffer p = cond (can_write_plan buffer p) (Some (length (plan_bytes (plan_of p)))) None
 
 abbrev pub with_plan : List ℕ → PlanTable → List ℕ
 with_plan buffer p = cond (can_write_plan buffer p) (overwritten buffer 0 (plan_bytes (plan_of p))) buffer

@@ -10,52 +10,23 @@ ghost use Rattle.writing.specs.Write.{edges_of, size_of, edges_bytes, EdgesLow, 
 
 use graph::GraphTable;
 use reading::PlanTable;
-use record::{Number, Written};
-
-#[derive(Clone, Copy)]
-struct Size {
-    allowed: bool,
-    bytes: usize,
-}
-
-// How many bytes a number takes.
-fn number_length(v: u16) -> usize
-    ensures { result ≡ length (number_bytes v) }
-{
-    if v < Number::GROUP {
-        return 1;
-    }
-    2
-}
-
-// Whether each of the first m edges is allowed behind the one before it, and how many bytes they then take.
-fn measure(ends: &[u16; PlanTable::ENDS], n: u16, m: u16) -> Size
+// How many bytes the first m edges take; None where one of them is not allowed behind the one before it.
+fn measure(ends: &[u16; PlanTable::ENDS], n: u16, m: u16) -> Option<usize>
     requires { m ≤ max_edges }
     ensures { result ≡ size_of n (edges_of ends.now m) }
 {
     let mut bytes: usize = 0;
-    let mut lower: u16 = 0;
-    let mut higher: u16 = 0;
-    let mut i: u16 = 0;
-    while i < m {
-        let k = 2 * i as usize;
-        let u = ends[k];
-        let v = ends[k + 1];
-        if !reading::proper(n, u, v) || !reading::follows(lower, higher, u, v) {
-            return Size {
-                allowed: false,
-                bytes: 0,
-            };
+    let mut before = (0, 0);
+    for i in 0..m as usize {
+        let u = ends[2 * i];
+        let v = ends[2 * i + 1];
+        if !reading::proper(n, u, v) || !reading::follows(before.0, before.1, u, v) {
+            return None;
         }
-        bytes = bytes + number_length(u) + number_length(v);
-        lower = u;
-        higher = v;
-        i += 1;
+        bytes += record::number_length(u) + record::number_length(v);
+        before = (u, v);
     }
-    Size {
-        allowed: true,
-        bytes,
-    }
+    Some(bytes)
 }
 
 // Writes a number that has room, and gives the place after it.
@@ -63,11 +34,7 @@ fn put_number(out: &mut [u8], at: usize, v: u16) -> usize
     requires { (v < number_limit) × (at + length (number_bytes v) ≤ length out.old) }
     ensures { (result ≡ at + length (number_bytes v)) × (out.new ≡ overwritten out.old at (number_bytes v)) }
 {
-    let x = record::write_number(out, at, v);
-    match x {
-        Written::Next(next) => next,
-        Written::Nothing => at,
-    }
+    record::write_number(out, at, v).unwrap()
 }
 
 // The same for the edge from u to v.
@@ -85,38 +52,26 @@ fn put_edges(ends: &[u16; PlanTable::ENDS], m: u16, out: &mut [u8], from: usize)
     ensures { (result ≡ from + length (edges_bytes ends.now m)) × (out.new ≡ overwritten out.old from (edges_bytes ends.now m)) }
 {
     let mut next = from;
-    let mut i: u16 = 0;
-    while i < m {
-        let k = 2 * i as usize;
-        next = put_edge(out, next, ends[k], ends[k + 1]);
-        i += 1;
+    for i in 0..m as usize {
+        next = put_edge(out, next, ends[2 * i], ends[2 * i + 1]);
     }
     next
 }
 
-// Writes the record of a plan at the start of a buffer, where Records allows it and it has room.
-pub fn write_plan(p: PlanTable, out: &mut [u8]) -> Written
+// Writes the record of a plan at the start of a buffer, where Records allows it and it has room; gives the place after it.
+pub fn write_plan(p: PlanTable, out: &mut [u8]) -> Option<usize>
     ensures { (result ≡ written_plan out.old p) × (out.new ≡ with_plan out.old p) }
 {
     let n = p.graph.n;
     let m = p.m;
-    if n < GraphTable::MIN_VERTICES {
-        return Written::Nothing;
+    if n < GraphTable::MIN_VERTICES || GraphTable::MAX_VERTICES < n || GraphTable::MAX_EDGES < m {
+        return None;
     }
-    if GraphTable::MAX_VERTICES < n {
-        return Written::Nothing;
-    }
-    if GraphTable::MAX_EDGES < m {
-        return Written::Nothing;
-    }
-    let size = measure(&p.ends, n, m);
-    if !size.allowed {
-        return Written::Nothing;
-    }
-    if out.len() < number_length(n) + number_length(m) + size.bytes {
-        return Written::Nothing;
+    let bytes = measure(&p.ends, n, m)?;
+    if out.len() < record::number_length(n) + record::number_length(m) + bytes {
+        return None;
     }
     let m_at = put_number(out, 0, n);
     let from = put_number(out, m_at, m);
-    Written::Next(put_edges(&p.ends, m, out, from))
+    Some(put_edges(&p.ends, m, out, from))
 }
