@@ -1,5 +1,6 @@
--- What a search found, as the code's struct holds it. Assumes nothing.
+-- What a search found, as the code answers it: a path, or the cut. Assumes nothing.
 use Prim.Native.Nat.{ℕ, ◌≤◌, ◌<◌}
+use mathlib.Core.Logic.{◌≢◌}
 use mathlib.Core.Path.{◌≡◌, refl, sym, ap, subst, ◌∙◌}
 use mathlib.Core.Bool.{Bool, true, false, cond}
 use mathlib.Core.List.{List, [], ◌∷◌, ◌++◌, append-nil}
@@ -7,29 +8,58 @@ use native.Mathlib.Omega.{arith}
 use lib.Dec.{ltb, eqb}
 use lib.ListN.{length}
 use borrow.Author.Tests.{lt-ltb, le-ltb, eq-eqb, eqb-true}
-use Rattle.vertexset.specs.Set.{empty_set, count, capacity}
+use Rattle.std.specs.Prelude.{Option, Some, None, Result, Ok, Err}
+use Rattle.arrayvec.specs.ArrayVec.{ArrayVec}
+use Rattle.vertexset.specs.Set.{none, empty_set, count, capacity}
 use Rattle.vertexset.specs.declared.VertexSet.{VertexSet}
 use Rattle.graph.specs.Rows.{row_of}
-use Rattle.search.specs.Code.{path_of, reach_of, search_space, left_in, answer_in, no_reach, route_in}
-use Rattle.search.specs.declared.VertexList.{VertexList}
+use Rattle.search.specs.Code.{path_of, path_room, search_space, left_in, answer_in, no_reach, route_in}
 use Rattle.search.specs.declared.Reach.{Reach}
 use Rattle.search.proofs.Lent.{answer_is, routed}
 use Rattle.construction.specs.Sets.{minus, single, least}
 use Rattle.construction.specs.Search as searching
 use Rattle.construction.specs.Search.{explore, route, is_found, reached}
 use Rattle.construction.specs.Ears as construction
-use Rattle.construction.specs.Ears.{no_cut, found, failed, answered, way_out, detour, cycle}
-use Rattle.detours.specs.Code.{cut_of, found_of, pushed, answered_in, back_by, detour_by, detour_in, cycle_by, cycle_in}
+use Rattle.construction.specs.Ears.{is_cut, found, failed, answered, way_out, detour, cycle}
+use Rattle.detours.specs.Code.{cut_of, found_of, way_of, answered_in, back_by, detour_by, detour_in, cycle_by, cycle_in}
 use Rattle.detours.specs.declared.Cut.{Cut}
-use Rattle.detours.specs.declared.Found.{Found}
-use Rattle.detours.proofs.Lists.{pushed-path}
 use Rattle.detours.proofs.Routes.{route-short}
 
-abbrev pub found_at : VertexList → Cut → Found
-found_at path cut = record { path = path; cut = cut }
+abbrev pub Found : Type 0
+Found = Result (ArrayVec ℕ) Cut
 
-abbrev pub cut_at : VertexSet → VertexSet → Cut
-cut_at removed side = record { removed = removed; side = side }
+-- ---- the two answers
+
+module _ (f : construction.Found) where
+  abbrev by_test : Bool → Found
+  by_test b = cond b (Err (cut_of f.cut_by)) (Ok (path_of f.path))
+
+  told_by : {b : Bool} {x : Found} → is_cut f.cut_by ≡ b → x ≡ found_of f → x ≡ by_test b
+  told_by t e = e ∙ ap by_test t
+
+  pub ok_test : {p : ArrayVec ℕ} → Ok p ≡ found_of f → is_cut f.cut_by ≡ false
+  ok_test {p} e = go (is_cut f.cut_by) refl
+    where
+      go : (b : Bool) → is_cut f.cut_by ≡ b → is_cut f.cut_by ≡ false
+      go true t = let z = told_by t e in cc
+      go false t = t
+
+  pub ok_path : {p : ArrayVec ℕ} → Ok p ≡ found_of f → p.items ≡ f.path
+  ok_path {p} e = let z = told_by (ok_test e) e in let y : p ≡ path_of f.path = cc in ap (λ (v : ArrayVec ℕ). v.items) y
+
+  pub err_test : {c : Cut} → Err c ≡ found_of f → is_cut f.cut_by ≡ true
+  err_test {c} e = go (is_cut f.cut_by) refl
+    where
+      go : (b : Bool) → is_cut f.cut_by ≡ b → is_cut f.cut_by ≡ true
+      go true t = t
+      go false t = let z = told_by t e in cc
+
+  pub err_cut : {c : Cut} → Err c ≡ found_of f → c ≡ cut_of f.cut_by
+  err_cut {c} e = let z = told_by (err_test e) e in cc
+
+pub found_ok : (l : List ℕ) {p : ArrayVec ℕ} → p.items ≡ l → Ok p ≡ found_of (found l)
+unfolding none
+found_ok l e = ap (λ (k : List ℕ). Ok (path_of k)) e
 
 -- ---- a space of the right size, and one of another
 
@@ -44,120 +74,119 @@ module _ (space : List ℕ) (m : searching.Reach) (removed : VertexSet) (more : 
   answered-sized : length space ≡ search_space → answered_in space m removed more ≡ answered m removed more
   answered-sized h = sym (by_size (eq-eqb (length space) search_space h))
 
+  by_found : {b : Bool} → is_found m ≡ b → cond b (found (route m ++ more)) (failed removed (reached m removed)) ≡ answered m removed more
+  by_found t = ap (λ (b : Bool). cond b (found (route m ++ more)) (failed removed (reached m removed))) (sym t)
+
 unsized : (space : List ℕ) (m : searching.Reach) → eqb (length space) search_space ≡ false → {r : Reach} → r ≡ answer_in space m → r ≡ no_reach
 unsized space m t e = e ∙ rw t
 
 -- ---- a search, answered
 
-found-with : (m : searching.Reach) (removed : VertexSet) → is_found m ≡ true → (more : List ℕ) (p : VertexList) (c : Cut) → p ≡ path_of (route m ++ more) → c ≡ cut_of no_cut
-    → found_at p c ≡ found_of (answered m removed more)
-found-with m removed t more p c q n = rw (t, q, n)
-
-module _ (m : searching.Reach) (removed : VertexSet) (r : Reach) (e : r ≡ reach_of m) where
-  met : r.goal < capacity → ltb m.goal capacity ≡ true
-  met h = lt-ltb m.goal capacity (subst (λ (x : Reach). x.goal < capacity) e h)
-
-  unmet : capacity ≤ r.goal → ltb m.goal capacity ≡ false
-  unmet h = le-ltb m.goal capacity (subst (λ (x : Reach). capacity ≤ x.goal) e h)
-
-  found_here : (p : VertexList) (c : Cut) → r.goal < capacity → p ≡ path_of (route m) → c ≡ cut_of no_cut → found_at p c ≡ found_of (answered m removed [])
-  found_here p c h q n = found-with m removed (met h) [] p c (q ∙ ap path_of (sym (append-nil (route m)))) n
-
-  found_none : (p : VertexList) (side : VertexSet) → capacity ≤ r.goal → p ≡ path_of [] → side ≡ minus r.shut removed
-      → found_at p (cut_at removed side) ≡ found_of (answered m removed [])
-  found_none p side h q s =
-      let t : side ≡ minus m.shut removed = s ∙ ap (λ (x : Reach). minus x.shut removed) e in
-      rw (unmet h, q, t)
-
 module _ (rows space : List ℕ) (seeds goals removed : VertexSet) {r : Reach} (e : r ≡ answer_in space (explore rows seeds goals removed)) where
   abbrev here : searching.Reach
   here = explore rows seeds goals removed
 
-  pub found_in : {out : List ℕ} → out ≡ left_in space here → {p : VertexList} {c : Cut} → r.goal < capacity → p ≡ path_of (route_in out r) → c ≡ cut_of no_cut
-      → found_at p c ≡ found_of (answered_in space here removed [])
-  found_in {out} o {p} {c} h q n = go (eqb (length space) search_space) refl
-    where
-      go : (b : Bool) → eqb (length space) search_space ≡ b → found_at p c ≡ found_of (answered_in space here removed [])
-      go true t =
-          let size : length space ≡ search_space = eqb-true (length space) search_space t in
-          found_here here removed r (answer_is rows space seeds goals removed size e) p c h (routed rows space seeds goals removed size o e q) n
-          ∙ ap found_of (by_size space here removed [] t)
-      go false t = let z = ap (λ (x : Reach). x.goal) (unsized space here t e) in absurd (omega arith)
+  met : length space ≡ search_space → r.goal < capacity → is_found here ≡ true
+  met size h = lt-ltb here.goal capacity (subst (λ (x : Reach). x.goal < capacity) (answer_is rows space seeds goals removed size e) h)
 
-  pub none_in : {p : VertexList} {side : VertexSet} → capacity ≤ r.goal → p ≡ path_of [] → side ≡ minus r.shut removed
-      → found_at p (cut_at removed side) ≡ found_of (answered_in space here removed [])
-  none_in {p} {side} h q s = go (eqb (length space) search_space) refl
+  pub found_in : {out : List ℕ} → out ≡ left_in space here → {p : ArrayVec ℕ} → r.goal < capacity → p.items ≡ route_in out r
+      → Ok p ≡ found_of (answered_in space here removed [])
+  found_in {out} o {p} h q = go (eqb (length space) search_space) refl
     where
-      go : (b : Bool) → eqb (length space) search_space ≡ b → found_at p (cut_at removed side) ≡ found_of (answered_in space here removed [])
+      go : (b : Bool) → eqb (length space) search_space ≡ b → Ok p ≡ found_of (answered_in space here removed [])
       go true t =
           let size : length space ≡ search_space = eqb-true (length space) search_space t in
-          found_none here removed r (answer_is rows space seeds goals removed size e) p side h q s ∙ ap found_of (by_size space here removed [] t)
-      go false t =
-          let v : side ≡ minus empty_set removed = s ∙ ap (λ (x : Reach). minus x.shut removed) (unsized space here t e) in
-          (λ i. found_at (q i) (cut_at removed (v i))) ∙ ap found_of (by_size space here removed [] t)
+          let w : p.items ≡ route here ++ [] = q ∙ routed rows space seeds goals removed size o e ∙ sym (append-nil (route here)) in
+          found_ok (route here ++ []) w ∙ ap found_of (by_found space here removed [] (met size h) ∙ by_size space here removed [] t)
+      go false t = let z = ap (λ (x : Reach). x.goal) (unsized space here t e) in absurd (omega arith)
 
 -- ---- one vertex more; a search that failed leaves no path
 
-module _ (m : searching.Reach) (removed : VertexSet) (x : ℕ) {f : Found} (e : f ≡ found_of (answered m removed [])) where
-  abbrev by : Bool → List ℕ → construction.Found
-  by b more = cond b (found (route m ++ more)) (failed removed (reached m removed))
+-- there is no path, whatever goes on; or the path that goes on
+data Goes (m : searching.Reach) (x : ℕ) (f g : construction.Found) : Type 0 where
+  stays : f.path ≡ [] → g ≡ f → Goes m x f g
+  goes : f ≡ found (route m) → g ≡ found (route m ++ (x ∷ [])) → Goes m x f g
 
-  told : {b : Bool} → is_found m ≡ b → f ≡ found_of (by b [])
-  told t = e ∙ ap (λ (b : Bool). found_of (by b [])) t
+module _ (space : List ℕ) (m : searching.Reach) (removed : VertexSet) (x : ℕ) where
+  abbrev one : construction.Found
+  one = answered_in space m removed []
 
-  on_none : f.path.count ≡ 0 → f ≡ found_of (answered m removed (x ∷ []))
-  on_none h = go (is_found m) refl
+  abbrev two : construction.Found
+  two = answered_in space m removed (x ∷ [])
+
+  ways : Goes m x one two
+  ways = go (eqb (length space) search_space) refl (is_found m) refl
     where
-      go : (b : Bool) → is_found m ≡ b → f ≡ found_of (answered m removed (x ∷ []))
-      go true t = let z = ap (λ (y : Found). y.path.count) (told t) in absurd (omega arith)
-      go false t = told t ∙ sym (ap (λ (b : Bool). found_of (by b (x ∷ []))) t)
+      go : (b : Bool) → eqb (length space) search_space ≡ b → (d : Bool) → is_found m ≡ d → Goes m x one two
+      go true t true u = goes
+          (sym (by_found space m removed [] u ∙ by_size space m removed [] t) ∙ ap found (append-nil (route m)))
+          (sym (by_found space m removed (x ∷ []) u ∙ by_size space m removed (x ∷ []) t))
+      go true t false u =
+          let o = by_found space m removed [] u ∙ by_size space m removed [] t in
+          stays (ap (λ (y : construction.Found). y.path) (sym o)) (sym (by_found space m removed (x ∷ []) u ∙ by_size space m removed (x ∷ []) t) ∙ o)
+      go false t d u =
+          stays (ap (λ (y : construction.Found). y.path) (sym (by_size space m removed [] t))) (sym (by_size space m removed (x ∷ []) t) ∙ by_size space m removed [] t)
 
-  on_more : (f.path.count ≡ 0 → ⊥) → {p : VertexList} {c : Cut} → p ≡ pushed f.path x → c ≡ cut_of no_cut → found_at p c ≡ found_of (answered m removed (x ∷ []))
-  on_more h {p} {c} q n = go (is_found m) refl
-    where
-      go : (b : Bool) → is_found m ≡ b → found_at p c ≡ found_of (answered m removed (x ∷ []))
-      go true t =
-          let r : f.path ≡ path_of (route m) = ap (λ (y : Found). y.path) (told t) ∙ ap path_of (append-nil (route m)) in
-          found-with m removed t (x ∷ []) p c (q ∙ ap (λ (y : VertexList). pushed y x) r ∙ pushed-path (route m) x (omega (arith, route-short m))) n
-      go false t = absurd (h (ap (λ (y : Found). y.path.count) (told t)))
+  module _ {p : ArrayVec ℕ} (e : Ok p ≡ found_of one) where
+    pub goes_room : length p.items < path_room
+    goes_room = go ways
+      where
+        go : Goes m x one two → length p.items < path_room
+        go (stays a b) = let z = ap length (ok_path one e ∙ a) in omega arith
+        go (goes a b) = let z = ap length (ok_path one e ∙ ap (λ (y : construction.Found). y.path) a) in omega (arith, route-short m)
 
-module _ (space : List ℕ) (m : searching.Reach) (removed : VertexSet) (x : ℕ) {f : Found} (e : f ≡ found_of (answered_in space m removed [])) where
-  sized_told : {b : Bool} → eqb (length space) search_space ≡ b → f ≡ found_of (cond b (answered m removed []) (nothing removed))
-  sized_told t = e ∙ ap found_of (sym (by_size space m removed [] t))
+    pub goes_none : length p.items ≡ 0 → Ok p ≡ found_of two
+    goes_none h = go ways
+      where
+        go : Goes m x one two → Ok p ≡ found_of two
+        go (stays a b) = e ∙ ap found_of (sym b)
+        go (goes a b) = let z = sym h ∙ ap length (ok_path one e ∙ ap (λ (y : construction.Found). y.path) a) in absurd (omega arith)
 
-  pub goes_none : f.path.count ≡ 0 → f ≡ found_of (answered_in space m removed (x ∷ []))
-  goes_none h = go (eqb (length space) search_space) refl
-    where
-      go : (b : Bool) → eqb (length space) search_space ≡ b → f ≡ found_of (answered_in space m removed (x ∷ []))
-      go true t = on_none m removed x (sized_told t) h ∙ ap found_of (by_size space m removed (x ∷ []) t)
-      go false t = sized_told t ∙ ap found_of (by_size space m removed (x ∷ []) t)
-
-  pub goes_on : (f.path.count ≡ 0 → ⊥) → {p : VertexList} {c : Cut} → p ≡ pushed f.path x → c ≡ cut_of no_cut → found_at p c ≡ found_of (answered_in space m removed (x ∷ []))
-  goes_on h {p} {c} q n = go (eqb (length space) search_space) refl
-    where
-      go : (b : Bool) → eqb (length space) search_space ≡ b → found_at p c ≡ found_of (answered_in space m removed (x ∷ []))
-      go true t = on_more m removed x (sized_told t) h q n ∙ ap found_of (by_size space m removed (x ∷ []) t)
-      go false t = absurd (h (ap (λ (y : Found). y.path.count) (sized_told t)))
+    pub goes_on : length p.items ≢ 0 → {q : ArrayVec ℕ} → q.items ≡ p.items ++ (x ∷ []) → Ok q ≡ found_of two
+    goes_on h {q} k = go ways
+      where
+        go : Goes m x one two → Ok q ≡ found_of two
+        go (stays a b) = absurd (h (ap length (ok_path one e ∙ a)))
+        go (goes a b) =
+            found_ok (route m ++ (x ∷ [])) (k ∙ ap (λ (l : List ℕ). l ++ (x ∷ [])) (ok_path one e ∙ ap (λ (y : construction.Found). y.path) a)) ∙ ap found_of (sym b)
 
 -- ---- out and back: what comes of the search, whatever is asked of it
 
+module _ (e : ℕ × ℕ) where
+  abbrev way_by : Bool → Option (ℕ × ℕ)
+  way_by b = cond b (Some e) None
+
+  no_way : None ≡ way_of e → ltb e.0 capacity ≡ false
+  no_way h = go (ltb e.0 capacity) refl
+    where
+      go : (b : Bool) → ltb e.0 capacity ≡ b → ltb e.0 capacity ≡ false
+      go true t = let z = h ∙ ap way_by t in cc
+      go false t = t
+
+  some_way : {w : ℕ × ℕ} → Some w ≡ way_of e → (ltb e.0 capacity ≡ true) × (w ≡ e)
+  some_way {w} h = go (ltb e.0 capacity) refl
+    where
+      go : (b : Bool) → ltb e.0 capacity ≡ b → (ltb e.0 capacity ≡ true) × (w ≡ e)
+      go true t = let z = h ∙ ap way_by t in (t, cc)
+      go false t = let z = h ∙ ap way_by t in cc
+
 module _ {A : Type 0} (told : searching.Reach → VertexSet → List ℕ → A) (none : A) (rows : List ℕ) where
-  module _ (set : VertexSet) (e : ℕ × ℕ) (x y : ℕ) (inside : x ≡ e.0) (outside : y ≡ e.1) where
-    back_on : x < capacity → told (explore rows (single y) (minus set (single x)) (single x)) (single x) (x ∷ []) ≡ back_by told none rows set e
-    back_on h = rw (← inside, ← outside, lt-ltb x capacity h)
+  back_on : (set : VertexSet) (e w : ℕ × ℕ) → Some w ≡ way_of e
+      → told (explore rows (single w.1) (minus set (single w.0)) (single w.0)) (single w.0) (w.0 ∷ []) ≡ back_by told none rows set e
+  back_on set e w h = let k : (ltb e.0 capacity ≡ true) × (w ≡ e) = some_way e h in rw (k.0, k.1)
 
-    back_none : capacity ≤ x → none ≡ back_by told none rows set e
-    back_none h = rw (← inside, le-ltb x capacity h)
+  back_none : (set : VertexSet) (e : ℕ × ℕ) → None ≡ way_of e → none ≡ back_by told none rows set e
+  back_none set e h = rw (no_way e h)
 
-  module _ (n set : VertexSet) (x y : ℕ) (inside : x ≡ (way_out rows n set).0) (outside : y ≡ (way_out rows n set).1) where
-    pub detour-found : (a b g : VertexSet) → x < capacity → a ≡ single y → b ≡ single x → g ≡ minus set b
+  module _ (n set : VertexSet) where
+    pub detour-found : {x y : ℕ} → Some (x, y) ≡ way_of (way_out rows n set) → (a b g : VertexSet) → a ≡ single y → b ≡ single x → g ≡ minus set b
         → told (explore rows a g (single x)) (single x) (x ∷ []) ≡ detour_by told none rows n set
     unfolding detour_by
-    detour-found a b g h p q r = rw (p, r, q) (back_on set (way_out rows n set) x y inside outside h)
+    detour-found {x} {y} h a b g p q r = rw (p, r, q) (back_on set (way_out rows n set) (x, y) h)
 
-    pub detour-none : capacity ≤ x → none ≡ detour_by told none rows n set
+    pub detour-none : None ≡ way_of (way_out rows n set) → none ≡ detour_by told none rows n set
     unfolding detour_by
-    detour-none h = back_none set (way_out rows n set) x y inside outside h
+    detour-none h = back_none set (way_out rows n set) h
 
   -- ---- and around vertex 0
 

@@ -6,6 +6,8 @@ use mathlib.Core.List.{List, [], ◌∷◌}
 use native.Mathlib.Omega.{arith}
 use lib.Dec.{ltb}
 use lib.ListN.{length, take, replicate}
+use Rattle.std.specs.Prelude.{Ok, Err}
+use Rattle.arrayvec.specs.ArrayVec.{ArrayVec}
 use Rattle.vertexset.specs.Set.{empty_set, count, capacity}
 use Rattle.vertexset.specs.declared.VertexSet.{VertexSet}
 use Rattle.graph.specs.Rows.{row_of}
@@ -21,10 +23,10 @@ use Rattle.construction.proofs.SetLaws.{sized_empty, sized_all}
 use Rattle.construction.proofs.Near.{near-grows, near-set}
 use Rattle.detours.specs.Code.{cut_of, cut_in, found_of, ears_of, Kept, FlatShows}
 use Rattle.detours.specs.declared.Cut.{Cut}
-use Rattle.detours.specs.declared.Found.{Found}
 use Rattle.detours.specs.declared.Ears.{Ears}
 use Rattle.detours.proofs.Routes.{answered-one}
-use Rattle.detours.proofs.Kept.{kept_length, kept_size, add_kept, add_kept_end, add_kept_short, flat_shows_take, flat_shows_kept, path-front}
+use Rattle.detours.proofs.Kept.{kept_length, kept_size, add_kept, add_kept_end, add_kept_short, flat_shows_take, flat_shows_kept}
+use Rattle.detours.proofs.Answered.{Found, ok_test, ok_path, err_test, err_cut}
 
 -- ---- paths are short
 
@@ -56,27 +58,17 @@ cycle-short rows = around-short rows (row_of rows 0) (ltb (count (row_of rows 0)
 abbrev pub ears_at : List ℕ → ℕ → ℕ → Cut → Ears
 ears_at flat len count cut = record { flat = flat; len = len; count = count; cut = cut }
 
--- the path at the front of the array
-abbrev pub path_part : Found → List ℕ
-path_part f = take f.path.count f.path.vertices
-
-pub part_is : (f : Found) (g : construction.Found) → f ≡ found_of g → path_part f ≡ g.path
-part_is f g e = path-front f.path g.path (ap (λ (x : Found). x.path) e)
-
 -- ---- a search: where it fails its cut is the answer, else its path goes on
 
 abbrev pub stage : {A : Type 0} → (construction.Cut → A) → (List ℕ → A) → construction.Found → A
 stage end more g = cond (is_cut g.cut_by) (end g.cut_by) (more g.path)
 
-module _ {A : Type 0} (end : construction.Cut → A) (more : List ℕ → A) (f : Found) (g : construction.Found) (e : f ≡ found_of g) {y : Bool} (t : y ≡ is_cut (cut_in f.cut)) where
-  test : is_cut g.cut_by ≡ y
-  test = sym (t ∙ ap (λ (x : Found). is_cut (cut_in x.cut)) e)
+module _ {A : Type 0} (end : construction.Cut → A) (more : List ℕ → A) (g : construction.Found) where
+  pub stage_cut : {c : Cut} → Err c ≡ found_of g → end (cut_in c) ≡ stage end more g
+  stage_cut e = rw (err_test g e) (ap (λ (x : Cut). end (cut_in x)) (err_cut g e))
 
-  pub stage_cut : y ≡ true → end (cut_in f.cut) ≡ stage end more g
-  stage_cut h = let b : is_cut g.cut_by ≡ true = test ∙ h in ap (λ (x : Found). end (cut_in x.cut)) e ∙ rw b
-
-  pub stage_on : y ≡ false → {l : List ℕ} → l ≡ path_part f → more l ≡ stage end more g
-  stage_on h q = let b : is_cut g.cut_by ≡ false = test ∙ h in ap more (q ∙ part_is f g e) ∙ rw b
+  pub stage_on : {p : ArrayVec ℕ} → Ok p ≡ found_of g → more p.items ≡ stage end more g
+  stage_on e = rw (ok_test g e) (ap more (ok_path g e))
 
 -- ---- a path more
 
@@ -91,27 +83,27 @@ module _ (flat : List ℕ) (len : ℕ) (path : List ℕ) (k : Kept flat len) {ou
 abbrev pub ears_from : List ℕ → VertexSet → List ℕ → Eared
 ears_from rows full path = ears_on rows full capacity (add_path [] path) 1 (set_with_all empty_set path)
 
-module _ (rows : List ℕ) (full : VertexSet) (f : Found) (e : f ≡ found_of (cycle rows)) {y : Bool} (t : y ≡ is_cut (cut_in f.cut)) where
-  pub first_cut : y ≡ true → eared [] 0 (cut_in f.cut) ≡ ears rows full
+module _ (rows : List ℕ) (full : VertexSet) where
+  pub first_cut : {c : Cut} → Err c ≡ found_of (cycle rows) → eared [] 0 (cut_in c) ≡ ears rows full
   unfolding ears
-  first_cut h = stage_cut (eared [] 0) (ears_from rows full) f (cycle rows) e t h
+  first_cut e = stage_cut (eared [] 0) (ears_from rows full) (cycle rows) e
 
-  pub first_on : y ≡ false → {l : List ℕ} → l ≡ path_part f → ears_from rows full l ≡ ears rows full
+  pub first_on : {p : ArrayVec ℕ} → Ok p ≡ found_of (cycle rows) → ears_from rows full p.items ≡ ears rows full
   unfolding ears
-  first_on h q = stage_on (eared [] 0) (ears_from rows full) f (cycle rows) e t h q
+  first_on e = stage_on (eared [] 0) (ears_from rows full) (cycle rows) e
 
 -- ---- the loop
 
-pub record Earing (rows : List ℕ) (full : VertexSet) (whole : Eared) (flat : List ℕ) (len : ℕ) (set n : VertexSet) (count left : ℕ) : Type 0 where
+pub record Earing (rows : List ℕ) (full : VertexSet) (whole : Eared) (flat : List ℕ) (len : ℕ) (set n : VertexSet) (count counter : ℕ) : Type 0 where
   pub kept : Kept flat len
   pub sized : Sized set
   pub same_near : n ≡ near rows set
-  pub room : count + left ≡ capacity + 1
-  pub rest : ears_on rows full left (take len flat) count set ≡ whole
+  pub turns : count ≡ counter + 1
+  pub rest : ears_on rows full (capacity - counter) (take len flat) count set ≡ whole
 
 pub first_ear_lem : (rows : List ℕ) (full : VertexSet) (path : List ℕ) {flat : List ℕ} {len : ℕ} {none none2 set n : VertexSet}
     → flat ≡ placed (replicate path_space 0) 0 (stop ∷ path) → len ≡ placed_end (replicate path_space 0) 0 (stop ∷ path)
-    → none ≡ empty_set → set ≡ set_with_all none path → none2 ≡ empty_set → n ≡ near_all rows none2 path → Earing rows full (ears_from rows full path) flat len set n 1 capacity
+    → none ≡ empty_set → set ≡ set_with_all none path → none2 ≡ empty_set → n ≡ near_all rows none2 path → Earing rows full (ears_from rows full path) flat len set n 1 0
 first_ear_lem rows full path {flat} {len} {n = n} o k z s y m =
     let f : FlatShows flat len (add_path [] path) = more_shows (replicate path_space 0) 0 path (sym (padded-none path_space), omega arith) o k in
     let v : _ ≡ set_with_all empty_set path = s ∙ ap (λ (x : VertexSet). set_with_all x path) z in
@@ -119,7 +111,7 @@ first_ear_lem rows full path {flat} {len} {n = n} o k z s y m =
       kept = flat_shows_kept flat len _ f;
       sized = subst Sized (sym v) (sized_all empty_set path sized_empty);
       same_near = m ∙ ap (λ (x : VertexSet). near_all rows x path) y ∙ sym (near-set rows path) ∙ ap (near rows) (sym v);
-      room = refl;
+      turns = refl;
       rest = λ i. ears_on rows full capacity (flat_shows_take flat len _ f i) 1 (v i);
     }
 
@@ -136,47 +128,52 @@ ears-turn : (rows : List ℕ) (full : VertexSet) (f : ℕ) (flat : List ℕ) (k 
 unfolding ears_on
 ears-turn rows full f flat k set = refl
 
-module _ {rows : List ℕ} {full : VertexSet} {whole : Eared} {flat : List ℕ} {len : ℕ} {set n : VertexSet} {count left : ℕ} (g : Earing rows full whole flat len set n count left) where
+module _ {rows : List ℕ} {full : VertexSet} {whole : Eared} {flat : List ℕ} {len : ℕ} {set n : VertexSet} {count counter : ℕ} (g : Earing rows full whole flat len set n count counter) where
   pub earing_length : length flat ≡ path_space
   earing_length = kept_length flat len g.kept
 
   shown : {c : Cut} (d : construction.Cut) → c ≡ cut_of d → eared (take len flat) count d ≡ whole → ears_at flat len count c ≡ ears_of whole
   shown d e w = (λ i. record { flat = g.kept.0 i; len = sym (kept_size flat len g.kept) i; count = count; cut = e i }) ∙ ap ears_of w
 
-  pub earing_end : left ≤ 0 → {c : Cut} → c ≡ cut_of no_cut → ears_at flat len count c ≡ ears_of whole
+  -- as many turns are left after this one
+  abbrev left : ℕ
+  left = capacity - (counter + 1)
+
+  pub earing_end : capacity ≤ counter → {c : Cut} → c ≡ cut_of no_cut → ears_at flat len count c ≡ ears_of whole
   earing_end h e =
-      let z : 0 ≡ left = omega arith in
+      let z : 0 ≡ capacity - counter = omega arith in
       shown no_cut e (sym (ears-none rows full (take len flat) count set) ∙ ap (λ (f : ℕ). ears_on rows full f (take len flat) count set) z ∙ g.rest)
 
-  module _ (h : 0 < left) {out : VertexSet} {b : Bool} (o : out ≡ minus full set) (t : b ≡ empty out) where
-    next : turn rows full (left - 1) (take len flat) count set b (detour rows (near rows set) set) ≡ whole
+  module _ (h : counter < capacity) {out : VertexSet} {b : Bool} (o : out ≡ minus full set) (t : b ≡ empty out) where
+    next : turn rows full left (take len flat) count set b (detour rows (near rows set) set) ≡ whole
     next =
-        let z : suc (left - 1) ≡ left = omega arith in
-        ap (λ (x : Bool). turn rows full (left - 1) (take len flat) count set x (detour rows (near rows set) set)) (t ∙ ap empty o)
-        ∙ sym (ears-turn rows full (left - 1) (take len flat) count set) ∙ ap (λ (f : ℕ). ears_on rows full f (take len flat) count set) z ∙ g.rest
+        let z : suc left ≡ capacity - counter = omega arith in
+        ap (λ (x : Bool). turn rows full left (take len flat) count set x (detour rows (near rows set) set)) (t ∙ ap empty o)
+        ∙ sym (ears-turn rows full left (take len flat) count set) ∙ ap (λ (f : ℕ). ears_on rows full f (take len flat) count set) z ∙ g.rest
 
     pub earing_full : b ≡ true → {c : Cut} → c ≡ cut_of no_cut → ears_at flat len count c ≡ ears_of whole
     earing_full u e = shown no_cut e (rw u at next)
 
-    module _ (u : b ≡ false) {d : Found} (e : d ≡ found_of (detour rows n set)) {y : Bool} (q : y ≡ is_cut (cut_in d.cut)) where
+    module _ (u : b ≡ false) where
       abbrev more : List ℕ → Eared
-      more p = ears_on rows full (left - 1) (add_path (take len flat) p) (count + 1) (set_with_all set p)
+      more p = ears_on rows full left (add_path (take len flat) p) (count + 1) (set_with_all set p)
 
-      way : d ≡ found_of (detour rows (near rows set) set)
-      way = e ∙ ap (λ (x : VertexSet). found_of (detour rows x set)) g.same_near
+      way : {d : Found} → d ≡ found_of (detour rows n set) → d ≡ found_of (detour rows (near rows set) set)
+      way e = e ∙ ap (λ (x : VertexSet). found_of (detour rows x set)) g.same_near
 
-      pub earing_cut : y ≡ true → ears_at flat len count d.cut ≡ ears_of whole
-      earing_cut v = shown (cut_in d.cut) refl (stage_cut (eared (take len flat) count) more d (detour rows (near rows set) set) way q v ∙ rw u at next)
+      pub earing_cut : {c : Cut} → Err c ≡ found_of (detour rows n set) → ears_at flat len count c ≡ ears_of whole
+      earing_cut {c} e = shown (cut_in c) refl (stage_cut (eared (take len flat) count) more (detour rows (near rows set) set) (way e) ∙ rw u at next)
 
-      pub earing_on : y ≡ false → {l : List ℕ} → l ≡ path_part d → {flat2 : List ℕ} {len2 : ℕ} {set2 n2 : VertexSet} → flat2 ≡ placed flat len (stop ∷ l)
-          → len2 ≡ placed_end flat len (stop ∷ l) → set2 ≡ set_with_all set l → n2 ≡ near_all rows n l → Earing rows full whole flat2 len2 set2 n2 (count + 1) (left - 1)
-      earing_on v {l} p {flat2} {len2} m k a z =
+      pub earing_on : {p : ArrayVec ℕ} → Ok p ≡ found_of (detour rows n set) → {l : List ℕ} → l ≡ p.items → {flat2 : List ℕ} {len2 : ℕ} {set2 n2 : VertexSet}
+          → flat2 ≡ placed flat len (stop ∷ l) → len2 ≡ placed_end flat len (stop ∷ l) → set2 ≡ set_with_all set l → n2 ≡ near_all rows n l
+          → Earing rows full whole flat2 len2 set2 n2 (count + 1) (counter + 1)
+      earing_on e {l} p {flat2} {len2} m k a z =
           let s : FlatShows flat2 len2 (add_path (take len flat) l) = more_shows flat len l g.kept m k in
           record {
             kept = flat_shows_kept flat2 len2 _ s;
             sized = subst Sized (sym a) (sized_all set l g.sized);
             same_near = z ∙ ap (λ (x : VertexSet). near_all rows x l) g.same_near ∙ sym (near-grows rows set l g.sized) ∙ ap (near rows) (sym a);
-            room = omega (arith, g.room);
-            rest = (λ i. ears_on rows full (left - 1) (flat_shows_take flat2 len2 _ s i) (count + 1) (a i))
-                ∙ stage_on (eared (take len flat) count) more d (detour rows (near rows set) set) way q v p ∙ rw u at next;
+            turns = omega (arith, g.turns);
+            rest = (λ i. ears_on rows full left (flat_shows_take flat2 len2 _ s i) (count + 1) (a i))
+                ∙ ap more p ∙ stage_on (eared (take len flat) count) more (detour rows (near rows set) set) (way e) ∙ rw u at next;
           }

@@ -3,11 +3,9 @@ use Prim.Native.Nat.{ℕ, ◌-◌, ◌≤◌}
 use mathlib.Core.Path.{◌≡◌, sym, ap, ◌∙◌}
 use mathlib.Core.List.{List, ◌∷◌}
 use native.Mathlib.Omega.{arith}
-use lib.ListN.{length, take, drop, replicate, length-take}
-use lib.Seq.{take-append_seam, length-take-le}
+use lib.ListN.{length, take, drop, length-take}
+use lib.Seq.{length-take-le}
 use Rattle.search.specs.Arrays.{placed, placed_end}
-use Rattle.search.specs.Code.{path_of, path_room}
-use Rattle.search.specs.declared.VertexList.{VertexList}
 use Rattle.search.proofs.Placed.{padded-length, padded-take, placed-padded, placed_end-padded, added-length}
 use Rattle.construction.specs.Sets.{stop}
 use Rattle.construction.specs.Ears.{path_space, add_path}
@@ -62,9 +60,3 @@ front items len = take (len - 0) (drop 0 items)
 
 pub front_take : (items : List ℕ) (len : ℕ) → front items len ≡ take len items
 front_take items len = let z : len - 0 ≡ len = omega arith in rw z
-
--- ---- a path's array
-
--- the front of a path's array, as the code hands it on
-pub path-front : (p : VertexList) (l : List ℕ) → p ≡ path_of l → take p.count p.vertices ≡ l
-path-front p l e = rw e (take-append_seam l (replicate (path_room - length l) 0))

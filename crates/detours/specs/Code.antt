@@ -1,24 +1,24 @@
 -- What the functions give: the values of the definition, its lists at the front of arrays.
-use Rattle.std.specs.Prelude.{ℕ, ◌+◌, ◌≤◌, ◌≡◌, cond, List, [], ◌∷◌, ltb, eqb, length, take, set}
+use Rattle.std.specs.Prelude.{ℕ, ◌≤◌, ◌≡◌, cond, List, [], ◌∷◌, ltb, eqb, length, take, Option, Some, None, Result, Ok, Err}
+use Rattle.arrayvec.specs.ArrayVec.{ArrayVec}
 use Rattle.vertexset.specs.Set.{empty_set, count, capacity}
 use Rattle.vertexset.specs.declared.VertexSet.{VertexSet}
 use Rattle.graph.specs.Rows.{row_of}
 use Rattle.search.specs.Arrays.{padded}
-use Rattle.search.specs.Code.{path_of, path_room, search_space, left_in}
-use Rattle.search.specs.declared.VertexList.{VertexList}
+use Rattle.search.specs.Code.{path_of, search_space, left_in}
 use Rattle.construction.specs.Sets.{minus, single, least}
 use Rattle.construction.specs.Search.{Reach, explore}
 use Rattle.construction.specs.Ears as construction
-use Rattle.construction.specs.Ears.{failed, answered, way_out, path_space}
+use Rattle.construction.specs.Ears.{is_cut, failed, answered, way_out, path_space}
 use Rattle.detours.specs.declared.Cut.{Cut}
-use Rattle.detours.specs.declared.Found.{Found}
 use Rattle.detours.specs.declared.Ears.{Ears}
 
 abbrev pub cut_of : construction.Cut → Cut
 cut_of c = record { removed = c.removed; side = c.side }
 
-abbrev pub found_of : construction.Found → Found
-found_of f = record { path = path_of f.path; cut = cut_of f.cut_by }
+-- a cut where somebody is on the side, else the path
+abbrev pub found_of : construction.Found → Result (ArrayVec ℕ) Cut
+found_of f = cond (is_cut f.cut_by) (Err (cut_of f.cut_by)) (Ok (path_of f.path))
 
 abbrev pub flat_of : List ℕ → List ℕ
 flat_of l = padded path_space l
@@ -64,9 +64,9 @@ cycle_left space rows = cycle_by (λ m removed more. left_in space m) space rows
 
 -- ---- what the private functions give, and what they keep
 
--- a vertex at the end of a path that has room
-abbrev pub pushed : VertexList → ℕ → VertexList
-pushed p v = cond (ltb p.count path_room) (record { vertices = set p.vertices p.count v; count = p.count + 1 }) p
+-- an edge out of a set, if there is one
+abbrev pub way_of : ℕ × ℕ → Option (ℕ × ℕ)
+way_of e = cond (ltb e.0 capacity) (Some e) None
 
 -- a list of paths at the front of the array, and zeros behind it
 abbrev pub Kept : List ℕ → ℕ → Type 0

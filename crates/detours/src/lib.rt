@@ -1,15 +1,15 @@
 // Paths and cuts by one search each: a way out of a set of vertices and back, a cycle through vertex 0; ears until every vertex is in.
 #![tactic(auto)]
 
-ghost use Rattle.std.specs.Prelude.{◌≡◌, [], ◌∷◌, length, take, get_or};
+ghost use Rattle.std.specs.Prelude.{◌≡◌, [], ◌∷◌, get_or};
 ghost use Rattle.vertexset.specs.Set.{empty_set, capacity};
 ghost use Rattle.search.specs.Arrays.{placed, placed_end};
-ghost use Rattle.search.specs.Code.{path_of, search_space, left_in};
+ghost use Rattle.search.specs.Code.{left_in};
 ghost use Rattle.construction.specs.Sets.{stop, pair, single, set_with_all, last_of};
 ghost use Rattle.construction.specs.Search.{explore};
-ghost use Rattle.construction.specs.Ears.{no_cut, is_cut, near_all, way_out, add_path, ears_on, ears};
+ghost use Rattle.construction.specs.Ears.{no_cut, is_cut, failed, near_all, way_out, add_path, ears_on, ears};
 ghost use Rattle.construction.specs.Start.{marked};
-ghost use Rattle.detours.specs.Code.{cut_of, found_of, ears_of, pushed, answered_in, detour_in, detour_left, cycle_in, cycle_left};
+ghost use Rattle.detours.specs.Code.{cut_of, found_of, way_of, ears_of, answered_in, detour_in, detour_left, cycle_in, cycle_left};
 
 use graph::GraphTable;
 use search::{Reach, VertexList};
@@ -22,21 +22,11 @@ pub struct Cut {
     pub side: VertexSet,
 }
 
-// A path of vertices, or a cut.
-#[derive(Clone, Copy)]
-pub struct Found {
-    pub path: VertexList,
-    pub cut: Cut,
-}
+// A path of vertices, or a cut. Where a search finds neither, the path is empty.
+pub type Found = Result<VertexList, Cut>;
 
-// An edge out of a set; where there is none, CAPACITY inside.
-#[derive(Clone, Copy)]
-struct Exit {
-    inside: u16,
-    outside: u16,
-}
-
-// Ears one after the other in an array, a stop before each, and how many; or a cut.
+// Ears one after the other in an array, a stop before each, and how many; and the cut that ended them, if one did: what find_ears and
+// the certifier's `cut_certificate_in` promise tells the ears beside the cut, so this is no Result.
 #[derive(Clone, Copy)]
 pub struct Ears {
     pub flat: [u16; Ears::ROOM],
@@ -83,10 +73,8 @@ pub fn with_all(set: VertexSet, list: &[u16]) -> VertexSet
     ensures { result ≡ set_with_all set list.now }
 {
     let mut all = set;
-    let mut i = 0;
-    while i < list.len() {
-        all = all.insert(list[i]);
-        i += 1;
+    for &v in list {
+        all = all.insert(v);
     }
     all
 }
@@ -94,53 +82,27 @@ pub fn with_all(set: VertexSet, list: &[u16]) -> VertexSet
 pub fn number_at(list: &[u16], i: usize) -> u16
     ensures { result ≡ get_or list.now i 0 }
 {
-    if i < list.len() {
-        return list[i];
-    }
-    0
+    list.get(i).copied().unwrap_or(0)
 }
 
 pub fn last_of(list: &[u16]) -> u16
     ensures { result ≡ last_of list.now }
 {
-    if list.len() == 0 {
-        return 0;
-    }
-    list[list.len() - 1]
+    list.last().copied().unwrap_or(0)
 }
 
-pub fn no_path() -> VertexList
-    ensures { result ≡ path_of [] }
+// Without a path: a cut, where somebody is on the side.
+fn failed(removed: VertexSet, side: VertexSet) -> Found
+    ensures { result ≡ found_of (failed removed side) }
 {
-    VertexList {
-        vertices: [0u16; VertexList::ROOM],
-        count: 0,
+    let cut = Cut { removed, side };
+    if cut.is_cut() {
+        return Err(cut);
     }
+    Ok(VertexList::new())
 }
 
-fn push(mut p: VertexList, v: u16) -> VertexList
-    ensures { result ≡ pushed p v }
-{
-    let k = p.count;
-    if k < VertexList::ROOM {
-        p.vertices[k] = v;
-        p.count = k + 1;
-    }
-    p
-}
-
-// The first numbers of a path's array; all where it has no more.
-pub fn front<'a>(list: &'a [u16; VertexList::ROOM], count: usize) -> &'a [u16]
-    ensures { result.now ≡ take count list.now }
-{
-    let all = &list[..];
-    if count < all.len() {
-        return &all[0..count];
-    }
-    all
-}
-
-// A search, answered by a path or a cut. In a space of another size than Reach::SPACE there is neither.
+// A search, answered by a path or a cut. In a space of another size than Reach::SPACE nothing is searched, and the path is empty.
 pub fn find<'a>(
     rows: &'a [u64; GraphTable::ROW_WORDS],
     space: &'a mut [u16],
@@ -153,19 +115,10 @@ pub fn find<'a>(
 {
     let r = search::explore(rows, space, seeds, goals, removed);
     if r.goal < VertexSet::CAPACITY {
-        return Found {
-            path: search::route(space, r),
-            cut: Cut::none(),
-        };
+        return Ok(search::route(space, r));
     }
     let shut = r.shut;
-    Found {
-        path: no_path(),
-        cut: Cut {
-            removed,
-            side: shut.minus(removed),
-        },
-    }
+    failed(removed, shut.minus(removed))
 }
 
 // The same without one vertex, to which the path goes on.
@@ -179,15 +132,11 @@ pub fn find_on<'a>(
     ensures space_after { space.new ≡ left_in space.old (explore rows.now seeds goals (single x)) }
     ensures value { result ≡ found_of (answered_in space.old (explore rows.now seeds goals (single x)) (single x) (x ∷ [])) }
 {
-    let f = find(rows, space, seeds, goals, single(x));
-    let p = f.path;
-    if p.count == 0 {
-        return f;
+    let mut path = find(rows, space, seeds, goals, single(x))?;
+    if !path.is_empty() {
+        path.push(x);
     }
-    Found {
-        path: push(p, x),
-        cut: Cut::none(),
-    }
+    Ok(path)
 }
 
 // The neighbours of the vertices of a list, beside others.
@@ -199,24 +148,27 @@ pub fn near_all<'a>(
     ensures { result ≡ near_all rows.now near list.now }
 {
     let mut all = near;
-    let mut i = 0;
-    while i < list.len() {
-        all = all.union(graph::row(rows, list[i]));
-        i += 1;
+    for &v in list {
+        all = all.union(graph::row(rows, v));
     }
     all
 }
 
-// The least vertex outside a set that is near it, and its least neighbour inside.
-fn way_out(rows: &[u64; GraphTable::ROW_WORDS], near: VertexSet, set: VertexSet) -> Exit
-    ensures { (result.inside ≡ (way_out rows.now near set).0) × (result.outside ≡ (way_out rows.now near set).1) }
+// The edge out of a set to the least vertex near it, from its least neighbour inside: (inside, outside).
+fn way_out(
+    rows: &[u64; GraphTable::ROW_WORDS],
+    near: VertexSet,
+    set: VertexSet,
+) -> Option<(u16, u16)>
+    ensures { result ≡ way_of (way_out rows.now near set) }
 {
-    let c = near.minus(set).next_from(0);
-    let row = graph::row(rows, c);
-    Exit {
-        inside: row.minus(row.minus(set)).next_from(0),
-        outside: c,
+    let outside = near.minus(set).next_from(0);
+    let row = graph::row(rows, outside);
+    let inside = row.minus(row.minus(set)).next_from(0);
+    if inside < VertexSet::CAPACITY {
+        return Some((inside, outside));
     }
+    None
 }
 
 // Out of a set along an edge to a vertex near it, and back to another of its vertices.
@@ -229,23 +181,16 @@ pub fn detour<'a>(
     ensures space_after { space.new ≡ detour_left space.old rows.now near set }
     ensures value { result ≡ found_of (detour_in space.old rows.now near set) }
 {
-    let e = way_out(rows, near, set);
-    if e.inside < VertexSet::CAPACITY {
-        return find_on(
-            rows,
-            space,
-            single(e.outside),
-            set.minus(single(e.inside)),
-            e.inside,
-        );
-    }
-    Found {
-        path: no_path(),
-        cut: Cut {
-            removed: VertexSet::empty(),
-            side: set,
-        },
-    }
+    let Some((inside, outside)) = way_out(rows, near, set) else {
+        return failed(VertexSet::empty(), set);
+    };
+    find_on(
+        rows,
+        space,
+        single(outside),
+        set.minus(single(inside)),
+        inside,
+    )
 }
 
 // A cycle through vertex 0.
@@ -255,13 +200,7 @@ pub fn cycle<'a>(rows: &'a [u64; GraphTable::ROW_WORDS], space: &'a mut [u16]) -
 {
     let row = graph::row(rows, 0);
     if row.size() < 2 {
-        return Found {
-            path: no_path(),
-            cut: Cut {
-                removed: row,
-                side: single(0),
-            },
-        };
+        return failed(row, single(0));
     }
     let x = row.next_from(0);
     find_on(rows, space, single(x), row.minus(single(x)), 0)
@@ -286,10 +225,8 @@ pub fn add_path<'a>(flat: &'a mut [u16], len: usize, path: &'a [u16]) -> usize
 pub fn mark<'a>(table: &'a mut [u64; GraphTable::ROW_WORDS], list: &'a [u16])
     ensures { table.new ≡ marked table.old list.now }
 {
-    let mut i = 1;
-    while i < list.len() {
+    for i in 1..list.len() {
         graph::join(table, list[i - 1], list[i]);
-        i += 1;
     }
 }
 
@@ -307,11 +244,10 @@ fn ears_of(flat: [u16; Ears::ROOM], len: usize, count: u16, cut: Cut) -> Ears
 // Ears behind the first until every vertex is in; or a cut. Beside the vertices that are in stand their neighbours.
 fn more_ears<'a>(
     rows: &'a [u64; GraphTable::ROW_WORDS],
-    space: &'a mut [u16],
+    space: &'a mut [u16; Reach::SPACE],
     full: VertexSet,
     first: &'a [u16],
 ) -> Ears
-    requires { length space.old ≡ search_space }
     ensures { result ≡ ears_of (ears_on rows.now full capacity (add_path [] first.now) 1 (set_with_all empty_set first.now)) }
 {
     let mut flat = [0u16; Ears::ROOM];
@@ -319,18 +255,15 @@ fn more_ears<'a>(
     let mut set = with_all(VertexSet::empty(), first);
     let mut near = near_all(rows, VertexSet::empty(), first);
     let mut count: u16 = 1;
-    let mut left = VertexSet::CAPACITY;
-    while 0 < left {
-        left -= 1;
+    for _ in 0..VertexSet::CAPACITY {
         if full.minus(set).is_empty() {
             return ears_of(flat, len, count, Cut::none());
         }
-        let d = detour(rows, space, near, set);
-        let c = d.cut;
-        if c.is_cut() {
-            return ears_of(flat, len, count, c);
-        }
-        let path = front(&d.path.vertices, d.path.count);
+        let found = match detour(rows, space, near, set) {
+            Ok(path) => path,
+            Err(cut) => return ears_of(flat, len, count, cut),
+        };
+        let path = found.as_slice();
         len = add_path(&mut flat, len, path);
         set = with_all(set, path);
         near = near_all(rows, near, path);
@@ -344,15 +277,8 @@ pub fn find_ears(rows: &[u64; GraphTable::ROW_WORDS], full: VertexSet) -> Ears
     ensures { result ≡ ears_of (ears rows.now full) }
 {
     let mut space = [0u16; Reach::SPACE];
-    let f = cycle(rows, &mut space);
-    let c = f.cut;
-    if c.is_cut() {
-        return ears_of([0u16; Ears::ROOM], 0, 0, c);
+    match cycle(rows, &mut space) {
+        Ok(first) => more_ears(rows, &mut space, full, first.as_slice()),
+        Err(cut) => ears_of([0u16; Ears::ROOM], 0, 0, cut),
     }
-    more_ears(
-        rows,
-        &mut space,
-        full,
-        front(&f.path.vertices, f.path.count),
-    )
 }

@@ -12,7 +12,7 @@ use Rattle.detours.proofs.cycle.Goals as goal
 pub returns-then-size-lt2 : goal.returns-then-size-lt2
 returns-then-size-lt2 c = let a = c.args in record {
   space_after = cycle-few (λ m removed more. left_in a.space.now m) a.space.now a.rows.now c.row-row.result c.row-row.ensures c.size.result c.size.ensures c.if-size-lt2.true;
-  value = rw (c.no_path.ensures, c.single.ensures, c.row-row.ensures)
+  value = c.failed.ensures ∙ rw (c.single.ensures, c.row-row.ensures)
       (ap found_of (cycle-few (answered_in a.space.now) (failed (row_of a.rows.now 0) (single 0)) a.rows.now c.row-row.result c.row-row.ensures c.size.result c.size.ensures c.if-size-lt2.true));
 }
 

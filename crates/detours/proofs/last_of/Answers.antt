@@ -1,11 +1,14 @@
 -- `detours::last_of` meets its contract. Assumes nothing.
 
+use Prim.Native.Nat.{◌-◌}
+use mathlib.Core.Path.{◌≡◌, ◌∙◌}
 use native.Mathlib.Omega.{arith}
-use Rattle.detours.proofs.Lists.{last_none, last_at}
+use lib.ListN.{length, get_or}
+use Rattle.std.proofs.lemmas.Grind.{common_steps}
+use Rattle.detours.proofs.Lists.{last_at}
 use Rattle.detours.proofs.last_of.Goals as goal
 
-pub returns-then-list-eq0 : goal.returns-then-list-eq0
-returns-then-list-eq0 c = last_none c.args.list.now c.if-list-eq0.true
-
 pub returns : goal.returns
-returns c = last_at c.args.list.now (omega arith)
+returns c = let l = c.args.list.now in
+    let e : c.unwrap_or.result ≡ get_or l (length l - 1) 0 = grind (arith, common_steps) in
+    e ∙ last_at l

@@ -1,22 +1,19 @@
 -- `detours::near_all` meets its contract: the rest of the list, taken in from here, gives the whole. Assumes nothing.
 
 use Prim.Native.Nat.{ℕ}
-use mathlib.Core.Path.{refl, sym, ◌∙◌}
+use mathlib.Core.Path.{sym, ◌∙◌}
 use Rattle.vertexset.specs.declared.VertexSet.{VertexSet}
 use Rattle.graph.specs.Rows.{row_of}
 use Rattle.construction.specs.Sets.{plus}
 use Rattle.detours.proofs.Lists.{fold_turn, fold_end}
 use Rattle.detours.proofs.near_all.Goals as goal
 
-pub loop-i-init : goal.loop-i-init
-loop-i-init c = refl
-
-pub loop-i-preserved : goal.loop-i-preserved
-loop-i-preserved c = let l = c.loop-i in
+pub loop-v-preserved : goal.loop-v-preserved
+loop-v-preserved c = let l = c.loop-v in
     let a = c.args in
-    rw (c.union-all.ensures, c.row.ensures) (sym (fold_turn (λ (s : VertexSet) (v : ℕ). plus s (row_of a.rows.now v)) l.all a.list.now l.i c.loop-i-test.true) ∙ l.invariant)
+    rw (c.union-all.ensures, c.row.ensures) (sym (fold_turn (λ (s : VertexSet) (v : ℕ). plus s (row_of a.rows.now v)) l.all a.list.now l.v-index c.loop-v-test.true) ∙ l.invariant)
 
 pub returns : goal.returns
-returns c = let l = c.loop-i in
+returns c = let l = c.loop-v in
     let a = c.args in
-    sym (fold_end (λ (s : VertexSet) (v : ℕ). plus s (row_of a.rows.now v)) l.all a.list.now l.i c.loop-i-test.false) ∙ l.invariant
+    sym (fold_end (λ (s : VertexSet) (v : ℕ). plus s (row_of a.rows.now v)) l.all a.list.now l.v-index c.loop-v-test.false) ∙ l.invariant
