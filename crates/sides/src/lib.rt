@@ -15,57 +15,52 @@ use paths::Item;
 use record::Answer;
 use vertexset::VertexSet;
 
-// The vertices of a side, and where reading goes on; or the fault, beside the empty set.
+// The vertices of a side, and where reading goes on.
 #[derive(Clone, Copy)]
 struct SideRead {
-    end: Item,
+    next: usize,
     set: VertexSet,
 }
 
 // A vertex of a side that must not be below least.
-fn read_side_vertex(s: &[u8], n: u16, removed: VertexSet, least: u16, at: usize) -> Item
+fn read_side_vertex(
+    s: &[u8],
+    n: u16,
+    removed: VertexSet,
+    least: u16,
+    at: usize,
+) -> Result<Item, Answer>
     ensures { result ≡ item_read (side_vertex n (has removed.words) least s.now at) }
 {
-    let x = paths::read_vertex(s, n, at);
-    let a = x.answer;
-    let Answer::Accepted = a else {
-        return x;
-    };
-    let v = x.value;
-    if v < least {
-        return Item::refused(20, at);
+    let x = paths::read_vertex(s, n, at)?;
+    if x.value < least {
+        return Err(Answer::CertificateFault(20, at));
     }
-    if removed.contains(v) {
-        return Item::refused(21, at);
+    if removed.contains(x.value) {
+        return Err(Answer::CertificateFault(21, at));
     }
-    x
+    Ok(x)
 }
 
-fn read_side_vertices(s: &[u8], n: u16, removed: VertexSet, count: u16, from: usize) -> SideRead
+fn read_side_vertices(
+    s: &[u8],
+    n: u16,
+    removed: VertexSet,
+    count: u16,
+    from: usize,
+) -> Result<SideRead, Answer>
     ensures { result ≡ runs (side_loop n (has removed.words)) count 0 empty_set s.now from }
 {
     let mut set = VertexSet::empty();
     let mut least: u16 = 0;
-    let mut at = from;
-    let mut left = count;
-    while 0 < left {
-        let x = read_side_vertex(s, n, removed, least, at);
-        let a = x.answer;
-        let Answer::Accepted = a else {
-            return SideRead {
-                end: x,
-                set: VertexSet::empty(),
-            };
-        };
+    let mut next = from;
+    for _ in 0..count {
+        let x = read_side_vertex(s, n, removed, least, next)?;
         set = set.insert(x.value);
         least = x.value + 1;
-        at = x.next;
-        left -= 1;
+        next = x.next;
     }
-    SideRead {
-        end: Item::taken(0, at),
-        set,
-    }
+    Ok(SideRead { next, set })
 }
 
 // No vertex of the rest is adjacent to u: the rest loses nothing by taking out u's row.
@@ -79,6 +74,7 @@ fn misses(rows: &[u64; GraphTable::ROW_WORDS], u: u16, rest: VertexSet) -> bool
 fn none_between(rows: &[u64; GraphTable::ROW_WORDS], side: VertexSet, rest: VertexSet) -> bool
     ensures { result ≡ none_between rows.now (has side.words) (has rest.words) }
 {
+    // one step for each member and word, as request 3 asks
     let mut walk = side.walk_from(0);
     while walk.going() {
         let here = walk;
@@ -116,21 +112,21 @@ fn tested_side(
     side: VertexSet,
     at: usize,
     next: usize,
-) -> Item
+) -> Result<usize, Answer>
     requires { (n ≤ capacity) × Low n side.words }
     ensures { result ≡ side_tested (rows_graph n rows.now) (has removed.words) (has side.words) at next }
 {
     if !holds_one(n, side) {
-        return Item::refused(22, at);
+        return Err(Answer::CertificateFault(22, at));
     }
     let rest = rest_of(n, removed, side);
     if !holds_one(n, rest) {
-        return Item::refused(22, at);
+        return Err(Answer::CertificateFault(22, at));
     }
     if !none_between(rows, side, rest) {
-        return Item::refused(23, at);
+        return Err(Answer::CertificateFault(23, at));
     }
-    Item::taken(0, next)
+    Ok(next)
 }
 
 // A side beside the removed vertices.
@@ -140,29 +136,24 @@ pub fn read_side(
     n: u16,
     removed: VertexSet,
     at: usize,
-) -> Item
+) -> Result<usize, Answer>
     ensures { result ≡ end_read (limited n (side (rows_graph n rows.now) (has removed.words)) s.now at) }
 {
     if VertexSet::CAPACITY < n {
-        return Item::refused(9, at);
+        return Err(Answer::CertificateFault(9, at));
     }
-    let count = paths::read_ranged(s, 0, n, at);
-    let a = count.answer;
-    let Answer::Accepted = a else {
-        return count;
-    };
-    let read = read_side_vertices(s, n, removed, count.value, count.next);
-    let end = read.end;
-    let b = end.answer;
-    let Answer::Accepted = b else {
-        return end;
-    };
-    let set = read.set;
-    tested_side(rows, n, removed, set, at, end.next)
+    let count = paths::read_ranged(s, 0, n, at)?;
+    let read = read_side_vertices(s, n, removed, count.value, count.next)?;
+    tested_side(rows, n, removed, read.set, at, read.next)
 }
 
 // Kind 0: a side, with no vertex removed.
-pub fn read_separation(s: &[u8], rows: &[u64; GraphTable::ROW_WORDS], n: u16, at: usize) -> Item
+pub fn read_separation(
+    s: &[u8],
+    rows: &[u64; GraphTable::ROW_WORDS],
+    n: u16,
+    at: usize,
+) -> Result<usize, Answer>
     ensures { result ≡ end_read (limited n (body (rows_graph n rows.now) 0) s.now at) }
 {
     read_side(s, rows, n, VertexSet::empty(), at)
@@ -175,29 +166,24 @@ fn read_pair(
     n: u16,
     named: VertexSet,
     at: usize,
-) -> Item
+) -> Result<Item, Answer>
     ensures { result ≡ pair_read (pair n (adjacent_in rows.now) (has named.words) s.now at) }
 {
-    let new = paths::read_vertex(s, n, at);
-    let a = new.answer;
-    let Answer::Accepted = a else {
-        return new;
-    };
-    let old = paths::read_vertex(s, n, new.next);
-    let b = old.answer;
-    let Answer::Accepted = b else {
-        return old;
-    };
-    if graph::adjacent(rows, new.value, old.value) {
-        if named.contains(old.value) {
-            if named.contains(new.value) {
-                return Item::refused(26, at);
-            }
-            return Item::taken(new.value, old.next);
-        }
-        return Item::refused(25, at);
+    let new = paths::read_vertex(s, n, at)?;
+    let old = paths::read_vertex(s, n, new.next)?;
+    if !graph::adjacent(rows, new.value, old.value) {
+        return Err(Answer::CertificateFault(24, at));
     }
-    Item::refused(24, at)
+    if !named.contains(old.value) {
+        return Err(Answer::CertificateFault(25, at));
+    }
+    if named.contains(new.value) {
+        return Err(Answer::CertificateFault(26, at));
+    }
+    Ok(Item {
+        value: new.value,
+        next: old.next,
+    })
 }
 
 // The pairs of a spanning tree that begins with first.
@@ -208,53 +194,34 @@ fn read_pairs(
     first: u16,
     count: u16,
     from: usize,
-) -> Item
+) -> Result<usize, Answer>
     requires { (n ≤ capacity) × (first < n) }
     ensures { result ≡ runs (pair_loop n (adjacent_in rows.now)) count (with nobody first) tt s.now from }
 {
     let mut named = VertexSet::empty().insert(first);
-    let mut at = from;
-    let mut left = count;
-    while 0 < left {
-        let x = read_pair(s, rows, n, named, at);
-        let a = x.answer;
-        let Answer::Accepted = a else {
-            return x;
-        };
+    let mut next = from;
+    for _ in 0..count {
+        let x = read_pair(s, rows, n, named, next)?;
         named = named.insert(x.value);
-        at = x.next;
-        left -= 1;
+        next = x.next;
     }
-    Item::taken(0, at)
+    Ok(next)
 }
 
 // Kind 1: a removed vertex, a spanning tree, and a side.
-pub fn read_tree(s: &[u8], rows: &[u64; GraphTable::ROW_WORDS], n: u16, at: usize) -> Item
+pub fn read_tree(
+    s: &[u8],
+    rows: &[u64; GraphTable::ROW_WORDS],
+    n: u16,
+    at: usize,
+) -> Result<usize, Answer>
     ensures { result ≡ end_read (limited n (body (rows_graph n rows.now) 1) s.now at) }
 {
     if VertexSet::CAPACITY < n {
-        return Item::refused(9, at);
+        return Err(Answer::CertificateFault(9, at));
     }
-    let removed = paths::read_vertex(s, n, at);
-    let a = removed.answer;
-    let Answer::Accepted = a else {
-        return removed;
-    };
-    let first = paths::read_vertex(s, n, removed.next);
-    let b = first.answer;
-    let Answer::Accepted = b else {
-        return first;
-    };
-    let pairs = read_pairs(s, rows, n, first.value, n - 1, first.next);
-    let c = pairs.answer;
-    let Answer::Accepted = c else {
-        return pairs;
-    };
-    read_side(
-        s,
-        rows,
-        n,
-        VertexSet::empty().insert(removed.value),
-        pairs.next,
-    )
+    let removed = paths::read_vertex(s, n, at)?;
+    let first = paths::read_vertex(s, n, removed.next)?;
+    let next = read_pairs(s, rows, n, first.value, n - 1, first.next)?;
+    read_side(s, rows, n, VertexSet::empty().insert(removed.value), next)
 }

@@ -5,7 +5,6 @@ use lib.ListN.{length, get_or}
 use mir.Val.{Fits}
 use mir.Syntax.{w64}
 use borrow.Author.Rules.{rules}
-use borrow.Author.Tests.{not-true, not-false}
 use Rattle.vertexset.specs.Set.{Words, has, word_count}
 use Rattle.vertexset.proofs.Walks.{walks_begin, walks_on, walks_less}
 use Rattle.sides.specs.Code.{misses_row}
@@ -23,7 +22,7 @@ pub returns-then-not-misses : goal.returns-then-not-misses
 returns-then-not-misses c = let a = c.args in
     met_all a.rows.now a.side.words (has a.rest.words) c.loop-side.invariant.0 c.loop-side.invariant.1 (sym c.going.ensures ∙ c.loop-side-test.true) c.step-walk.ensures
     (sym c.meets.ensures ∙ c.if-meets.true)
-    (ap (misses_row a.rows.now (has a.rest.words)) (sym c.member.ensures) ∙ sym c.misses.ensures ∙ not-true c.misses.result c.if-not-misses.true-raw)
+    (ap (misses_row a.rows.now (has a.rest.words)) (sym c.member.ensures) ∙ sym c.if-not-misses.ensures)
 
 pub loop-side-smaller-else-not-misses : goal.loop-side-smaller-else-not-misses
 loop-side-smaller-else-not-misses c = walks_less c.loop-side.invariant.0 (sym c.going.ensures ∙ c.loop-side-test.true) c.step-walk.ensures
@@ -32,7 +31,7 @@ pub loop-side-preserved-else-not-misses : goal.loop-side-preserved-else-not-miss
 loop-side-preserved-else-not-misses c = let a = c.args in
     let t = met_all a.rows.now a.side.words (has a.rest.words) c.loop-side.invariant.0 c.loop-side.invariant.1 (sym c.going.ensures ∙ c.loop-side-test.true) c.step-walk.ensures
     (sym c.meets.ensures ∙ c.if-meets.true)
-    (ap (misses_row a.rows.now (has a.rest.words)) (sym c.member.ensures) ∙ sym c.misses.ensures ∙ not-false c.misses.result c.if-not-misses.false-raw) in
+    (ap (misses_row a.rows.now (has a.rest.words)) (sym c.member.ensures) ∙ sym c.if-not-misses.ensures) in
     (walks_on c.loop-side.invariant.0 c.step-walk.ensures, t)
 
 pub loop-side-smaller : goal.loop-side-smaller

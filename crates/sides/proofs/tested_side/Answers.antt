@@ -1,7 +1,6 @@
 -- `sides::tested_side` meets its contract: the tests that led to a return pick the case. Assumes nothing.
 
-use mathlib.Core.Path.{refl, ◌∙◌, sym}
-use borrow.Author.Tests.{not-true, not-false}
+use mathlib.Core.Path.{refl, sym}
 use Rattle.vertexset.specs.Set.{has}
 use Rattle.graph.specs.Rows.{rows_graph}
 use Rattle.sides.proofs.Sets.{rest-low}
@@ -10,8 +9,7 @@ use Rattle.sides.proofs.tested_side.Goals as goal
 
 pub returns-then-not-holds_one : goal.returns-then-not-holds_one
 returns-then-not-holds_one c = let a = c.args in
-    c.refused.ensures
-    ∙ side-empty (rows_graph a.n a.rows.now) (has a.removed.words) (has a.side.words) a.at a.next (sym c.holds_one.ensures ∙ not-true _ c.if-not-holds_one.true-raw)
+    side-empty (rows_graph a.n a.rows.now) (has a.removed.words) (has a.side.words) a.at a.next (sym c.if-not-holds_one.ensures)
 
 pub holds_one-requires-2 : goal.holds_one-requires-2
 holds_one-requires-2 c = let a = c.args in
@@ -19,18 +17,15 @@ holds_one-requires-2 c = let a = c.args in
 
 pub returns-then-not-holds_one-2 : goal.returns-then-not-holds_one-2
 returns-then-not-holds_one-2 c = let a = c.args in
-    c.refused-then-not-holds_one-2.ensures
-    ∙ side-tests a.rows.now a.n c.requires.0 a.removed.words a.side.words c.rest_of-rest.result.words c.rest_of-rest.ensures c.requires.1 a.at a.next
-    (sym (not-false _ c.if-not-holds_one.false-raw) ∙ c.holds_one.ensures) (sym (not-true _ c.if-not-holds_one-2.true-raw) ∙ c.holds_one-2.ensures) refl
+    side-tests a.rows.now a.n c.requires.0 a.removed.words a.side.words c.rest_of-rest.result.words c.rest_of-rest.ensures c.requires.1 a.at a.next
+    c.if-not-holds_one.ensures c.if-not-holds_one-2.ensures refl
 
 pub returns-then-not-none_between : goal.returns-then-not-none_between
 returns-then-not-none_between c = let a = c.args in
-    c.refused-then-not-none_between.ensures
-    ∙ side-tests a.rows.now a.n c.requires.0 a.removed.words a.side.words c.rest_of-rest.result.words c.rest_of-rest.ensures c.requires.1 a.at a.next
-    (sym (not-false _ c.if-not-holds_one.false-raw) ∙ c.holds_one.ensures) (sym (not-false _ c.if-not-holds_one-2.false-raw) ∙ c.holds_one-2.ensures) (sym (not-true _ c.if-not-none_between.true-raw) ∙ c.none_between.ensures)
+    side-tests a.rows.now a.n c.requires.0 a.removed.words a.side.words c.rest_of-rest.result.words c.rest_of-rest.ensures c.requires.1 a.at a.next
+    c.if-not-holds_one.ensures c.if-not-holds_one-2.ensures c.if-not-none_between.ensures
 
 pub returns : goal.returns
 returns c = let a = c.args in
-    c.taken.ensures
-    ∙ side-tests a.rows.now a.n c.requires.0 a.removed.words a.side.words c.rest_of-rest.result.words c.rest_of-rest.ensures c.requires.1 a.at a.next
-    (sym (not-false _ c.if-not-holds_one.false-raw) ∙ c.holds_one.ensures) (sym (not-false _ c.if-not-holds_one-2.false-raw) ∙ c.holds_one-2.ensures) (sym (not-false _ c.if-not-none_between.false-raw) ∙ c.none_between.ensures)
+    side-tests a.rows.now a.n c.requires.0 a.removed.words a.side.words c.rest_of-rest.result.words c.rest_of-rest.ensures c.requires.1 a.at a.next
+    c.if-not-holds_one.ensures c.if-not-holds_one-2.ensures c.if-not-none_between.ensures
