@@ -6,6 +6,9 @@ use mathlib.Core.Path.{◌≡◌, refl, sym, ap, ◌∙◌}
 use native.Mathlib.Omega.{arith}
 use lib.Dec.{leb}
 use borrow.Author.Tests.{le-leb, lt-leb}
+use Rattle.std.specs.Prelude.{Result, Err}
+use Rattle.record.specs.declared.Answer.{Answer}
+use Rattle.record.specs.declared.Answer.TheVariants.{CertificateFault}
 use Rattle.record.specs.Read.{Read.Got, Read.Refused, Reader, ◌needs⟨◌⟩◌, ◌▸◌, many, counted, check, folded, within}
 use Rattle.record.specs.Number.{number}
 use Rattle.record.proofs.Loops.{needs_got, leads_bad, leads_got}
@@ -17,8 +20,7 @@ use Rattle.connectivity.specs.Graph.{Graph}
 use Rattle.connectivity.specs.Path.{Path}
 use Rattle.certificates.specs.Tests.{nobody, with, all_below, ear_taken}
 use Rattle.certificates.specs.Records.{vertex, ear, side, body}
-use Rattle.paths.specs.Items.{refused, end_read, limited}
-use Rattle.paths.specs.declared.Item.{Item}
+use Rattle.paths.specs.Items.{end_read, limited}
 use Rattle.paths.proofs.Told.{limited-in}
 use Rattle.paths.proofs.Ends.{end_into, end_stop, end_then, end_same, front_stop, front_then}
 use Rattle.ears.specs.Code.{all_ears}
@@ -55,32 +57,32 @@ module _ (g : Graph) (s : List ℕ) (at : ℕ) (low : g.n ≤ capacity) where
   pair_after : (c : ℕ) → Reader (ℕ × (List Path × (Unit {0} × List ℕ)))
   pair_after c = higher c ▸ ears_after c
 
-  whole : {x : Item} → x ≡ end_read ((vertex g.n ▸ pair_after) s at) → x ≡ end_read (limited g.n (body g 2) s at)
+  whole : {x : Result ℕ Answer} → x ≡ end_read ((vertex g.n ▸ pair_after) s at) → x ≡ end_read (limited g.n (body g 2) s at)
   unfolding pair_after
   whole e = e ∙ end_into _ (vertex g.n ▸ pair_after) s at ∙ ap end_read (sym (limited-in g.n at _ low))
 
-  pub ears-first : {q p : ℕ} → vertex g.n s at ≡ Refused q p → refused q p ≡ end_read (limited g.n (body g 2) s at)
+  pub ears-first : {q p : ℕ} → vertex g.n s at ≡ Refused q p → Err (CertificateFault q p) ≡ end_read (limited g.n (body g 2) s at)
   ears-first e = whole (end_stop (vertex g.n) pair_after e)
 
   module _ {c second : ℕ} (e : vertex g.n s at ≡ Got c second) where
-    pub ears-second : {q p : ℕ} → higher c s second ≡ Refused q p → refused q p ≡ end_read (limited g.n (body g 2) s at)
+    pub ears-second : {q p : ℕ} → higher c s second ≡ Refused q p → Err (CertificateFault q p) ≡ end_read (limited g.n (body g 2) s at)
     unfolding pair_after
     ears-second f = whole (end_stop (higher c) (ears_after c) f ∙ end_then (vertex g.n) pair_after e)
 
     module _ {d third : ℕ} (f : higher c s second ≡ Got d third) where
-      later : {x : Item} → x ≡ end_read (ears_after c d s third) → x ≡ end_read (limited g.n (body g 2) s at)
+      later : {x : Result ℕ Answer} → x ≡ end_read (ears_after c d s third) → x ≡ end_read (limited g.n (body g 2) s at)
       unfolding pair_after
       later k = whole (k ∙ end_then (higher c) (ears_after c) f ∙ end_then (vertex g.n) pair_after e)
 
-      pub ears-count : {q p : ℕ} → (number needs⟨ 9 ⟩ within 1 (g.n - 2)) s third ≡ Refused q p → refused q p ≡ end_read (limited g.n (body g 2) s at)
+      pub ears-count : {q p : ℕ} → (number needs⟨ 9 ⟩ within 1 (g.n - 2)) s third ≡ Refused q p → Err (CertificateFault q p) ≡ end_read (limited g.n (body g 2) s at)
       ears-count k = later (end_stop _ (λ all. all_vertices_in all ▸ side_after c d all) (leads_bad (number needs⟨ 9 ⟩ within 1 (g.n - 2)) _ k))
 
       module _ {k from : ℕ} (h : (number needs⟨ 9 ⟩ within 1 (g.n - 2)) s third ≡ Got k from) where
-        counted-on : {x : Item} → x ≡ end_read ((many (ear g) ear_taken k [] ▸ λ all. all_vertices_in all ▸ side_after c d all) s from)
+        counted-on : {x : Result ℕ Answer} → x ≡ end_read ((many (ear g) ear_taken k [] ▸ λ all. all_vertices_in all ▸ side_after c d all) s from)
             → x ≡ end_read (limited g.n (body g 2) s at)
         counted-on l = later (l ∙ end_same _ _ (λ all. all_vertices_in all ▸ side_after c d all) (leads_got (number needs⟨ 9 ⟩ within 1 (g.n - 2)) _ h))
 
-        pub ears-all : {q p : ℕ} → all_ears g k s from ≡ Refused q p → refused q p ≡ end_read (limited g.n (body g 2) s at)
+        pub ears-all : {q p : ℕ} → all_ears g k s from ≡ Refused q p → Err (CertificateFault q p) ≡ end_read (limited g.n (body g 2) s at)
         ears-all l = counted-on (front_stop _ all_vertices_in (side_after c d) s from l)
 
         pub ears-side : {removed : ℕ → Bool} {x : List Path × Unit {0}} {next : ℕ} → removed ≡ with (with nobody c) d → all_ears g k s from ≡ Got x next

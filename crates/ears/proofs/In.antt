@@ -7,7 +7,10 @@ use native.Mathlib.Omega.{arith}
 use lib.Dec.{eqb}
 use lib.ListN.{length}
 use borrow.Author.Tests.{eqb-true}
+use Rattle.std.specs.Prelude.{Result, Ok, Err}
 use Rattle.record.specs.Read.{Read, Read.Got, Read.Refused, on_read, ◌needs⟨◌⟩◌, ◌▸◌, many, check, folded}
+use Rattle.record.specs.declared.Answer.{Answer}
+use Rattle.record.specs.declared.Answer.TheVariants.{CertificateFault}
 use Rattle.record.specs.Loop.{Loop, runs, finish}
 use Rattle.record.proofs.Loops.{needs_true, many-same, many-kept}
 use Rattle.vertexset.specs.Set.{has, word_count, capacity}
@@ -18,21 +21,20 @@ use Rattle.connectivity.specs.Graph.{Graph}
 use Rattle.connectivity.specs.Path.{Path, vertices}
 use Rattle.certificates.specs.Tests.{all_below, begun, ear_along, ear_ends, ear_new, ear_taken}
 use Rattle.certificates.specs.Records.{path, ear}
-use Rattle.paths.specs.Items.{taken, refused, end_read}
+use Rattle.paths.specs.Items.{told, end_read}
 use Rattle.paths.proofs.Reading.{path-low}
 use Rattle.paths.proofs.Sets.{taken-length, taken-has}
 use Rattle.ears.specs.Code.{no_ears, ears_with, ear_beside, all_ears}
 use Rattle.ears.specs.declared.Ears.{Ears}
-use Rattle.paths.specs.declared.Item.{Item}
 
 -- the loop over the ears
-abbrev pub ear_loop : Graph → Loop Ears Path Ears Item
+abbrev pub ear_loop : Graph → Loop Ears Path Ears (Result ℕ Answer)
 ear_loop g = record {
   item = λ e. ear_beside g e.begun (has e.set.words);
   after = ears_with;
   step = ears_with;
-  ok = λ e next. cond (all_below g.n (has e.set.words)) (taken 0 next) (refused 28 next);
-  bad = refused;
+  ok = λ e next. cond (all_below g.n (has e.set.words)) (Ok next) (Err (CertificateFault 28 next));
+  bad = λ r p. Err (CertificateFault r p);
 }
 
 -- the same vertices are in, and whether there is an ear yet
@@ -97,7 +99,7 @@ same_taken g h B e r s at P next f =
 
 -- the loop gives what the ears give
 pub ears-begin : (g : Graph) → g.n ≤ capacity → (k : ℕ) (s : List ℕ) (from : ℕ) → runs (ear_loop g) k no_ears no_ears s from ≡ end_read (all_ears g k s from)
-unfolding runs ◌▸◌ check end_read
+unfolding runs ◌▸◌ check told
 ears-begin g h k s from =
     rw (← many-same Same (ear g) ear_taken (ear_loop g).item ears_with (same_ear g) (same_taken g h) k [] no_ears same_none s from)
     (go (many (ear g) ear_taken k [] s from) refl)
@@ -105,12 +107,12 @@ ears-begin g h k s from =
     tested : List Path → ℕ → Read (List Path × Unit {0})
     tested all mid = on_read (check 28 (all_below g.n (λ v. member v (folded ear_taken [] all))) s mid) (λ u next. Got (all, u) next)
 
-    pick : (b : Bool) (all : List Path) (mid : ℕ) → cond b (taken 0 mid) (refused 28 mid) ≡ end_read {A = List Path × Unit {0}} (on_read (cond b (Got tt mid) (Refused 28 mid)) (λ u next. Got (all, u) next))
+    pick : (b : Bool) (all : List Path) (mid : ℕ) → cond b (Ok mid) (Err (CertificateFault 28 mid)) ≡ end_read {A = List Path × Unit {0}} (on_read (cond b (Got tt mid) (Refused 28 mid)) (λ u next. Got (all, u) next))
     pick true all mid = refl
     pick false all mid = refl
 
-    go : (x : Read (List Path)) → many (ear g) ear_taken k [] s from ≡ x → finish ears_with (ear_loop g).ok refused no_ears x ≡ end_read (on_read x tested)
+    go : (x : Read (List Path)) → many (ear g) ear_taken k [] s from ≡ x → finish ears_with (ear_loop g).ok (ear_loop g).bad no_ears x ≡ end_read (on_read x tested)
     go (Got all next) m =
         let r = many-kept Same (ear g) ear_taken (ear_loop g).item ears_with (same_ear g) (same_taken g h) k [] no_ears same_none s from m in
-        ap (λ (f : ℕ → Bool). cond (all_below g.n f) (taken 0 next) (refused 28 next)) (sym (fun_ext r.in_both)) ∙ pick (all_below g.n (λ v. member v (folded ear_taken [] all))) all next
+        ap (λ (f : ℕ → Bool). cond (all_below g.n f) (Ok next) (Err (CertificateFault 28 next))) (sym (fun_ext r.in_both)) ∙ pick (all_below g.n (λ v. member v (folded ear_taken [] all))) all next
     go (Refused q p) m = refl

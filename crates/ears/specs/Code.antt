@@ -1,6 +1,7 @@
 -- What the private functions give.
-use Rattle.std.specs.Prelude.{ℕ, List, [], Bool, true, false, cond, ◌&&◌, ◌||◌, not}
-use Rattle.record.specs.Read.{Read, Read.Got, Read.Refused, Reader, ◌needs⟨◌⟩◌, ◌▸◌, many, check, folded}
+use Rattle.std.specs.Prelude.{ℕ, List, [], Bool, true, false, cond, ◌&&◌, ◌||◌, not, Option, Some, None, Result}
+use Rattle.record.specs.Read.{Read, Reader, ◌needs⟨◌⟩◌, ◌▸◌, many, check, folded}
+use Rattle.record.specs.declared.Answer.{Answer}
 use Rattle.vertexset.specs.Set.{has, empty_set, inserted}
 use Rattle.connectivity.specs.Lists.{member}
 use Rattle.connectivity.specs.Graph.{Graph}
@@ -8,7 +9,7 @@ use Rattle.connectivity.specs.Path.{Path, vertices}
 use Rattle.certificates.specs.Tests.{all_below, path_along, path_new, ear_taken}
 use Rattle.certificates.specs.Records.{path, ear}
 use Rattle.paths.specs.declared.PathRead.{PathRead}
-use Rattle.paths.specs.Items.{taken, refused}
+use Rattle.paths.specs.Items.{told}
 use Rattle.ears.specs.declared.Ears.{Ears}
 use Rattle.ears.specs.declared.EarRead.{EarRead}
 
@@ -19,15 +20,14 @@ no_ears = record { set = empty_set; begun = false }
 abbrev pub ears_with : Ears → Path → Ears
 ears_with e P = record { set = folded inserted e.set (vertices P); begun = true }
 
-unfoldable pub ear_read : Ears → Read Path → EarRead
-ear_read e (Got P next) = record { end = taken 0 next; ears = ears_with e P }
-ear_read e (Refused r p) = record { end = refused r p; ears = e }
+abbrev pub ear_read : Ears → Read Path → Result EarRead Answer
+ear_read e R = told (λ P next. record { next = next; ears = ears_with e P }) R
 
--- document 01's number for an ear, from what is known of its path; 0 where it is in order
-abbrev pub ear_fault : (ℕ → ℕ → Bool) → Ears → PathRead → ℕ
+-- document 01's number for an ear that is out of order, from what is known of its path
+abbrev pub ear_fault : (ℕ → ℕ → Bool) → Ears → PathRead → Option ℕ
 ear_fault adj e p =
     cond (p.along && (e.begun || adj p.last p.first))
-    (cond (not e.begun || (has e.set.words p.first && has e.set.words p.last)) (cond p.new 0 26) 25) 24
+    (cond (not e.begun || (has e.set.words p.first && has e.set.words p.last)) (cond p.new None (Some 26)) (Some 25)) (Some 24)
 
 -- an ear, beside a test in place of a list of the vertices that are in
 unfoldable pub ear_beside : Graph → Bool → (ℕ → Bool) → Reader Path

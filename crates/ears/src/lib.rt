@@ -9,7 +9,7 @@ ghost use Rattle.paths.specs.Items.{end_read, limited};
 ghost use Rattle.ears.specs.Code.{no_ears, ear_read, ear_fault, ear_beside, all_ears};
 
 use graph::GraphTable;
-use paths::{Item, PathRead};
+use paths::PathRead;
 use record::Answer;
 use vertexset::VertexSet;
 
@@ -20,10 +20,10 @@ struct Ears {
     begun: bool,
 }
 
-// Where reading goes on after an ear (or its fault), and the ears with it.
+// The ears with one more, and where reading goes on after it.
 #[derive(Clone, Copy)]
 struct EarRead {
-    end: Item,
+    next: usize,
     ears: Ears,
 }
 
@@ -37,51 +37,48 @@ impl Ears {
         }
     }
 
-    // Document 01's number for an ear that was read whole, or 0.
-    fn fault(self, rows: &[u64; GraphTable::ROW_WORDS], p: PathRead) -> u8
+    // Document 01's number for an ear that was read whole and is out of order.
+    fn fault(self, rows: &[u64; GraphTable::ROW_WORDS], p: PathRead) -> Option<u8>
         ensures { result ≡ ear_fault (adjacent_in rows.now) self p }
     {
-        let set = self.set;
-        let begun = self.begun;
-        let along = p.along & (begun | graph::adjacent(rows, p.last, p.first));
-        let ends = !begun | (set.contains(p.first) & set.contains(p.last));
+        let along = p.along & (self.begun | graph::adjacent(rows, p.last, p.first));
+        let ends = !self.begun | (self.set.contains(p.first) & self.set.contains(p.last));
         if !along {
-            return 24;
+            return Some(24);
         }
         if !ends {
-            return 25;
+            return Some(25);
         }
         if !p.new {
-            return 26;
+            return Some(26);
         }
-        0
+        None
     }
 }
 
 // One ear beside those before it. Its vertices are read again where it is taken in, so that no list of them is kept.
-fn read_ear(s: &[u8], rows: &[u64; GraphTable::ROW_WORDS], n: u16, ears: Ears, at: usize) -> EarRead
+fn read_ear(
+    s: &[u8],
+    rows: &[u64; GraphTable::ROW_WORDS],
+    n: u16,
+    ears: Ears,
+    at: usize,
+) -> Result<EarRead, Answer>
     requires { n ≤ capacity }
     ensures { result ≡ ear_read ears (ear_beside (rows_graph n rows.now) ears.begun (has ears.set.words) s.now at) }
 {
-    let set = ears.set;
-    let p = paths::read_ear_path(s, rows, n, set, at);
-    let end = p.end;
-    let a = end.answer;
-    let Answer::Accepted = a else {
-        return EarRead { end, ears };
-    };
-    let r = ears.fault(rows, p);
-    if 0 < r {
-        return EarRead {
-            end: Item::refused(r, at),
-            ears,
-        };
+    let p = paths::read_ear_path(s, rows, n, ears.set, at)?;
+    if let Some(r) = ears.fault(rows, p) {
+        return Err(Answer::CertificateFault(r, at));
     }
     let grown = Ears {
-        set: paths::with_path(s, n, at, set),
+        set: paths::with_path(s, n, at, ears.set),
         begun: true,
     };
-    EarRead { end, ears: grown }
+    Ok(EarRead {
+        next: p.next,
+        ears: grown,
+    })
 }
 
 // As many ears as are counted, and then every vertex is in.
@@ -91,61 +88,42 @@ fn read_all_ears(
     n: u16,
     count: u16,
     from: usize,
-) -> Item
+) -> Result<usize, Answer>
     requires { n ≤ capacity }
     ensures { result ≡ end_read (all_ears (rows_graph n rows.now) count s.now from) }
 {
     let mut ears = Ears::none();
-    let mut at = from;
-    let mut left = count;
-    while 0 < left {
-        let r = read_ear(s, rows, n, ears, at);
-        let end = r.end;
-        let a = end.answer;
-        let Answer::Accepted = a else {
-            return end;
-        };
-        ears = r.ears;
-        at = end.next;
-        left -= 1;
+    let mut next = from;
+    for _ in 0..count {
+        let x = read_ear(s, rows, n, ears, next)?;
+        ears = x.ears;
+        next = x.next;
     }
-    let set = ears.set;
-    if paths::all_below(set, n) {
-        return Item::taken(0, at);
+    if !paths::all_below(ears.set, n) {
+        return Err(Answer::CertificateFault(28, next));
     }
-    Item::refused(28, at)
+    Ok(next)
 }
 
 // Kind 2: a removed pair, ears that take in every vertex, and a side.
-pub fn read_ears(s: &[u8], rows: &[u64; GraphTable::ROW_WORDS], n: u16, at: usize) -> Item
+pub fn read_ears(
+    s: &[u8],
+    rows: &[u64; GraphTable::ROW_WORDS],
+    n: u16,
+    at: usize,
+) -> Result<usize, Answer>
     ensures { result ≡ end_read (limited n (body (rows_graph n rows.now) 2) s.now at) }
 {
     if VertexSet::CAPACITY < n {
-        return Item::refused(9, at);
+        return Err(Answer::CertificateFault(9, at));
     }
-    let first = paths::read_vertex(s, n, at);
-    let a = first.answer;
-    let Answer::Accepted = a else {
-        return first;
-    };
-    let second = paths::read_vertex(s, n, first.next);
-    let b = second.answer;
-    let Answer::Accepted = b else {
-        return second;
-    };
+    let first = paths::read_vertex(s, n, at)?;
+    let second = paths::read_vertex(s, n, first.next)?;
     if second.value <= first.value {
-        return Item::refused(20, first.next);
+        return Err(Answer::CertificateFault(20, first.next));
     }
-    let count = paths::read_ranged(s, 1, n - 2, second.next);
-    let c = count.answer;
-    let Answer::Accepted = c else {
-        return count;
-    };
-    let ears = read_all_ears(s, rows, n, count.value, count.next);
-    let d = ears.answer;
-    let Answer::Accepted = d else {
-        return ears;
-    };
+    let count = paths::read_ranged(s, 1, n - 2, second.next)?;
+    let next = read_all_ears(s, rows, n, count.value, count.next)?;
     let removed = VertexSet::empty().insert(first.value).insert(second.value);
-    sides::read_side(s, rows, n, removed, ears.next)
+    sides::read_side(s, rows, n, removed, next)
 }

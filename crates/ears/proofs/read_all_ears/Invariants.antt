@@ -1,3 +1,4 @@
+use Prim.Native.Nat.{◌-◌}
 use mathlib.Core.Path.{◌≡◌}
 use Rattle.record.specs.Loop.{runs}
 use Rattle.paths.specs.Items.{end_read}
@@ -6,8 +7,5 @@ use Rattle.ears.specs.Code.{all_ears}
 use Rattle.ears.proofs.In.{ear_loop}
 use Rattle.ears.proofs.read_all_ears.Given as goal
 
-abbrev pub invariant-loop-left : goal.invariant-loop-left
-invariant-loop-left l = runs (ear_loop (rows_graph l.n l.rows)) l.left l.ears l.ears l.s l.at ≡ end_read (all_ears (rows_graph l.n l.rows) l.count l.s l.from)
-
-abbrev pub decreases-loop-left : goal.decreases-loop-left
-decreases-loop-left l = l.left
+abbrev pub invariant-loop : goal.invariant-loop
+invariant-loop l = runs (ear_loop (rows_graph l.n l.rows)) (l.count - l.counter) l.ears l.ears l.s l.next ≡ end_read (all_ears (rows_graph l.n l.rows) l.count l.s l.from)
