@@ -34,16 +34,8 @@ fn withstands(
         return true;
     }
     let path = search::route(&space, r);
-    let vertices = path.vertices;
-    let count = path.count;
-    let mut i = 0;
-    while i < count {
-        let c = search::entry(&vertices, 0, count, i);
-        i += 1;
-        if c == u {
-            continue;
-        }
-        if c == v {
+    for &c in path.as_slice() {
+        if c == u || c == v {
             continue;
         }
         if !withstands(rows, u, v, removed.insert(c), k - 1) {

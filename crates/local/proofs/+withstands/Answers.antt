@@ -2,7 +2,7 @@
 use Rattle.std.proofs.Common.{◌≡◌, ℕ, ◌-◌, ◌∙◌, length}
 use lib.ListN.{replicate, length-replicate}
 use Rattle.search.specs.Code.{search_space}
-use Rattle.local.proofs.Trying.{tried-u, tried-v, tried_other, try_first, try_on, try_fails, try_end, closed_off, found-last}
+use Rattle.local.proofs.Trying.{tried_other, try_first, try_on, try_fails, try_end, closed_off, found-last}
 use Rattle.local.proofs.+withstands.Goals as goal
 
 zeros-long : length {A = ℕ} (replicate search_space 0) ≡ search_space
@@ -19,34 +19,23 @@ returns-then-k-eq0 t c =
     found-last (replicate search_space 0) zeros-long a.rows.now a.u a.v a.removed _ _ c.single.ensures c.single-2.ensures c.explore-r.ensures.value a.k
     c.if-r-ge-CAPACITY.false c.if-k-eq0.true
 
-pub loop-i-init : goal.loop-i-init
-loop-i-init t c =
+pub loop-c-init : goal.loop-c-init
+loop-c-init t c =
     let a = c.args in
     try_first (replicate search_space 0) zeros-long a.rows.now a.u a.v a.removed _ _ c.single.ensures c.single-2.ensures c.explore-r.ensures.value a.k
-    c.if-r-ge-CAPACITY.false c.if-k-eq0.false c.explore-r.ensures.space_after c.route-path.ensures
-
-pub loop-i-preserved-then-c-u : goal.loop-i-preserved-then-c-u
-loop-i-preserved-then-c-u t c =
-    let a = c.args in
-    try_on c.loop-i.invariant c.loop-i-test.true c.entry-c.ensures (tried-u (a.k - 1) a.rows.now a.u a.v a.removed c.entry-c.result c.if-c-u.true)
-
-pub loop-i-preserved-then-c-v : goal.loop-i-preserved-then-c-v
-loop-i-preserved-then-c-v t c =
-    let a = c.args in
-    try_on c.loop-i.invariant c.loop-i-test.true c.entry-c.ensures
-    (tried-v (a.k - 1) a.rows.now a.u a.v a.removed c.entry-c.result c.if-c-u.false c.if-c-v.true)
+    c.if-r-ge-CAPACITY.false c.if-k-eq0.false c.explore-r.ensures.space_after (c.as_slice-c-items.ensures.value ∙ c.route-path.ensures)
 
 pub returns-then-not-withstands : goal.returns-then-not-withstands
 returns-then-not-withstands t c =
     let a = c.args in
-    try_fails c.loop-i.invariant c.loop-i-test.true c.entry-c.ensures
-    (tried_other (a.k - 1) a.rows.now a.u a.v a.removed c.entry-c.result c.if-c-u.false c.if-c-v.false c.insert.ensures c.withstands.ensures ∙ c.if-not-withstands.true)
+    try_fails c.loop-c.invariant c.loop-c-test.true
+    (tried_other (a.k - 1) a.rows.now a.u a.v a.removed _ c.if-c-u.false c.if-c-v.false c.insert.ensures c.withstands.ensures ∙ c.if-not-withstands.true)
 
-pub loop-i-preserved : goal.loop-i-preserved
-loop-i-preserved t c =
+pub loop-c-preserved : goal.loop-c-preserved
+loop-c-preserved t c =
     let a = c.args in
-    try_on c.loop-i.invariant c.loop-i-test.true c.entry-c.ensures
-    (tried_other (a.k - 1) a.rows.now a.u a.v a.removed c.entry-c.result c.if-c-u.false c.if-c-v.false c.insert.ensures c.withstands.ensures ∙ c.if-not-withstands.false)
+    try_on c.loop-c.invariant c.loop-c-test.true
+    (tried_other (a.k - 1) a.rows.now a.u a.v a.removed _ c.if-c-u.false c.if-c-v.false c.insert.ensures c.withstands.ensures ∙ c.if-not-withstands.false)
 
 pub returns : goal.returns
-returns t c = try_end c.loop-i.invariant c.loop-i-test.false
+returns t c = try_end c.loop-c.invariant c.loop-c-test.false
