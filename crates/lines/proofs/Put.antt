@@ -1,13 +1,12 @@
 -- Bytes put into a buffer, one after the other. Assumes nothing.
-use Prim.Native.Nat.{ℕ, ◌+◌, ◌≤◌, ◌<◌}
+use Prim.Native.Nat.{ℕ, ◌+◌, ◌≤◌}
 use mathlib.Core.List.{List, [], ◌++◌, append_assoc}
 use mathlib.Core.Bool.{Bool, true, false}
-use mathlib.Core.Path.{◌≡◌, refl, sym, ap, subst, ◌∙◌}
-use native.Mathlib.Numerals.{add-one}
+use mathlib.Core.Path.{◌≡◌, refl, sym, ap, ◌∙◌}
 use native.Mathlib.Omega.{arith}
-use lib.ListN.{length, take, drop, get_or, set, length-append, length-set}
-use lib.Seq.{paste, paste-zero, paste-suc, take-length, length-take-le, take_at}
-use borrow.Author.Tests.{le-leb, lt-leb, leb-true}
+use lib.ListN.{length, take, drop, length-append}
+use lib.Seq.{length-take-le, take_at}
+use borrow.Author.Tests.{le-leb, leb-true}
 use Rattle.io.specs.Counts.{IsPrefixLen}
 use Rattle.record.specs.Write.{overwritten, has_room}
 use Rattle.record.proofs.Write.{overwritten-none, overwritten-length, both_room, both_put}
@@ -17,34 +16,10 @@ use Rattle.lines.specs.Lines.{place_after, written, longest}
 abbrev pub Put : List ℕ → ℕ → List ℕ → ℕ → List ℕ → Type 0
 Put buffer at bytes next out = (next ≡ place_after buffer at bytes) × (out ≡ written buffer at bytes)
 
--- after i bytes
-pub record Pasting (first : List ℕ) (at : ℕ) (bytes out : List ℕ) (i : ℕ) : Type 0 where
-  pub few : i ≤ length bytes
-  pub long : length out ≡ length first
-  pub so_far : out ≡ paste first at bytes i
-
 module _ (buffer : List ℕ) (at : ℕ) (bytes : List ℕ) where
-  pub unput : length buffer < at + length bytes → Put buffer at bytes at buffer
-  unput h = let e : has_room buffer at bytes ≡ false = lt-leb (at + length bytes) (length buffer) h in (rw e, rw e)
-
   module _ (h : at + length bytes ≤ length buffer) where
     room : has_room buffer at bytes ≡ true
     room = le-leb (at + length bytes) (length buffer) h
-
-    pub paste_start : Pasting buffer at bytes buffer 0
-    paste_start = record { few = omega arith; long = refl; so_far = paste-zero buffer at bytes }
-
-    module _ {out : List ℕ} {i : ℕ} (p : Pasting buffer at bytes out i) where
-      pub paste_next : i < length bytes → Pasting buffer at bytes (set out (at + i) (get_or bytes i 0)) (i + 1)
-      paste_next l =
-          record {
-            few = omega (arith, l);
-            long = length-set out (at + i) (get_or bytes i 0) ∙ p.long;
-            so_far = rw (add-one i, p.so_far) (paste-suc buffer at bytes i 0 (omega (arith, l, h)) l);
-          }
-
-      pub paste_end : length bytes ≤ i → Put buffer at bytes (at + length bytes) out
-      paste_end l = let e : i ≡ length bytes = omega (arith, l, p.few) in (rw room, p.so_far ∙ rw e (rw (room, take-length bytes)))
 
     pub put_told : {next : ℕ} {out : List ℕ} → Put buffer at bytes next out → (next ≡ at + length bytes) × (out ≡ overwritten buffer at bytes)
     put_told p = (p.0 ∙ rw room, p.1 ∙ rw room)
@@ -100,9 +75,6 @@ Lined buffer at line next out = (next ≡ place_after buffer at line) × ((out �
 module _ (buffer : List ℕ) (at : ℕ) {next : ℕ} {out : List ℕ} where
   pub lined : (line : List ℕ) → Put buffer at line next out → length line ≤ longest → Lined buffer at line next out
   lined line p l = (p.0, (p.1, l))
-
-  pub lined_as : {xs ys : List ℕ} → xs ≡ ys → Lined buffer at xs next out → Lined buffer at ys next out
-  lined_as e p = subst (λ (line : List ℕ). Lined buffer at line next out) e p
 
 -- a text put piece by piece
 pub data Puts (buffer : List ℕ) (at : ℕ) : List ℕ → ℕ → List ℕ → Type 0 where

@@ -61,6 +61,10 @@ size_text n m = boxes_text ++ decimal n ++ cables_text ++ decimal m
 abbrev pub input_limit : ℕ
 input_limit = 4096
 
+-- what is printed for an input that may be too long, where f is what is printed for one that is not
+abbrev pub limited : (List ℕ → List ℕ) → List ℕ → List ℕ
+limited f s = cond (ltb input_limit (length s)) too_long_line (f s)
+
 -- a buffer that has room for every line
 abbrev pub longest : ℕ
 longest = 48

@@ -1,8 +1,8 @@
 // The line of a refusal, and what lines are made of: bytes, decimal numbers and a plan's size, written into a lent buffer.
 #![tactic(auto)]
 
-ghost use Rattle.std.specs.Prelude.{◌≡◌, ◌++◌, ◌≤◌, length};
-ghost use Rattle.lines.specs.Lines.{decimal, fault_line, refusal_line, size_text, place_after, written, longest};
+ghost use Rattle.std.specs.Prelude.{◌≡◌, ℕ, ◌^◌, ◌<◌, List, ◌++◌, ◌≤◌, length};
+ghost use Rattle.lines.specs.Lines.{decimal, fault_line, refusal_line, size_text, too_long_line, limited, place_after, written, longest};
 
 use record::Answer;
 
@@ -17,18 +17,12 @@ pub fn put_bytes<'a>(out: &'a mut [u8], at: usize, bytes: &'a [u8]) -> usize
     ensures value { result ≡ place_after out.old at bytes.now }
     ensures out_after { out.new ≡ written out.old at bytes.now }
 {
-    if out.len() < bytes.len() {
+    if out.len() < bytes.len() || out.len() - bytes.len() < at {
         return at;
     }
-    if out.len() - bytes.len() < at {
-        return at;
-    }
-    let mut i = 0;
-    while i < bytes.len() {
-        out[at + i] = bytes[i];
-        i += 1;
-    }
-    at + bytes.len()
+    let end = at + bytes.len();
+    out[at..end].copy_from_slice(bytes);
+    end
 }
 
 // Both, one behind the other, or neither.
@@ -36,13 +30,10 @@ pub fn put_both<'a>(out: &'a mut [u8], at: usize, first: &'a [u8], second: &'a [
     ensures value { result ≡ place_after out.old at (first.now ++ second.now) }
     ensures out_after { out.new ≡ written out.old at (first.now ++ second.now) }
 {
-    if out.len() < first.len() {
-        return at;
-    }
-    if out.len() - first.len() < second.len() {
-        return at;
-    }
-    if out.len() - first.len() - second.len() < at {
+    if out.len() < first.len()
+        || out.len() - first.len() < second.len()
+        || out.len() - first.len() - second.len() < at
+    {
         return at;
     }
     let next = put_bytes(out, at, first);
@@ -100,8 +91,7 @@ pub fn put_refusal(out: &mut [u8], at: usize, answer: Answer) -> usize
     ensures answer_len_bound { length (refusal_line answer) ≤ longest }
 {
     match answer {
-        Answer::Accepted => at,
-        Answer::Grade(_) => at,
+        Answer::Accepted | Answer::Grade(_) => at,
         Answer::PlanFault(number, place) => put_fault(out, at, b"plan", number, place),
         Answer::CertificateFault(number, place) => put_fault(
             out,
@@ -110,5 +100,32 @@ pub fn put_refusal(out: &mut [u8], at: usize, answer: Answer) -> usize
             number,
             place,
         ),
+    }
+}
+
+// What a program prints for its input, in ROOM bytes at most: `text` where the input is within the limit, else the line that says so.
+pub trait Printer<const ROOM: usize> {
+    ghost text: { List ℕ → List ℕ };
+
+    // Writes the text at the start of the buffer and answers its length; where it has no room, nothing is written, and the answer is 0.
+    fn put_text<'a>(input: &'a [u8], out: &'a mut [u8]) -> usize
+        ensures value { result ≡ place_after out.old 0 (text input.now) }
+        ensures out_after { out.new ≡ written out.old 0 (text input.now) }
+        ensures input_len_bound { length (text input.now) ≤ ROOM };
+
+    // The line of a long input has room, and so many bytes can be lent.
+    ghost room: { (length too_long_line ≤ ROOM) × (ROOM < 2 ^ 63) };
+
+    final fn print<'a>(input: &'a [u8], out: &'a mut [u8]) -> usize
+    where
+        Self: Sized,
+        ensures value { result ≡ place_after out.old 0 (limited text input.now) }
+        ensures out_after { out.new ≡ written out.old 0 (limited text input.now) }
+        ensures input_len_bound { length (limited text input.now) ≤ ROOM }
+    {
+        if LIMIT < input.len() {
+            return put_bytes(out, 0, b"input too long\n");
+        }
+        Self::put_text(input, out)
     }
 }
