@@ -1,10 +1,11 @@
 -- The build on a start's paths: its first state, and what the steps and the edges leave. Assumes nothing.
-use Prim.Native.Nat.{ℕ, ◌+◌, ◌≤◌}
+use Prim.Native.Nat.{ℕ, ◌+◌}
 use mathlib.Core.Path.{◌≡◌, refl, sym, ap, subst, ◌∙◌}
 use mathlib.Core.Bool.{Bool, true, false, cond}
 use mathlib.Core.List.{List, []}
 use native.Mathlib.Omega.{arith}
 use lib.ListN.{length, take, replicate}
+use lib.Seq.{length-take-le}
 use Rattle.vertexset.specs.Set.{empty_set}
 use Rattle.vertexset.specs.declared.VertexSet.{VertexSet}
 use Rattle.graph.specs.Limits.{max_edges}
@@ -16,7 +17,6 @@ use Rattle.construction.specs.Steps.{State, steps, first_state, build, finish}
 use Rattle.construction.proofs.Near.{near-set}
 use Rattle.detours.specs.Code.{cut_of, cut_in, FlatShows}
 use Rattle.detours.specs.declared.Cut.{Cut}
-use Rattle.detours.proofs.Kept.{front, front_take}
 use Rattle.detours.proofs.Filled.{Filled, filled_length, filled_take, filled_added, filled_none, flat_kept}
 use Rattle.stepping.specs.Code.{Shows, Holds, state_in, built_of, finished_of}
 use Rattle.stepping.specs.declared.Built.{Built}
@@ -33,19 +33,19 @@ module _ (list : List ℕ) {flat : List ℕ} {len : ℕ} (o : flat ≡ placed (r
   put : Filled path_space flat len (added path_space [] list)
   put = filled_added (filled_none path_space) list o e
 
-  pub put_fits : len ≤ length flat
-  put_fits = let f = put in omega (arith, f.size, f.short, filled_length f)
+  pub put_fits : len ≡ length (take len flat)
+  put_fits = let f = put in sym (length-take-le len flat (omega (arith, f.size, f.short, filled_length f)))
 
-  module _ (rows : List ℕ) (full four : VertexSet) {bare built bare2 n : VertexSet} {none : Cut} (z : bare ≡ empty_set) (w : built ≡ set_with_all bare (front flat len))
-      (y : bare2 ≡ empty_set) (m : n ≡ near_all rows bare2 (front flat len)) (c : none ≡ cut_of no_cut) where
+  module _ (rows : List ℕ) (full four : VertexSet) {bare built bare2 n : VertexSet} {none : Cut} (z : bare ≡ empty_set) (w : built ≡ set_with_all bare (take len flat))
+      (y : bare2 ≡ empty_set) (m : n ≡ near_all rows bare2 (take len flat)) (c : none ≡ cut_of no_cut) where
     pub first_holds : Holds rows flat (progress_on four built n len 0 none)
     first_holds = record {
       kept = flat_kept put;
-      same_near = m ∙ ap (λ (s : VertexSet). near_all rows s (front flat len)) y ∙ sym (near-set rows (front flat len)) ∙ ap (near rows) (sym (w ∙ ap (λ (s : VertexSet). set_with_all s (front flat len)) z));
+      same_near = m ∙ ap (λ (s : VertexSet). near_all rows s (take len flat)) y ∙ sym (near-set rows (take len flat)) ∙ ap (near rows) (sym (w ∙ ap (λ (s : VertexSet). set_with_all s (take len flat)) z));
     }
 
     first_is : state_in flat (progress_on four built n len 0 none) ≡ first_state (begun four (added path_space [] list))
-    first_is = rw (w, z, c, front_take flat len, filled_take put)
+    first_is = rw (w, z, c, filled_take put)
 
     pub build-shows : {out : List ℕ} {b : Progress} → Shows rows out b (steps rows full (max_edges + 1) (state_in flat (progress_on four built n len 0 none)))
         → Shows rows out b (build rows full (begun four (added path_space [] list)))

@@ -12,16 +12,17 @@ use Rattle.construction.specs.Steps.{pair_place}
 use Rattle.stepping.specs.Code.{has_pair}
 use Rattle.stepping.proofs.Lists.{two_are}
 
-module _ (x y : ℕ) (l : List ℕ) (i : ℕ) where
-  pub has-turn : i + 1 < length l → has_pair x y (drop i l) ≡ (two_are x y (get_or l i 0) (get_or l (i + 1) 0) || has_pair x y (drop (i + 1) l))
+-- at the place i, and at the place j before it
+module _ (x y : ℕ) (l : List ℕ) (j i : ℕ) (next : i ≡ j + 1) where
+  pub has-turn : i < length l → has_pair x y (drop j l) ≡ (two_are x y (get_or l j 0) (get_or l i 0) || has_pair x y (drop i l))
   unfolding has_pair
   has-turn h =
-      let a : i < length l = omega arith in
-      rw (drop_next l i a, drop_next l (i + 1) h)
+      let a : j < length l = omega arith in
+      rw (drop_next l j a, ← next, drop_next l i h)
 
-  pub has_end : length l ≤ i + 1 → has_pair x y (drop i l) ≡ false
+  pub has_end : length l ≤ i → has_pair x y (drop j l) ≡ false
   unfolding has_pair
-  has_end h = go (drop i l) (omega (arith, length-drop i l))
+  has_end h = go (drop j l) (omega (arith, length-drop j l))
     where
       go : (k : List ℕ) → length k ≤ 1 → has_pair x y k ≡ false
       go [] h = refl
@@ -33,7 +34,7 @@ both_false false b e = (refl, e)
 both_false true b e = absurd (clash refl e)
 
 -- places without the pair are passed over
-pub pair-skip : (x y k : ℕ) (l : List ℕ) → k < length l → has_pair x y (take (suc k) l) ≡ false → k + pair_place x y (drop k l) ≡ pair_place x y l
+pair-skip : (x y k : ℕ) (l : List ℕ) → k < length l → has_pair x y (take (suc k) l) ≡ false → k + pair_place x y (drop k l) ≡ pair_place x y l
 unfolding has_pair pair_place
 pair-skip x y zero l h e = omega arith
 pair-skip x y (suc k) [] h e = absurd (omega arith)

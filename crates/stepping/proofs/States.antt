@@ -1,4 +1,5 @@
 -- Lists of paths at the front of the array, and what a step makes of them. Assumes nothing.
+use Rattle.std.specs.List.{copy_within}
 use Prim.Native.Nat.{ℕ, ◌+◌, ◌-◌, ◌≤◌, ◌<◌}
 use mathlib.Core.Path.{◌≡◌, refl, sym, ap, ◌∙◌}
 use mathlib.Core.Bool.{Bool, true, false, cond}
@@ -22,7 +23,6 @@ use Rattle.detours.specs.declared.Cut.{Cut}
 use Rattle.detours.proofs.Kept.{taken-short, kept_size, flat_take, flat_kept, add_kept, add_kept_end, add_kept_short}
 use Rattle.stepping.specs.Code.{Shows, Holds, state_in, put_between, put_between_end}
 use Rattle.stepping.specs.declared.Progress.{Progress}
-use Rattle.stepping.proofs.Lists.{moved}
 
 module _ (rows items : List ℕ) (b : Progress) (st : State) (s : Shows rows items b st) where
   pub shows_holds : Holds rows items b
@@ -44,27 +44,37 @@ module _ (items : List ℕ) (len k : ℕ) (new : List ℕ) where
   between-end h = rw (le-leb (len + length new) (length items) h)
 
   module _ (low : k ≤ len) (room : len + length new ≤ length items) where
+    -- the numbers from k on have moved up
+    abbrev moved : List ℕ
+    moved = take (k + length new) items ++ (take (len - k) (drop k items) ++ drop (len + length new) items)
+
+    moved_is : copy_within items k len (k + length new) ≡ moved
+    moved_is =
+        let z : k + length new + (len - k) ≡ len + length new = omega arith in
+        append_assoc (take (k + length new) items) (take (len - k) (drop k items)) (drop (k + length new + (len - k)) items) ∙ rw z
+
     front : length (take (k + length new) items) ≡ k + length new
     front = length-take-le (k + length new) items (omega arith)
 
-    moved_length : length (moved items len (length new) k) ≡ length items
+    moved_length : length moved ≡ length items
     moved_length =
         omega (arith, front, length-append (take (k + length new) items) (take (len - k) (drop k items) ++ drop (len + length new) items), length-append (take (len - k) (drop k items)) (drop (len + length new) items), length-take-le (len - k) (drop k items) (omega (arith, length-drop k items)), length-drop (len + length new) items)
 
-    moved_front : take k (moved items len (length new) k) ≡ take k items
+    moved_front : take k moved ≡ take k items
     moved_front =
         let h : k ≤ length (take (k + length new) items) = omega (arith, front) in
         let i : k ≤ k + length new = omega arith in
         take-append-le k (take (k + length new) items) _ h ∙ take-take k (k + length new) items i
 
-    moved_rest : drop (k + length new) (moved items len (length new) k) ≡ take (len - k) (drop k items) ++ drop (len + length new) items
+    moved_rest : drop (k + length new) moved ≡ take (len - k) (drop k items) ++ drop (len + length new) items
     moved_rest = drop_at (take (k + length new) items) _ (k + length new) front
 
-    pub between_done : placed (moved items len (length new) k) k new ≡ put_between items len k new
+    pub between_done : placed (copy_within items k len (k + length new)) k new ≡ put_between items len k new
     between_done =
-        let h : k + length new ≤ length (moved items len (length new) k) = omega (arith, moved_length) in
-        rw (le-leb (k + length new) (length (moved items len (length new) k)) h, le-leb (len + length new) (length items) room, moved_front, moved_rest)
-        (append_assoc (take k items) new _)
+        let h : k + length new ≤ length moved = omega (arith, moved_length) in
+        rw moved_is
+        (rw (le-leb (k + length new) (length moved) h, le-leb (len + length new) (length items) room, moved_front, moved_rest)
+        (append_assoc (take k items) new _))
 
 abbrev put_at : List ℕ → ℕ → List ℕ → List ℕ
 put_at l k new = take k l ++ (new ++ drop k l)

@@ -1,12 +1,12 @@
 -- The steps of a build, as the code puts them together. Assumes nothing.
+use Rattle.std.specs.Prelude.{Option, None, Some, IfSome, Ok, Err, position}
 use Prim.Native.Nat.{ℕ, zero, suc, ◌+◌, ◌-◌, ◌≤◌, ◌<◌}
 use mathlib.Core.Path.{◌≡◌, refl, sym, ap, subst, ◌∙◌}
 use mathlib.Core.Bool.{Bool, true, false, cond, not}
-use mathlib.Core.Logic.{◌⊎◌}
 use mathlib.Core.List.{List, []}
 use native.Mathlib.Omega.{arith}
 use lib.Dec.{ltb}
-use lib.ListN.{length, take, drop, get_or}
+use lib.ListN.{length, take, get_or}
 use lib.Seq.{take_all}
 use borrow.Author.Tests.{lt-ltb, le-ltb}
 use Rattle.vertexset.specs.Set.{has}
@@ -18,16 +18,17 @@ use Rattle.construction.specs.Ears as construction
 use Rattle.construction.specs.Ears.{no_cut, is_cut, answered, near, detour}
 use Rattle.construction.specs.Steps.{State, state, stopped, extended, segment, off_link, up_to, run_end, link_step, beside_place, reroute, out_taken, out_step, inner_place, step, steps}
 use Rattle.construction.proofs.Basics.{Sized}
-use Rattle.detours.specs.Code.{cut_of, cut_in, found_of}
+use Rattle.detours.specs.Code.{cut_of, found_of}
 use Rattle.detours.specs.declared.Cut.{Cut}
-use Rattle.detours.specs.declared.Found.{Found}
-use Rattle.detours.proofs.Kept.{front, front_take, kept_size, kept_shows}
-use Rattle.detours.proofs.Earing.{path_part, part_is, detour-short}
-use Rattle.stepping.specs.Code.{side_of, Shows, Holds, state_in, Spans, AtWork, Works, Left}
+use Rattle.detours.proofs.Answered.{Found, ok_test, ok_path, err_test, err_cut}
+use Rattle.detours.proofs.Kept.{kept_size, kept_shows}
+use Rattle.detours.proofs.Earing.{detour-short}
+use Rattle.arrayvec.specs.ArrayVec.{ArrayVec}
+use Rattle.stepping.specs.Code.{Shows, Holds, state_in, Spans, Works, Left}
 use Rattle.stepping.specs.declared.Progress.{Progress}
 use Rattle.stepping.specs.declared.Work.{Work}
 use Rattle.stepping.proofs.States.{shows_holds, shows_state, same_shows}
-use Rattle.stepping.proofs.Lists.{not-true, not-false}
+use Rattle.stepping.proofs.Lists.{not-true, not-false, placed_at, not_placed}
 use Rattle.stepping.proofs.Working.{span_low, goal_alone, left_works}
 
 -- ---- a step that stops
@@ -35,13 +36,10 @@ use Rattle.stepping.proofs.Working.{span_low, goal_alone, left_works}
 abbrev pub stopped_as : Progress → Cut → Progress
 stopped_as b c = record { branch = b.branch; built = b.built; near = b.near; len = b.len; at = b.at; going = false; cut = c }
 
+-- by the cut that the definition has
 stops : (rows flat : List ℕ) (b : Progress) → Holds rows flat b → {c : Cut} (x : construction.Cut) → c ≡ cut_of x → {r : Progress} → r ≡ stopped_as b c → Shows rows flat r (stopped (state_in flat b) x)
 stops rows flat b h x e q =
     record { array = h.kept.0; short = (kept_shows flat b.len h.kept).short; beside = q ∙ rw (kept_size flat b.len h.kept, ← h.same_near, e) }
-
--- whether it is a cut, in the code's struct and in the definition's
-cut-test : {c : Cut} (x : construction.Cut) → c ≡ cut_of x → {y t : Bool} → y ≡ is_cut (cut_in c) → y ≡ t → is_cut x ≡ t
-cut-test x e q t = ap (λ (y : Cut). is_cut (cut_in y)) (sym e) ∙ sym q ∙ t
 
 -- ---- (a) from inside a link
 
@@ -51,12 +49,12 @@ pub off_found : (rows list : List ℕ) (built : VertexSet) (i j : ℕ) {p q a b 
 off_found rows list built i j p a b e u q v s n r g = rw (g, r, n, s, v, q, u, e, b, a, p)
 
 -- a path up to a set
-module _ (path : List ℕ) (set : VertexSet) {k : ℕ} (e : k ≡ 0 + place_of (side_of set true) (drop 0 path)) where
-  pub up_to-part : take (k + 1 - 0) (drop 0 path) ≡ up_to set path
-  up_to-part = let z : k + 1 - 0 ≡ place_of (has set.words) path + 1 = omega (arith, e) in rw z
+module _ (path : List ℕ) (set : VertexSet) where
+  pub up_to-part : {k : ℕ} → position (has set.words) path ≡ Some k → take (k + 1) path ≡ up_to set path
+  up_to-part {k} e = rw (placed_at (has set.words) path k e).0
 
-  pub up_to-all : length path ≤ k → path ≡ up_to set path
-  up_to-all h = sym (take_all (place_of (has set.words) path + 1) path (omega (arith, e)))
+  pub up_to-all : position (has set.words) path ≡ None → path ≡ up_to set path
+  up_to-all e = sym (take_all (place_of (has set.words) path + 1) path (omega (arith, not_placed (has set.words) path e)))
 
 -- the way off the link that stands at the place i, and the vertices inside the link
 unfoldable pub link_way : List ℕ → State → ℕ → construction.Found
@@ -77,43 +75,36 @@ module _ (rows flat : List ℕ) (b : Progress) (held : Holds rows flat b) (i : �
     unfolding link_inner
     link-inner q = q ∙ rw e
 
-    pub link-found : {f : Found} → f ≡ found_of (off_link rows (state (front flat b.len) b.built b.built 0) i j) → f ≡ found_of (link_way rows (state_in flat b) i)
+    pub link-found : {f : Found} → f ≡ found_of (off_link rows (state (take b.len flat) b.built b.built 0) i j) → f ≡ found_of (link_way rows (state_in flat b) i)
     unfolding link_way
-    link-found q = q ∙ rw (e, front_take flat b.len)
+    link-found q = q ∙ rw e
 
-  module _ {f : Found} (e : f ≡ found_of (link_way rows (state_in flat b) i)) where
-    way_cut : f.cut ≡ cut_of (link_way rows (state_in flat b) i).cut_by
-    way_cut = ap (λ (x : Found). x.cut) e
+  pub link-stops : {c : Cut} → Err c ≡ found_of (link_way rows (state_in flat b) i) → {r : Progress} → r ≡ stopped_as b c → Shows rows flat r (link_step rows (state_in flat b) i)
+  link-stops e {r} q =
+      let h : is_cut (link_way rows (state_in flat b) i).cut_by ≡ true = err_test (link_way rows (state_in flat b) i) e in
+      let w : stopped (state_in flat b) (link_way rows (state_in flat b) i).cut_by ≡ link_step rows (state_in flat b) i = rw (← link-taken rows (state_in flat b) i, h) in
+      subst (λ (st : State). Shows rows flat r st) w (stops rows flat b held (link_way rows (state_in flat b) i).cut_by (err_cut (link_way rows (state_in flat b) i) e) q)
 
-    pub link-stops : {y : Bool} → y ≡ is_cut (cut_in f.cut) → y ≡ true → {r : Progress} → r ≡ stopped_as b f.cut → Shows rows flat r (link_step rows (state_in flat b) i)
-    link-stops c t {r} q =
-        let h : is_cut (link_way rows (state_in flat b) i).cut_by ≡ true = cut-test (link_way rows (state_in flat b) i).cut_by way_cut c t in
-        let w : stopped (state_in flat b) (link_way rows (state_in flat b) i).cut_by ≡ link_step rows (state_in flat b) i = rw (← link-taken rows (state_in flat b) i, h) in
-        subst (λ (st : State). Shows rows flat r st) w (stops rows flat b held (link_way rows (state_in flat b) i).cut_by way_cut q)
+  pub link-goes : {p : ArrayVec ℕ} → Ok p ≡ found_of (link_way rows (state_in flat b) i) → {inner : VertexSet} → inner ≡ link_inner (state_in flat b) i → {path l : List ℕ} → path ≡ p.items → l ≡ up_to inner path
+      → {out : List ℕ} {r : Progress} → Shows rows out r (extended (state_in flat b) l i) → Shows rows out r (link_step rows (state_in flat b) i)
+  link-goes e n q u {out} {r} s =
+      let h : is_cut (link_way rows (state_in flat b) i).cut_by ≡ false = ok_test (link_way rows (state_in flat b) i) e in
+      let w : extended (state_in flat b) (up_to (link_inner (state_in flat b) i) (link_way rows (state_in flat b) i).path) i ≡ link_step rows (state_in flat b) i = rw (← link-taken rows (state_in flat b) i, h) in
+      subst (λ (st : State). Shows rows out r st) (ap (λ (l : List ℕ). extended (state_in flat b) l i) (u ∙ (λ z. up_to (n z) ((q ∙ ok_path (link_way rows (state_in flat b) i) e) z))) ∙ w) s
 
-    pub link-goes : {y : Bool} → y ≡ is_cut (cut_in f.cut) → y ≡ false → {inner : VertexSet} → inner ≡ link_inner (state_in flat b) i → {path l : List ℕ} → path ≡ path_part f → l ≡ up_to inner path
-        → {out : List ℕ} {r : Progress} → Shows rows out r (extended (state_in flat b) l i) → Shows rows out r (link_step rows (state_in flat b) i)
-    link-goes c t n q u {out} {r} s =
-        let h : is_cut (link_way rows (state_in flat b) i).cut_by ≡ false = cut-test (link_way rows (state_in flat b) i).cut_by way_cut c t in
-        let w : extended (state_in flat b) (up_to (link_inner (state_in flat b) i) (link_way rows (state_in flat b) i).path) i ≡ link_step rows (state_in flat b) i = rw (← link-taken rows (state_in flat b) i, h) in
-        subst (λ (st : State). Shows rows out r st) (ap (λ (l : List ℕ). extended (state_in flat b) l i) (u ∙ (λ z. up_to (n z) ((q ∙ part_is f (link_way rows (state_in flat b) i) e) z))) ∙ w) s
-
+-- what is left of it is at work
 module _ (rows flat : List ℕ) (b : Progress) (w : Work) where
-  pub link_set : Spans (take b.len flat) (minus b.built b.branch) w → w.link ≡ set_of (segment (front flat b.len) w.first w.end)
-  link_set s = s.link ∙ rw (front_take flat b.len)
-
-  -- what is left of it is at work
   pub link-works : Sized b.branch → Sized b.built → w.first < w.end → Spans (take b.len flat) (minus b.built b.branch) w → (path : List ℕ) {l : List ℕ} → l ≡ up_to w.link path
-      → {x : ℕ} → x ≡ last_of l → (r : Work) → (r.end ≤ r.first) ⊎ Left (front flat b.len) b.branch w x r
-      → {out : List ℕ} {n : Progress} → Shows rows out n (extended (state_in flat b) l w.first) → Works (state_in out n) r
-  link-works sb su up s path {l} q {x} e r k {out} {n} t =
-      let m : (r.end ≤ r.first) ⊎ Left (take b.len flat) b.branch w (last_of l) r = subst (λ (v : ℕ). (r.end ≤ r.first) ⊎ Left (take b.len flat) b.branch w v r) e (subst (λ (y : List ℕ). (r.end ≤ r.first) ⊎ Left y b.branch w x r) (front_take flat b.len) k) in
-      subst (λ (st : State). Works st r) (sym (shows_state rows out n (extended (state_in flat b) l w.first) t)) (left_works (state_in flat b) sb su w up s l (goal_alone w.link path q) r m)
+      → {x : ℕ} → x ≡ last_of l → (work : Option Work) → IfSome work (λ r. Left (take b.len flat) b.branch w x r)
+      → {out : List ℕ} {n : Progress} → Shows rows out n (extended (state_in flat b) l w.first) → Works (state_in out n) work
+  link-works sb su up s path {l} q {x} e work k {out} {n} t =
+      let m : IfSome work (λ r. Left (take b.len flat) b.branch w (last_of l) r) = subst (λ (v : ℕ). IfSome work (λ r. Left (take b.len flat) b.branch w v r)) e k in
+      subst (λ (st : State). Works st work) (sym (shows_state rows out n (extended (state_in flat b) l w.first) t)) (left_works (state_in flat b) sb su w up s l (goal_alone w.link path q) work m)
 
 -- ---- (b) out and back
 
-pub part_short : (rows : List ℕ) (n set : VertexSet) (f : Found) → f ≡ found_of (detour rows n set) → {l : List ℕ} → l ≡ path_part f → length l ≤ path_room
-part_short rows n set f e q = subst (λ (l : List ℕ). length l ≤ path_room) (sym (q ∙ part_is f (detour rows n set) e)) (detour-short rows n set)
+pub detour_short : (rows : List ℕ) (n set : VertexSet) {p : ArrayVec ℕ} → Ok p ≡ found_of (detour rows n set) → {l : List ℕ} → l ≡ p.items → length l ≤ path_room
+detour_short rows n set e q = subst (λ (l : List ℕ). length l ≤ path_room) (sym (q ∙ ok_path (detour rows n set) e)) (detour-short rows n set)
 
 -- by the test of whether every vertex is in
 out_step_lem : (rows : List ℕ) (full : VertexSet) (st : State) → out_step rows full st ≡ cond (empty (minus full st.built)) (stopped st no_cut) (out_taken rows st (detour rows (near rows st.built) st.built))
@@ -129,36 +120,33 @@ module _ (rows : List ℕ) (full : VertexSet) (flat : List ℕ) (b : Progress) (
       let w : stopped (state_in flat b) no_cut ≡ out_step rows full (state_in flat b) = rw (out_step_lem rows full (state_in flat b), ← done_is, h) in
       subst (λ (st : State). Shows rows flat r st) w (stops rows flat b held no_cut n q)
 
-  module _ (h : done ≡ false) {f : Found} (e : f ≡ found_of (detour rows b.near b.built)) where
+  module _ (h : done ≡ false) where
     abbrev way : construction.Found
     way = detour rows (near rows b.built) b.built
 
-    way_found : f ≡ found_of way
-    way_found = e ∙ ap (λ (n : VertexSet). found_of (detour rows n b.built)) held.same_near
-
-    out_cut : f.cut ≡ cut_of way.cut_by
-    out_cut = ap (λ (x : Found). x.cut) way_found
+    way_found : {f : Found} → f ≡ found_of (detour rows b.near b.built) → f ≡ found_of way
+    way_found e = e ∙ ap (λ (n : VertexSet). found_of (detour rows n b.built)) held.same_near
 
     out_taken_lem : out_taken rows (state_in flat b) way ≡ out_step rows full (state_in flat b)
     out_taken_lem = rw (out_step_lem rows full (state_in flat b), ← done_is, h)
 
-    pub out_stops : {y : Bool} → y ≡ is_cut (cut_in f.cut) → y ≡ true → {r : Progress} → r ≡ stopped_as b f.cut → Shows rows flat r (out_step rows full (state_in flat b))
-    out_stops c t {r} q =
-        let u : is_cut way.cut_by ≡ true = cut-test way.cut_by out_cut c t in
+    pub out_stops : {c : Cut} → Err c ≡ found_of (detour rows b.near b.built) → {r : Progress} → r ≡ stopped_as b c → Shows rows flat r (out_step rows full (state_in flat b))
+    out_stops e {r} q =
+        let u : is_cut way.cut_by ≡ true = err_test way (way_found e) in
         let w : stopped (state_in flat b) way.cut_by ≡ out_step rows full (state_in flat b) = rw (← out_taken_lem, u) in
-        subst (λ (st : State). Shows rows flat r st) w (stops rows flat b held way.cut_by out_cut q)
+        subst (λ (st : State). Shows rows flat r st) w (stops rows flat b held way.cut_by (err_cut way (way_found e)) q)
 
     -- the place at which the ends of the path stand side by side
-    module _ {test : Bool} (c : test ≡ is_cut (cut_in f.cut)) (t : test ≡ false) {l : List ℕ} (q : l ≡ path_part f) {k x y : ℕ} (last : x ≡ last_of l) (first : y ≡ get_or l 0 0)
-        (place : k ≡ beside_place rows x y (front flat b.len)) where
+    module _ {p : ArrayVec ℕ} (e : Ok p ≡ found_of (detour rows b.near b.built)) {l : List ℕ} (q : l ≡ p.items) {k x y : ℕ} (last : x ≡ last_of l) (first : y ≡ get_or l 0 0)
+        (place : k ≡ beside_place rows x y (take b.len flat)) where
       out_path : l ≡ way.path
-      out_path = q ∙ part_is f way way_found
+      out_path = q ∙ ok_path way (way_found e)
 
       met : is_cut way.cut_by ≡ false
-      met = cut-test way.cut_by out_cut c t
+      met = ok_test way (way_found e)
 
       place_is : k ≡ beside_place rows (last_of way.path) (get_or way.path 0 0) (take b.len flat)
-      place_is = place ∙ rw (last, first, out_path, front_take flat b.len)
+      place_is = place ∙ rw (last, first, out_path)
 
       pub out_reroutes : k < b.len → {out : List ℕ} {r : Progress} → Shows rows out r (reroute (state_in flat b) l k)
           → Shows rows out r (out_step rows full (state_in flat b))
@@ -188,25 +176,12 @@ steps-more : (rows : List ℕ) (full : VertexSet) (k : ℕ) (st : State) → ste
 unfolding steps
 steps-more rows full k st = refl
 
--- the link at work, in the paths as the code hands them on
-module _ (flat : List ℕ) (b : Progress) {inner : VertexSet} (e : inner ≡ minus b.built b.branch) where
-  pub front_works : (w : Work) → AtWork (front flat b.len) inner b.at w → Works (state_in flat b) w
-  front_works w h = subst (λ (l : List ℕ). AtWork l (minus b.built b.branch) b.at w) (front_take flat b.len) (subst (λ (s : VertexSet). AtWork (front flat b.len) s b.at w) e h)
-
-  pub works_front : (w : Work) → Works (state_in flat b) w → AtWork (front flat b.len) inner b.at w
-  works_front w h = subst (λ (s : VertexSet). AtWork (front flat b.len) s b.at w) (sym e) (subst (λ (l : List ℕ). AtWork l (minus b.built b.branch) b.at w) (sym (front_take flat b.len)) h)
-
-  pub front_over : length (front flat b.len) ≤ b.at + place_of (has inner.words) (drop b.at (front flat b.len)) → length (take b.len flat) ≤ inner_place (state_in flat b)
-  front_over h =
-      subst (λ (l : List ℕ). length l ≤ b.at + place_of (has (minus b.built b.branch).words) (drop b.at l)) (front_take flat b.len)
-      (subst (λ (s : VertexSet). length (front flat b.len) ≤ b.at + place_of (has s.words) (drop b.at (front flat b.len))) e h)
-
 module _ (rows : List ℕ) (full : VertexSet) (flat : List ℕ) (b : Progress) (held : Holds rows flat b) where
-  module _ {w : Work} (k : Works (state_in flat b) w) where
-    pub step-link : w.first < w.end → {out : List ℕ} {r : Progress} → Shows rows out r (link_step rows (state_in flat b) w.first) → Shows rows out r (step rows full (state_in flat b))
-    step-link h {out} {r} s =
-        let low : w.first < length (take b.len flat) = (span_low (take b.len flat) (minus b.built b.branch) w h (k.spans h)).0 in
-        let e : w.first ≡ inner_place (state_in flat b) = k.place h in
+  module _ {w : Work} (k : Works (state_in flat b) (Some w)) where
+    pub step-link : {out : List ℕ} {r : Progress} → Shows rows out r (link_step rows (state_in flat b) w.first) → Shows rows out r (step rows full (state_in flat b))
+    step-link {out} {r} s =
+        let low : w.first < length (take b.len flat) = (span_low (take b.len flat) (minus b.built b.branch) w k.some k.spans).0 in
+        let e : w.first ≡ inner_place (state_in flat b) = k.place in
         let q : link_step rows (state_in flat b) w.first ≡ step rows full (state_in flat b) = rw (one_step rows full (state_in flat b), ← e, lt-ltb w.first (length (take b.len flat)) low) in
         subst (λ (st : State). Shows rows out r st) q s
 
@@ -223,16 +198,13 @@ module _ (rows : List ℕ) (full : VertexSet) (flat : List ℕ) (b : Progress) (
     pub steps-stopped : not b.going ≡ true → Shows rows flat b whole
     steps-stopped h = subst (λ (st : State). Shows rows flat b st) (stay left (not-true b.going h) ∙ w) (same_shows rows flat b held)
 
-    pub steps-none : left ≤ 0 → Shows rows flat b whole
-    steps-none h =
-        let z : 0 ≡ left = omega arith in
-        subst (λ (st : State). Shows rows flat b st) (sym (steps-zero rows full (state_in flat b)) ∙ ap (λ (k : ℕ). steps rows full k (state_in flat b)) z ∙ w) (same_shows rows flat b held)
+    pub steps-none : left ≡ 0 → Shows rows flat b whole
+    steps-none z = subst (λ (st : State). Shows rows flat b st) (sym (steps-zero rows full (state_in flat b)) ∙ ap (λ (k : ℕ). steps rows full k (state_in flat b)) (sym z) ∙ w) (same_shows rows flat b held)
 
-    pub steps-turn : 0 < left → not b.going ≡ false → {out : List ℕ} {r : Progress} → Shows rows out r (step rows full (state_in flat b))
-        → Holds rows out r × (steps rows full (left - 1) (state_in out r) ≡ whole)
-    steps-turn h g {out} {r} s =
-        let z : suc (left - 1) ≡ left = omega arith in
-        let m : steps rows full (left - 1) (step rows full (state_in flat b)) ≡ steps rows full (suc (left - 1)) (state_in flat b) = rw (steps-more rows full (left - 1) (state_in flat b), not-false b.going g) in (
+    pub steps-turn : {less : ℕ} → left ≡ suc less → not b.going ≡ false → {out : List ℕ} {r : Progress} → Shows rows out r (step rows full (state_in flat b))
+        → Holds rows out r × (steps rows full less (state_in out r) ≡ whole)
+    steps-turn {less} z g {out} {r} s =
+        let m : steps rows full less (step rows full (state_in flat b)) ≡ steps rows full (suc less) (state_in flat b) = rw (steps-more rows full less (state_in flat b), not-false b.going g) in (
           shows_holds rows out r (step rows full (state_in flat b)) s,
-          ap (λ (st : State). steps rows full (left - 1) st) (shows_state rows out r (step rows full (state_in flat b)) s) ∙ m ∙ ap (λ (k : ℕ). steps rows full k (state_in flat b)) z ∙ w,
+          ap (λ (st : State). steps rows full less st) (shows_state rows out r (step rows full (state_in flat b)) s) ∙ m ∙ ap (λ (k : ℕ). steps rows full k (state_in flat b)) (sym z) ∙ w,
         )

@@ -1,4 +1,6 @@
 -- The link at work: its run in the list of paths, and what is left of it when a path from its first or its last inner vertex is taken. Assumes nothing.
+use Rattle.std.specs.Prelude.{Option, None, Some, IfSome, position}
+use Rattle.std.specs.List.{prefix_len}
 use Prim.Native.Nat.{ℕ, zero, suc, ◌+◌, ◌-◌, ◌≤◌, ◌<◌}
 use mathlib.Core.Path.{◌≡◌, refl, sym, ap, subst, ◌∙◌}
 use mathlib.Core.Bool.{Bool, true, false, cond, not}
@@ -9,24 +11,23 @@ use native.Mathlib.Omega.{arith}
 use native.Mathlib.Decide.{ℕ_discrete}
 use lib.Dec.{leb}
 use lib.ListN.{length, take, drop, get_or, length-append, length-take, length-drop, get_or-append}
-use lib.Seq.{take-suc, get_or-take, get_or-drop, length-take-le}
-use Rattle.record.specs.Read.{folded}
+use lib.Seq.{get_or-take, get_or-drop, length-take-le, take_all}
 use Rattle.vertexset.specs.Set.{has, inserted, empty_set, count, capacity, none}
 use Rattle.vertexset.specs.declared.VertexSet.{VertexSet}
 use Rattle.vertexset.proofs.Laws as laws
 use Rattle.connectivity.specs.Lists.{In, NoDup}
-use Rattle.connectivity.proofs.Lists.{bool?, clash, either, below?, nodup_count}
+use Rattle.connectivity.proofs.Lists.{bool?, clash, nodup_count}
 use Rattle.construction.specs.Sets.{stop, minus, single, set_with_all, set_of, members, place_of, last_of}
 use Rattle.construction.specs.Ears.{path_space, add_path}
-use Rattle.construction.specs.Steps.{State, extended, segment, up_to, run_end}
+use Rattle.construction.specs.Steps.{State, extended, segment, up_to}
 use Rattle.construction.proofs.Basics.{Sized, On}
 use Rattle.construction.proofs.Finding.{end_high, place_within, place_none}
 use Rattle.construction.proofs.Places.{in_place, same_place, segment-place}
 use Rattle.construction.proofs.Near.{same_test}
 use Rattle.construction.proofs.SetLaws.{sized_empty, sized_inserted, sized_all, sized_minus, sized_single, on_low, minus-on, on_minus, inserted-on, on_inserted, inserted-keep, single-on, on_single, on_all, set_on, on_set, members-in, members-nodup, members-count}
-use Rattle.stepping.specs.Code.{Spans, AtWork, Works, Left}
+use Rattle.stepping.specs.Code.{Spans, IsNext, Works, Left}
 use Rattle.stepping.specs.declared.Work.{Work}
-use Rattle.stepping.proofs.Lists.{place_here, place_turn, place_end, not-false}
+use Rattle.stepping.proofs.Lists.{place_here, place_turn, placed_at, not_placed, not-false}
 
 -- ---- the first place from i on at which a test holds
 
@@ -81,11 +82,6 @@ segment-once l i j h nd m k a b c d e =
     let s : m - i ≡ k - i = same_place (segment l i j) nd (m - i) (k - i) (omega arith) (omega arith) (segment-get l i j m a b ∙ e ∙ sym (segment-get l i j k c d)) in
     omega arith
 
-all_snoc : (s : VertexSet) (l : List ℕ) (v : ℕ) → set_with_all s (l ++ (v ∷ [])) ≡ inserted (set_with_all s l) v
-unfolding folded
-all_snoc s [] v = refl
-all_snoc s (a ∷ l) v = all_snoc (inserted s a) l v
-
 -- as many members as places: nothing stands twice
 counted : (l : List ℕ) → count (set_of l).words ≡ length l → NoDup l
 counted l e =
@@ -100,40 +96,22 @@ minus-off a b h k v e = ⊎_elim (λ t. absurd ((minus-on a b h k v t).1 e)) (λ
 
 -- ---- the run from a place on
 
-segment-more : (l : List ℕ) (i j : ℕ) → i ≤ j → j < length l → segment l i (j + 1) ≡ segment l i j ++ (get_or l j 0 ∷ [])
-segment-more l i j h k =
-    let z : j + 1 - i ≡ suc (j - i) = omega arith in
-    let e : i + (j - i) ≡ j = omega arith in
-    ap (λ (n : ℕ). take n (drop i l)) z ∙ take-suc (drop i l) (j - i) 0 (omega (arith, length-drop i l))
-    ∙ ap (λ (v : ℕ). segment l i j ++ (v ∷ [])) (get_or-drop i l (j - i) 0 ∙ ap (λ (n : ℕ). get_or l n 0) e)
+-- as many vertices as std's prefix has
+run_is : (t : ℕ → Bool) (l : List ℕ) → prefix_len t l ≡ place_of (λ v. not (t v)) l
+unfolding place_of
+run_is t [] = refl
+run_is t (a ∷ l) = go (t a) (run_is t l)
+  where
+    go : (b : Bool) → prefix_len t l ≡ place_of (λ v. not (t v)) l → cond b (1 + prefix_len t l) 0 ≡ cond (not b) 0 (place_of (λ v. not (t v)) l + 1)
+    go true e = omega arith
+    go false e = refl
 
--- what was seen up to the place i, and what is left
-pub record Looked (list : List ℕ) (set : VertexSet) (from i : ℕ) (link : VertexSet) : Type 0 where
-  pub past : from ≤ i
-  pub rest : run_end list set i ≡ run_end list set from
-  pub seen : link ≡ set_of (segment list from i)
+module _ (list : List ℕ) (set : VertexSet) (first : ℕ) {count : ℕ} (e : count ≡ prefix_len (has set.words) (take (length list - first) (drop first list))) where
+  run_count : count ≡ prefix_len (has set.words) (drop first list)
+  run_count = e ∙ ap (prefix_len (has set.words)) (take_all (length list - first) (drop first list) (omega (arith, length-drop first list)))
 
-module _ (list : List ℕ) (set : VertexSet) (from : ℕ) where
-  pub look_begin : (link : VertexSet) → link ≡ empty_set → Looked list set from from link
-  unfolding folded
-  look_begin link e = let z : from - from ≡ 0 = omega arith in record { past = omega arith; rest = refl; seen = e ∙ rw z }
-
-  module _ (i : ℕ) (link : VertexSet) (k : Looked list set from i link) where
-    pub look_turn : i < length list → not (has set.words (get_or list i 0)) ≡ false → Looked list set from (i + 1) (inserted link (get_or list i 0))
-    look_turn h t = record {
-      past = let a = k.past in omega arith;
-      rest = place_turn (λ v. not (has set.words v)) list i h t ∙ k.rest;
-      seen = ap (λ (s : VertexSet). inserted s (get_or list i 0)) k.seen ∙ sym (all_snoc empty_set (segment list from i) (get_or list i 0)) ∙ ap set_of (sym (segment-more list from i k.past h));
-    }
-
-    looked_all : i ≡ run_end list set i → Spans list set (record { first = from; end = i; link = link })
-    looked_all e = record { run = e ∙ k.rest; link = k.seen }
-
-    pub look_stop : i < length list → not (has set.words (get_or list i 0)) ≡ true → Spans list set (record { first = from; end = i; link = link })
-    look_stop h t = looked_all (place_here (λ v. not (has set.words v)) list i h t)
-
-    pub look_end : length list ≤ i → Spans list set (record { first = from; end = i; link = link })
-    look_end h = looked_all (place_end (λ v. not (has set.words v)) list i h)
+  pub run_spans : {none link : VertexSet} → none ≡ empty_set → link ≡ set_with_all none (segment list first (first + count)) → Spans list set (record { first = first; end = first + count; link = link })
+  run_spans z q = record { run = ap (λ (k : ℕ). first + k) (run_count ∙ run_is (has set.words) (drop first list)); link = rw z at q }
 
 -- a run that begins at a member is not empty
 run_past : (p : ℕ → Bool) (l : List ℕ) (at i : ℕ) → i ≡ at + place_of p (drop at l) → i < length l → i < i + place_of (λ v. not (p v)) (drop i l)
@@ -143,21 +121,24 @@ run_past p l at i e h =
 
 -- ---- the link at work
 
--- none is
-pub none-works : (flat : List ℕ) (inner : VertexSet) (at : ℕ) (w : Work) → w.end ≤ w.first → AtWork flat inner at w
-none-works flat inner at w h = record { place = λ k. absurd (omega arith); spans = λ k. absurd (omega arith) }
-
 module _ (flat : List ℕ) (inner : VertexSet) (at : ℕ) where
   pub none-inner : none inner.words ≡ true → length flat ≤ at + place_of (has inner.words) (drop at flat)
   none-inner e = omega (arith, place_none (has inner.words) (drop at flat) (λ v k. laws.none_has inner.words e v), length-drop at flat)
 
-  -- the run from the first inner vertex on
-  module _ (w : Work) (s : Spans flat inner w) (e : w.first ≡ at + place_of (has inner.words) (drop at flat)) where
-    pub run_works : AtWork flat inner at w
-    run_works = record { place = λ k. e; spans = λ k. s }
+  -- the list from that place on
+  module _ {rest : List ℕ} (r : rest ≡ take (length flat - at) (drop at flat)) where
+    rest_is : rest ≡ drop at flat
+    rest_is = r ∙ take_all (length flat - at) (drop at flat) (omega (arith, length-drop at flat))
 
-    pub run_over : w.end ≤ w.first → length flat ≤ at + place_of (has inner.words) (drop at flat)
-    run_over h = ⊎_elim (λ k. absurd (omega (arith, s.run, run_past (has inner.words) flat at w.first e k))) (λ k. omega arith) (either (below? w.first (length flat)))
+    pub none-found : None ≡ position (has inner.words) rest → length flat ≤ at + place_of (has inner.words) (drop at flat)
+    none-found e = omega (arith, not_placed (has inner.words) (drop at flat) (rw rest_is at (sym e)), length-drop at flat)
+
+    -- the run from the first inner vertex on
+    pub run_works : {k : ℕ} → Some k ≡ position (has inner.words) rest → (w : Work) → w.first ≡ at + k → Spans flat inner w → IsNext flat inner at w
+    run_works {k} h w e s =
+        let p = placed_at (has inner.words) (drop at flat) k (rw rest_is at (sym h)) in
+        let q : w.first ≡ at + place_of (has inner.words) (drop at flat) = omega (arith, p) in
+        record { some = omega (arith, s.run, run_past (has inner.words) flat at w.first q (omega (arith, p, length-drop at flat))); place = q; spans = s }
 
 pub span_low : (flat : List ℕ) (inner : VertexSet) (w : Work) → w.first < w.end → Spans flat inner w → (w.first < length flat) × (w.end ≤ length flat)
 span_low flat inner w h s = let r = s.run in omega (arith, place_within (λ v. not (has inner.words v)) (drop w.first flat), length-drop w.first flat)
@@ -177,12 +158,13 @@ pub goal_alone : (set : VertexSet) (path : List ℕ) {l : List ℕ} → l ≡ up
 goal_alone set path e = subst (λ (l : List ℕ). On set (get_or l 0 0) → get_or l 0 0 ≡ last_of l) (sym e) (up_to-first set path)
 
 -- the tests of the code
-pub left_told : (flat : List ℕ) (branch : VertexSet) (w : Work) (x : ℕ) {r : Work} {in_branch : Bool} {size : ℕ} {one : VertexSet} → w.end < length flat → in_branch ≡ has branch.words (get_or flat w.end 0) → not in_branch ≡ false
+pub left_told : (flat : List ℕ) (branch : VertexSet) (w : Work) (x : ℕ) {r : Work} {in_branch : Bool} {size : ℕ} {one : VertexSet} → r.first < r.end → w.end < length flat → in_branch ≡ has branch.words (get_or flat w.end 0) → in_branch ≡ true
     → size ≡ count w.link.words → size ≡ w.end - w.first → one ≡ single x → r.link ≡ minus w.link one
     → ((x ≡ get_or flat w.first 0) × ((r.first ≡ w.first + 1) × (r.end ≡ w.end))) ⊎ ((x ≡ get_or flat (w.end - 1) 0) × ((r.first ≡ w.first) × (r.end ≡ w.end - 1))) → Left flat branch w x r
-left_told flat branch w x low has-it t n m o l p = record {
+left_told flat branch w x up low has-it t n m o l p = record {
+  some = up;
   low = low;
-  behind = sym has-it ∙ not-false _ t;
+  behind = sym has-it ∙ t;
   once = sym n ∙ m;
   link = l ∙ ap (λ (k : VertexSet). minus w.link k) o;
   places = p;
@@ -354,16 +336,17 @@ module _ (st : State) (sb : Sized st.branch) (su : Sized st.built) (w : Work) (u
         l.link ∙ ap (λ (k : VertexSet). minus k (single (last_of path))) s.link
         ∙ same_on (minus (set_of (segment st.flat w.first w.end)) (single (last_of path))) (set_of (segment (add_path st.flat path) r.first r.end)) (sized_minus _ _ (sized_run _) (sized_single (last_of path))) (sized_run _) out_of back_in
 
-    shorter : Works (extended st path w.first) r
+    shorter : IsNext (add_path st.flat path) (inner_with st path) w.first r
     shorter =
         let low : w.end < length (add_path st.flat path) = omega (arith, l.low, longer st.flat path) in
         record {
-          place = λ k. next_place (has (inner_with st path).words) (add_path st.flat path) w.first w.end q r.first r.end a k low stays gone off;
-          spans = λ k. record { run = next-end (has (inner_with st path).words) (add_path st.flat path) w.first w.end q r.first r.end a k low stays gone off; link = link_left };
+          some = l.some;
+          place = next_place (has (inner_with st path).words) (add_path st.flat path) w.first w.end q r.first r.end a l.some low stays gone off;
+          spans = record { run = next-end (has (inner_with st path).words) (add_path st.flat path) w.first w.end q r.first r.end a l.some low stays gone off; link = link_left };
         }
 
-  pub left_works : (path : List ℕ) → (On w.link (get_or path 0 0) → get_or path 0 0 ≡ last_of path) → (r : Work) → (r.end ≤ r.first) ⊎ Left st.flat st.branch w (last_of path) r → Works (extended st path w.first) r
-  left_works path goal r (inl h) = none-works (add_path st.flat path) (inner_with st path) w.first r h
-  left_works path goal r (inr l) =
+  pub left_works : (path : List ℕ) → (On w.link (get_or path 0 0) → get_or path 0 0 ≡ last_of path) → (work : Option Work) → IfSome work (λ r. Left st.flat st.branch w (last_of path) r) → Works (extended st path w.first) work
+  left_works path goal None h = tt
+  left_works path goal (Some r) l =
       ⊎_elim (λ p. shorter path goal r l w.first p.0 (no_first w.first w.end r.first r.end up p.1.0 p.1.1))
       (λ p. shorter path goal r l (w.end - 1) p.0 (no_last w.first w.end r.first r.end up p.1.0 p.1.1)) l.places

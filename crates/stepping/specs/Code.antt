@@ -1,5 +1,5 @@
 -- What the functions give: the states of the definition, their paths at the front of an array.
-use Rattle.std.specs.Prelude.{ℕ, ◌+◌, ◌-◌, ◌≤◌, ◌<◌, ◌≡◌, Bool, true, false, cond, not, ◌&&◌, ◌||◌, ◌⊎◌, List, [], ◌∷◌, ◌++◌, leb, eqb, length, take, drop, get_or}
+use Rattle.std.specs.Prelude.{ℕ, Option, IfSome, ◌+◌, ◌-◌, ◌≤◌, ◌<◌, ◌≡◌, Bool, true, false, cond, ◌&&◌, ◌||◌, ◌⊎◌, List, [], ◌∷◌, ◌++◌, leb, eqb, length, take, drop, get_or}
 use Rattle.vertexset.specs.Set.{has, count}
 use Rattle.vertexset.specs.declared.VertexSet.{VertexSet}
 use Rattle.construction.specs.Sets.{added, minus, single, set_of, place_of}
@@ -24,10 +24,6 @@ abbrev pub built_in : List ℕ → ℕ → VertexSet → VertexSet → List ℕ 
 built_in rows n full four list = finished_of rows n (build rows full (begun four (added path_space [] list)))
 
 -- ---- what the private functions give
-
--- a member, or no member
-abbrev pub side_of : VertexSet → Bool → ℕ → Bool
-side_of s inside v = cond inside (has s.words v) (not (has s.words v))
 
 -- two vertices stand side by side somewhere in a list
 unfoldable pub has_pair : ℕ → ℕ → List ℕ → Bool
@@ -82,16 +78,22 @@ pub record Spans (flat : List ℕ) (inner : VertexSet) (w : Work) : Type 0 where
   pub run : w.end ≡ run_end flat inner w.first
   pub link : w.link ≡ set_of (segment flat w.first w.end)
 
--- where one is at work, it is the one that the next step takes: it begins at the first inner vertex that is left
-pub record AtWork (flat : List ℕ) (inner : VertexSet) (at : ℕ) (w : Work) : Type 0 where
-  pub place : w.first < w.end → w.first ≡ at + place_of (has inner.words) (drop at flat)
-  pub spans : w.first < w.end → Spans flat inner w
+-- it is the one that the next step takes: it begins at the first inner vertex that is left
+pub record IsNext (flat : List ℕ) (inner : VertexSet) (at : ℕ) (w : Work) : Type 0 where
+  pub some : w.first < w.end
+  pub place : w.first ≡ at + place_of (has inner.words) (drop at flat)
+  pub spans : Spans flat inner w
 
-abbrev pub Works : State → Work → Type 0
-Works st w = AtWork st.flat (minus st.built st.branch) st.at w
+-- so is the one at work, where one is
+abbrev pub AtWork : List ℕ → VertexSet → ℕ → Option Work → Type 0
+AtWork flat inner at work = IfSome work (λ w. IsNext flat inner at w)
 
--- r is w without x, its first or its last vertex; none stands twice in w, and a branch vertex behind it
+abbrev pub Works : State → Option Work → Type 0
+Works st work = AtWork st.flat (minus st.built st.branch) st.at work
+
+-- r is w without x, its first or its last vertex of more than one; none stands twice in w, and a branch vertex behind it
 pub record Left (flat : List ℕ) (branch : VertexSet) (w : Work) (x : ℕ) (r : Work) : Type 0 where
+  pub some : r.first < r.end
   pub low : w.end < length flat
   pub behind : has branch.words (get_or flat w.end 0) ≡ true
   pub once : count w.link.words ≡ w.end - w.first

@@ -1,21 +1,23 @@
 // The steps of a build: further paths until every vertex is a branch vertex, or a cut; then the edges that no path has.
 #![tactic(auto)]
 
-ghost use Rattle.std.specs.Prelude.{◌≡◌, false, ◌⊎◌, ◌++◌, ◌+◌, ◌-◌, ◌≤◌, ◌<◌, length, take, drop};
+ghost use Rattle.std.specs.Prelude.{◌≡◌, false, ◌++◌, ◌+◌, ◌-◌, ◌≤◌, ◌<◌, None, IfSome, length, position, take, drop};
+ghost use Rattle.std.specs.List.{prefix_len};
 ghost use Rattle.vertexset.specs.Set.{has};
 ghost use Rattle.graph.specs.Limits.{max_edges};
-ghost use Rattle.search.specs.Code.{path_of, path_room, search_space};
+ghost use Rattle.search.specs.Code.{path_of, path_room};
 ghost use Rattle.construction.specs.Sets.{minus, set_of, members_from, reversed, place_of};
 ghost use Rattle.construction.specs.Steps.{state, extended, segment, off_link, up_to, link_step, turned, pair_place, beside_place, reroute, out_step, step, steps, add_edges, finish};
 ghost use Rattle.detours.specs.Code.{found_of, Kept, FlatShows};
-ghost use Rattle.stepping.specs.Code.{side_of, has_pair, put_between, put_between_end, state_in, Holds, Shows, built_in, Spans, AtWork, Works, Left};
+ghost use Rattle.stepping.specs.Code.{has_pair, put_between, put_between_end, state_in, Holds, Shows, built_in, Spans, AtWork, Works, Left};
 
 use detours::{Cut, Ears, Found};
 use graph::GraphTable;
 use search::{Reach, VertexList};
 use vertexset::VertexSet;
 
-// The paths of a build, a stop before each; where a cut was met, those that were there by then.
+// The paths of a build, a stop before each; where a cut was met, those that were there by then: `build` promises them beside the cut, so this is no
+// Result.
 #[derive(Clone, Copy)]
 pub struct Built {
     pub flat: [u16; Ears::ROOM],
@@ -33,11 +35,12 @@ struct Progress {
     len: usize,
     // no inner vertex stands before this place
     at: usize,
+    // two fields, as the definition's State has them: a build ends at a cut, or without one once every vertex is in
     going: bool,
     cut: Cut,
 }
 
-// The link at work: its inner vertices, and the places from the first of them up to behind the last; none where `first` is not below `end`.
+// A link at work: the places from the first of its inner vertices up to behind the last, and the set of them.
 #[derive(Clone, Copy)]
 struct Work {
     first: usize,
@@ -49,82 +52,55 @@ struct Work {
 #[derive(Clone, Copy)]
 struct Stepped {
     progress: Progress,
-    work: Work,
+    work: Option<Work>,
 }
 
-// The first place from here on with a member of the set, or with none.
-fn place_of(list: &[u16], set: VertexSet, inside: bool, from: usize) -> usize
-    ensures { result ≡ from + place_of (side_of set inside) (drop from list.now) }
-{
-    let mut i = from;
-    while i < list.len() {
-        if set.contains(list[i]) == inside {
-            return i;
-        }
-        i += 1;
-    }
-    i
-}
-
-// One less, but not below 0.
-fn before(i: usize) -> usize
-    ensures { result ≡ i - 1 }
-{
-    if i == 0 {
-        return 0;
-    }
-    i - 1
-}
-
-// (a) From the two outermost inner vertices of the link at the places i - 1 to j to the rest of the build, without the link's ends.
+// (a) From the two outermost inner vertices of a link to the rest of the build, without the link's ends.
 fn off_link<'a>(
     rows: &'a [u64; GraphTable::ROW_WORDS],
-    space: &'a mut [u16],
+    space: &'a mut [u16; Reach::SPACE],
     list: &'a [u16],
     built: VertexSet,
-    inner: VertexSet,
-    i: usize,
-    j: usize,
+    w: Work,
 ) -> Found
-    requires { (length space.old ≡ search_space) × (inner ≡ set_of (segment list.now i j)) }
-    ensures { result ≡ found_of (off_link rows.now (state list.now built built 0) i j) }
+    requires { w.link ≡ set_of (segment list.now w.first w.end) }
+    ensures { result ≡ found_of (off_link rows.now (state list.now built built 0) w.first w.end) }
 {
     let ends = detours::pair(
-        detours::number_at(list, before(i)),
-        detours::number_at(list, j),
+        detours::number_at(list, w.first.saturating_sub(1)),
+        detours::number_at(list, w.end),
     );
     let seeds = detours::pair(
-        detours::number_at(list, i),
-        detours::number_at(list, before(j)),
+        detours::number_at(list, w.first),
+        detours::number_at(list, w.end.saturating_sub(1)),
     );
-    detours::find(rows, space, seeds, built.minus(inner).minus(ends), ends)
+    detours::find(rows, space, seeds, built.minus(w.link).minus(ends), ends)
+}
+
+// The place of the first vertex in the set.
+fn place_of(list: &[u16], set: VertexSet) -> Option<usize>
+    ensures { result ≡ position (has set.words) list.now }
+{
+    list.iter().position(|v| set.contains(*v))
 }
 
 // A path up to its first vertex in the set; all where none is.
 fn up_to<'a>(path: &'a [u16], set: VertexSet) -> &'a [u16]
     ensures { result.now ≡ up_to set path.now }
 {
-    let k = place_of(path, set, true, 0);
-    if k < path.len() {
-        return &path[0..k + 1];
+    match place_of(path, set) {
+        Some(k) => &path[..=k],
+        None => path,
     }
-    path
 }
 
 fn stopped(b: Progress, c: Cut) -> Progress
     ensures { result ≡ record { branch = b.branch; built = b.built; near = b.near; len = b.len; at = b.at; going = false; cut = c } }
 {
-    let branch = b.branch;
-    let built = b.built;
-    let near = b.near;
     Progress {
-        branch,
-        built,
-        near,
-        len: b.len,
-        at: b.at,
         going: false,
         cut: c,
+        ..b
     }
 }
 
@@ -140,15 +116,13 @@ fn extend<'a>(
     ensures { Shows rows.now flat.new result (extended (state_in flat.old b) path.now at) }
 {
     let len = detours::add_path(flat, b.len, path);
-    let branch = b.branch;
-    let built = b.built;
-    let near = b.near;
     Progress {
-        branch: branch
+        branch: b
+            .branch
             .insert(detours::number_at(path, 0))
             .insert(detours::last_of(path)),
-        built: detours::with_all(built, path),
-        near: detours::near_all(rows, near, path),
+        built: detours::with_all(b.built, path),
+        near: detours::near_all(rows, b.near, path),
         len,
         at,
         going: true,
@@ -156,121 +130,101 @@ fn extend<'a>(
     }
 }
 
-fn no_work() -> Work
-    ensures { result.end ≤ result.first }
+// How many vertices at the front are in the set.
+fn run_len(list: &[u16], set: VertexSet) -> usize
+    ensures value { result ≡ prefix_len (has set.words) list.now }
+    ensures bound { result ≤ length list.now }
 {
-    Work {
-        first: 0,
-        end: 0,
-        link: VertexSet::empty(),
-    }
+    list.iter().take_while(|v| set.contains(**v)).count()
 }
 
-// The place behind the members of a set from here on, and these members.
-fn span(list: &[u16], set: VertexSet, from: usize) -> Work
-    ensures { (result.first ≡ from) × Spans list.now set result }
+// The link that begins here: its inner vertices are the members of the set from here on.
+fn span(list: &[u16], set: VertexSet, first: usize) -> Work
+    requires { first ≤ length list.now }
+    ensures { (result.first ≡ first) × Spans list.now set result }
 {
-    let mut link = VertexSet::empty();
-    let mut i = from;
-    while i < list.len() {
-        let v = list[i];
-        if !set.contains(v) {
-            return Work {
-                first: from,
-                end: i,
-                link,
-            };
-        }
-        link = link.insert(v);
-        i += 1;
-    }
+    let end = first + run_len(&list[first..], set);
     Work {
-        first: from,
-        end: i,
-        link,
+        first,
+        end,
+        link: detours::with_all(VertexSet::empty(), &list[first..end]),
     }
 }
 
 // The link at work; where none is, the first one with inner vertices from here on, if there is one.
-fn at_work(list: &[u16], inner: VertexSet, at: usize, w: Work) -> Work
-    requires { AtWork list.now inner at w }
+fn at_work(list: &[u16], inner: VertexSet, at: usize, work: Option<Work>) -> Option<Work>
+    requires { AtWork list.now inner at work }
     ensures at_work { AtWork list.now inner at result }
-    ensures list_len_bound { (result.end ≤ result.first) → (length list.now ≤ at + place_of (has inner.words) (drop at list.now)) }
+    ensures list_len_bound { (result ≡ None) → (length list.now ≤ at + place_of (has inner.words) (drop at list.now)) }
 {
-    if w.first < w.end {
-        return w;
+    if work.is_some() {
+        return work;
     }
     if inner.is_empty() {
-        return w;
+        return None;
     }
-    span(list, inner, place_of(list, inner, true, at))
+    let k = place_of(list.get(at..)?, inner)?;
+    Some(span(list, inner, at + k))
 }
 
-// What is left of the link at work when its inner vertex x becomes a branch vertex. Where x is neither its first nor its last one, none is at work.
-// Nor is one where a vertex stands twice in it, or no branch vertex behind it: a build has no such link, but that is nothing that the steps know.
-fn work_left(list: &[u16], branch: VertexSet, w: Work, x: u16) -> Work
+// What is left of the link at work when its inner vertex x becomes a branch vertex. Where x is its only one, or neither its first nor its last one,
+// none is at work. Nor is one where a vertex stands twice in it, or no branch vertex behind it: a build has no such link, but that is nothing that
+// the steps know.
+fn work_left(list: &[u16], branch: VertexSet, w: Work, x: u16) -> Option<Work>
     requires { w.first < w.end }
-    ensures { (result.end ≤ result.first) ⊎ Left list.now branch w x result }
+    ensures { IfSome result (Left list.now branch w x) }
 {
     let i = w.first;
     let j = w.end;
-    let inner = w.link;
-    if list.len() <= j {
-        return no_work();
+    if list.len() <= j || !branch.contains(list[j]) {
+        return None;
     }
-    if !branch.contains(list[j]) {
-        return no_work();
+    if w.link.size() as usize != j - i || j == i + 1 {
+        return None;
     }
-    if inner.size() as usize != j - i {
-        return no_work();
-    }
-    let link = inner.minus(detours::single(x));
+    let link = w.link.minus(detours::single(x));
     if x == list[i] {
-        return Work {
+        return Some(Work {
             first: i + 1,
             end: j,
             link,
-        };
+        });
     }
     if x == list[j - 1] {
-        return Work {
+        return Some(Work {
             first: i,
             end: j - 1,
             link,
-        };
+        });
     }
-    no_work()
+    None
 }
 
 // A path from inside the link at work.
 fn link_step<'a>(
     rows: &'a [u64; GraphTable::ROW_WORDS],
-    space: &'a mut [u16],
+    space: &'a mut [u16; Reach::SPACE],
     flat: &'a mut [u16],
     b: Progress,
     w: Work,
 ) -> Stepped
-    requires { (length space.old ≡ search_space) × (Holds rows.now flat.old b × ((w.first < w.end) × Spans (take b.len flat.old) (minus b.built b.branch) w)) }
+    requires { Holds rows.now flat.old b × ((w.first < w.end) × Spans (take b.len flat.old) (minus b.built b.branch) w) }
     ensures shows { Shows rows.now flat.new result.progress (link_step rows.now (state_in flat.old b) w.first) }
     ensures works { Works (state_in flat.new result.progress) result.work }
 {
-    let len = b.len;
-    let built = b.built;
-    let branch = b.branch;
-    let inner = w.link;
-    let i = w.first;
-    let list = &flat[0..len];
-    let f = off_link(rows, space, list, built, inner, i, w.end);
-    let c = f.cut;
-    if c.is_cut() {
-        return Stepped {
-            progress: stopped(b, c),
-            work: no_work(),
-        };
-    }
-    let path = up_to(detours::front(&f.path.vertices, f.path.count), inner);
-    let work = work_left(list, branch, w, detours::last_of(path));
-    let progress = extend(rows, flat, b, path, i);
+    let list = &flat[..b.len];
+    let found = match off_link(rows, space, list, b.built, w) {
+        Ok(found) => found,
+        Err(cut) => {
+            return Stepped {
+                progress: stopped(b, cut),
+                work: None,
+            };
+        }
+    };
+    let path = up_to(found.as_slice(), w.link);
+    let work = work_left(list, b.branch, w, detours::last_of(path));
+    let progress = extend(rows, flat, b, path, w.first);
     Stepped { progress, work }
 }
 
@@ -279,12 +233,10 @@ fn has_pair(list: &[u16], x: u16, y: u16) -> bool
     ensures { result ≡ has_pair x y list.now }
 {
     let mut hit = false;
-    let mut i = 1;
-    while i < list.len() {
+    for i in 1..list.len() {
         let a = list[i - 1];
         let b = list[i];
-        hit = hit | (((a == x) & (b == y)) | ((a == y) & (b == x)));
-        i += 1;
+        hit |= ((a == x) & (b == y)) | ((a == y) & (b == x));
     }
     hit
 }
@@ -294,31 +246,27 @@ fn pair_from(list: &[u16], x: u16, y: u16, from: usize) -> usize
     requires { from ≤ length list.now }
     ensures { result ≡ from + pair_place x y (drop from list.now) }
 {
-    let mut i = from;
-    while i + 1 < list.len() {
-        let a = list[i];
-        let b = list[i + 1];
+    for i in from + 1..list.len() {
+        let a = list[i - 1];
+        let b = list[i];
         if ((a == x) & (b == y)) | ((a == y) & (b == x)) {
-            return i;
+            return i - 1;
         }
-        i += 1;
     }
     list.len()
 }
 
-// The first place at which two vertices stand side by side, or the length; 32 places without them are passed over at once.
+// The first place at which two vertices stand side by side, or the length; 32 places without them are passed over at once. A part of fewer is
+// looked at place by place: with parts of any length the compiler makes slower code (1.06 times the time for a certificate of a 3-tree).
 fn pair_place(list: &[u16], x: u16, y: u16) -> usize
     ensures { result ≡ pair_place x y list.now }
 {
-    let mut i = 0;
-    while 32 < list.len() - i {
-        let end = i + 33;
-        if has_pair(&list[i..end], x, y) {
+    for i in (0..list.len()).step_by(32) {
+        if list.len() - i < 33 || has_pair(&list[i..i + 33], x, y) {
             return pair_from(list, x, y, i);
         }
-        i += 32;
     }
-    pair_from(list, x, y, i)
+    list.len()
 }
 
 // Where two vertices stand side by side on a path, or the length; only where an edge joins them can they.
@@ -331,55 +279,22 @@ fn beside<'a>(rows: &'a [u64; GraphTable::ROW_WORDS], list: &'a [u16], x: u16, y
     list.len()
 }
 
-fn copied(list: &[u16]) -> VertexList
-    requires { length list.now ≤ path_room }
-    ensures { result ≡ path_of list.now }
-{
-    let mut vertices = [0u16; VertexList::ROOM];
-    let count = search::put_all(&mut vertices, 0, list);
-    VertexList { vertices, count }
-}
-
-fn reversed(list: &[u16]) -> VertexList
-    requires { length list.now ≤ path_room }
-    ensures { result ≡ path_of (reversed list.now) }
-{
-    let mut vertices = [0u16; VertexList::ROOM];
-    let mut count = 0;
-    let mut i = list.len();
-    while 0 < i {
-        i -= 1;
-        vertices[count] = list[i];
-        count += 1;
-    }
-    VertexList { vertices, count }
-}
-
 // The inner vertices of a path in the direction in which it leaves z, one of its ends.
 fn turned(path: &[u16], z: u16) -> VertexList
     requires { length path.now ≤ path_room }
     ensures { result ≡ path_of (turned path.now z) }
 {
-    let k = path.len();
-    if k < 2 {
-        return detours::no_path();
+    let mut inner = VertexList::new();
+    if path.len() < 2 {
+        return inner;
     }
-    if z == path[0] {
-        return copied(&path[1..k - 1]);
+    inner
+        .try_extend_from_slice(&path[1..path.len() - 1])
+        .unwrap();
+    if z != path[0] {
+        inner.reverse();
     }
-    reversed(&path[1..k - 1])
-}
-
-// Numbers from a place on move up.
-fn shift(flat: &mut [u16], len: usize, k: usize, by: usize)
-    requires { (k ≤ len) × (len + by ≤ length flat.old) }
-    ensures { flat.new ≡ take (k + by) flat.old ++ (take (len - k) (drop k flat.old) ++ drop (len + by) flat.old) }
-{
-    let mut i = len;
-    while k < i {
-        i -= 1;
-        flat[i + by] = flat[i];
-    }
+    inner
 }
 
 // A list is put in at a place.
@@ -391,7 +306,7 @@ fn put_between<'a>(flat: &'a mut [u16], len: usize, k: usize, new: &'a [u16]) ->
     if flat.len() - len < new.len() {
         return len;
     }
-    shift(flat, len, k, new.len());
+    flat.copy_within(k..len, k + new.len());
     search::put_all(flat, k, new);
     len + new.len()
 }
@@ -408,102 +323,91 @@ fn reroute<'a>(
     ensures { Shows rows.now flat.new result (reroute (state_in flat.old b) path.now k) }
 {
     let new = turned(path, flat[k]);
-    let len = put_between(flat, b.len, k + 1, detours::front(&new.vertices, new.count));
-    let branch = b.branch;
-    let built = b.built;
-    let near = b.near;
+    let len = put_between(flat, b.len, k + 1, new.as_slice());
     Progress {
-        branch,
-        built: detours::with_all(built, path),
-        near: detours::near_all(rows, near, path),
+        built: detours::with_all(b.built, path),
+        near: detours::near_all(rows, b.near, path),
         len,
         at: k + 1,
         going: true,
         cut: Cut::none(),
+        ..b
     }
 }
 
 // (b) Out of the build and back; or every vertex is in.
 fn out_step<'a>(
     rows: &'a [u64; GraphTable::ROW_WORDS],
-    space: &'a mut [u16],
+    space: &'a mut [u16; Reach::SPACE],
     full: VertexSet,
     flat: &'a mut [u16],
     b: Progress,
 ) -> Progress
-    requires { (length space.old ≡ search_space) × Holds rows.now flat.old b }
+    requires { Holds rows.now flat.old b }
     ensures { Shows rows.now flat.new result (out_step rows.now full (state_in flat.old b)) }
 {
-    let built = b.built;
-    if full.minus(built).is_empty() {
+    if full.minus(b.built).is_empty() {
         return stopped(b, Cut::none());
     }
-    let f = detours::detour(rows, space, b.near, built);
-    let c = f.cut;
-    if c.is_cut() {
-        return stopped(b, c);
-    }
-    let path = detours::front(&f.path.vertices, f.path.count);
-    let len = b.len;
+    let found = match detours::detour(rows, space, b.near, b.built) {
+        Ok(found) => found,
+        Err(cut) => return stopped(b, cut),
+    };
+    let path = found.as_slice();
     let k = beside(
         rows,
-        &flat[0..len],
+        &flat[..b.len],
         detours::last_of(path),
         detours::number_at(path, 0),
     );
-    if k < len {
+    if k < b.len {
         return reroute(rows, flat, b, path, k);
     }
-    extend(rows, flat, b, path, len)
+    extend(rows, flat, b, path, b.len)
 }
 
 // One step: (a) where an inner vertex is left, else (b).
 fn step<'a>(
     rows: &'a [u64; GraphTable::ROW_WORDS],
-    space: &'a mut [u16],
+    space: &'a mut [u16; Reach::SPACE],
     full: VertexSet,
     flat: &'a mut [u16],
     s: Stepped,
 ) -> Stepped
-    requires { (length space.old ≡ search_space) × (Holds rows.now flat.old s.progress × Works (state_in flat.old s.progress) s.work) }
+    requires { Holds rows.now flat.old s.progress × Works (state_in flat.old s.progress) s.work }
     ensures shows { Shows rows.now flat.new result.progress (step rows.now full (state_in flat.old s.progress)) }
     ensures works { Works (state_in flat.new result.progress) result.work }
 {
     let b = s.progress;
-    let w = s.work;
-    let len = b.len;
-    let built = b.built;
-    let branch = b.branch;
-    let work = at_work(&flat[0..len], built.minus(branch), b.at, w);
-    if work.first < work.end {
-        return link_step(rows, space, flat, b, work);
+    match at_work(&flat[..b.len], b.built.minus(b.branch), b.at, s.work) {
+        Some(w) => link_step(rows, space, flat, b, w),
+        None => Stepped {
+            progress: out_step(rows, space, full, flat, b),
+            work: None,
+        },
     }
-    let progress = out_step(rows, space, full, flat, b);
-    Stepped { progress, work }
 }
 
 // Steps until none is left.
 fn all_steps<'a>(
     rows: &'a [u64; GraphTable::ROW_WORDS],
-    space: &'a mut [u16],
+    space: &'a mut [u16; Reach::SPACE],
     full: VertexSet,
     flat: &'a mut [u16],
     first: Progress,
 ) -> Progress
-    requires { (length space.old ≡ search_space) × Holds rows.now flat.old first }
+    requires { Holds rows.now flat.old first }
     ensures { Shows rows.now flat.new result (steps rows.now full (max_edges + 1) (state_in flat.old first)) }
 {
     let mut s = Stepped {
         progress: first,
-        work: no_work(),
+        work: None,
     };
-    let mut left = GraphTable::MAX_EDGES + 1;
-    while 0 < left {
+    for _ in 0..=GraphTable::MAX_EDGES {
         if !s.progress.going {
             return s.progress;
         }
         s = step(rows, space, full, flat, s);
-        left -= 1;
     }
     s.progress
 }
@@ -515,6 +419,7 @@ fn add_edges(flat: &mut [u16], from: usize, u: u16, set: VertexSet) -> usize
 {
     let mut len = from;
     let mut edge = [u, 0];
+    // a walk through a set takes one step for each member and word
     let mut walk = set.walk_from(u + 1);
     while walk.going() {
         let here = walk;
@@ -538,13 +443,11 @@ fn finish<'a>(
     ensures { FlatShows flat.new result (finish rows.now n (take from flat.old)) }
 {
     let mut table = [0u64; GraphTable::ROW_WORDS];
-    detours::mark(&mut table, &flat[0..from]);
+    detours::mark(&mut table, &flat[..from]);
     let mut len = from;
-    let mut u: u16 = 0;
-    while u < n {
+    for u in 0..n {
         let left = graph::row(rows, u).minus(graph::row(&table, u));
         len = add_edges(flat, len, u, left);
-        u += 1;
     }
     len
 }
@@ -565,8 +468,8 @@ pub fn build<'a>(
     let len = search::put_all(&mut flat, 0, list);
     let first = Progress {
         branch: four,
-        built: detours::with_all(VertexSet::empty(), &flat[0..len]),
-        near: detours::near_all(rows, VertexSet::empty(), &flat[0..len]),
+        built: detours::with_all(VertexSet::empty(), &flat[..len]),
+        near: detours::near_all(rows, VertexSet::empty(), &flat[..len]),
         len,
         at: 0,
         going: true,
@@ -575,17 +478,10 @@ pub fn build<'a>(
     let mut space = [0u16; Reach::SPACE];
     let b = all_steps(rows, &mut space, full, &mut flat, first);
     let cut = b.cut;
-    if cut.is_cut() {
-        return Built {
-            flat,
-            len: b.len,
-            cut,
-        };
-    }
-    let end = finish(rows, n, &mut flat, b.len);
-    Built {
-        flat,
-        len: end,
-        cut,
-    }
+    let len = if cut.is_cut() {
+        b.len
+    } else {
+        finish(rows, n, &mut flat, b.len)
+    };
+    Built { flat, len, cut }
 }

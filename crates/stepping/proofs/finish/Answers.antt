@@ -1,11 +1,7 @@
 -- `stepping::finish` meets its contract: the paths so far, with the edges of the vertices that are left, are the whole. Assumes nothing.
 
-use Prim.Native.Nat.{ℕ, ◌-◌}
-use mathlib.Core.Path.{◌≡◌, sym, ap, ◌∙◌}
+use mathlib.Core.Path.{sym, ◌∙◌}
 use native.Mathlib.Omega.{arith}
-use lib.ListN.{take}
-use Rattle.graph.specs.Rows.{bare_rows}
-use Rattle.construction.specs.Start.{marked}
 use Rattle.detours.proofs.Filled.{filled_length, flat_kept, kept_flat}
 use Rattle.stepping.proofs.Edges.{rows_start, rows_turn, rows_end}
 use Rattle.stepping.proofs.finish.Goals as goal
@@ -15,8 +11,7 @@ slice_bounds-mark-end c = omega (arith, c.requires.1, filled_length (kept_flat c
 
 pub loop-u-init : goal.loop-u-init
 loop-u-init c = let a = c.args in
-    let z : a.from - 0 ≡ a.from = omega arith in
-    rows_start a.rows.now a.n a.flat.now a.from c.requires (c.mark.ensures ∙ ap (λ (k : ℕ). marked bare_rows (take k a.flat.now)) z)
+    rows_start a.rows.now a.n a.flat.now a.from c.requires c.mark.ensures
 
 pub add_edges-len-requires : goal.add_edges-len-requires
 add_edges-len-requires c = (flat_kept c.loop-u.invariant.front, omega (arith, c.loop-u-test.true))

@@ -5,27 +5,23 @@ use mathlib.Core.Path.{◌≡◌, refl, sym, ap, ◌∙◌}
 use mathlib.Core.Bool.{Bool, ◌||◌, or-false, or_assoc}
 use native.Mathlib.Omega.{arith}
 use lib.ListN.{drop, get_or}
-use borrow.Author.Rules.{rules}
 use Rattle.stepping.specs.Code.{has_pair}
 use Rattle.stepping.proofs.Lists.{two_are}
 use Rattle.stepping.proofs.Pairs.{has-turn, has_end}
 use Rattle.stepping.proofs.has_pair.Goals as goal
 
 pub loop-i-init : goal.loop-i-init
-loop-i-init c = (search rules, refl)
+loop-i-init c = refl
 
 pub loop-i-preserved : goal.loop-i-preserved
 loop-i-preserved c = let l = c.loop-i in
     let a = c.args in
     let list = a.list.now in
     let z : l.i + 1 - 1 ≡ l.i = omega arith in
-    let k : l.i - 1 + 1 ≡ l.i = omega arith in
-    let e = has-turn a.x a.y list (l.i - 1) (omega arith) in
     let both = two_are a.x a.y (get_or list (l.i - 1) 0) (get_or list l.i 0) in
-    let f : has_pair a.x a.y (drop (l.i - 1) list) ≡ (both || has_pair a.x a.y (drop l.i list)) = rw k at e in
-    (search rules, rw z (or_assoc l.hit both (has_pair a.x a.y (drop l.i list)) ∙ ap (λ (b : Bool). l.hit || b) (sym f) ∙ l.invariant.1))
+    rw z (or_assoc l.hit both (has_pair a.x a.y (drop l.i list)) ∙ ap (λ (b : Bool). l.hit || b) (sym (has-turn a.x a.y list (l.i - 1) l.i (omega arith) c.loop-i-test.true)) ∙ l.invariant)
 
 pub returns : goal.returns
 returns c = let l = c.loop-i in
     let a = c.args in
-    sym (ap (λ (b : Bool). l.hit || b) (has_end a.x a.y a.list.now (l.i - 1) (omega arith)) ∙ or-false l.hit) ∙ l.invariant.1
+    sym (ap (λ (b : Bool). l.hit || b) (has_end a.x a.y a.list.now (l.i - 1) l.i (omega arith) c.loop-i-test.false) ∙ or-false l.hit) ∙ l.invariant

@@ -1,12 +1,9 @@
-use Prim.Native.Nat.{◌-◌, ◌≤◌}
+use Prim.Native.Nat.{◌-◌}
 use mathlib.Core.Path.{◌≡◌}
 use mathlib.Core.Bool.{◌||◌}
-use lib.ListN.{length, drop}
+use lib.ListN.{drop}
 use Rattle.stepping.specs.Code.{has_pair}
 use Rattle.stepping.proofs.has_pair.Given as goal
 
 abbrev pub invariant-loop-i : goal.invariant-loop-i
-invariant-loop-i l = (1 ≤ l.i) × ((l.hit || has_pair l.x l.y (drop (l.i - 1) l.list)) ≡ has_pair l.x l.y l.list)
-
-abbrev pub decreases-loop-i : goal.decreases-loop-i
-decreases-loop-i l = length l.list - l.i
+invariant-loop-i l = (l.hit || has_pair l.x l.y (drop (l.i - 1) l.list)) ≡ has_pair l.x l.y l.list

@@ -2,6 +2,7 @@
 
 use mathlib.Core.Path.{ap, ◌∙◌}
 use mathlib.Core.List.{[]}
+use borrow.Author.Rules.{rules}
 use Rattle.construction.specs.Search.{explore}
 use Rattle.detours.specs.Code.{found_of}
 use Rattle.detours.proofs.Answered.{answered-told}
@@ -10,7 +11,7 @@ use Rattle.stepping.proofs.off_link.Goals as goal
 
 pub returns : goal.returns
 returns c = let a = c.args in
-    answered-told a.space.now c.requires.0 (explore a.rows.now c.pair-seeds.result c.minus-2.result c.pair-ends.result) c.pair-ends.result [] c.find.ensures.value
+    answered-told a.space.now (search rules) (explore a.rows.now c.pair-seeds.result c.minus-2.result c.pair-ends.result) c.pair-ends.result [] c.find.ensures.value
     ∙ ap found_of
-    (off_found a.rows.now a.list.now a.built a.i a.j c.before-2.ensures c.number_at.ensures c.number_at-2.ensures c.pair-ends.ensures
-    c.number_at-3.ensures c.before-3.ensures c.number_at-4.ensures c.pair-seeds.ensures c.requires.1 c.minus.ensures c.minus-2.ensures)
+    (off_found a.rows.now a.list.now a.built a.w.first a.w.end c.saturating_sub.ensures c.number_at.ensures c.number_at-2.ensures c.pair-ends.ensures
+    c.number_at-3.ensures c.saturating_sub-2.ensures c.number_at-4.ensures c.pair-seeds.ensures c.requires c.minus.ensures c.minus-2.ensures)

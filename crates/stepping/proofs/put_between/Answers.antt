@@ -15,5 +15,4 @@ returns-then-flat-len c = let rest = let a = c.args in between_none a.flat.now a
 pub returns : goal.returns
 returns c = let a = c.args in
     let k = c.requires in
-    let s = c.shift in
-    let room : a.len + length a.new.now ≤ length a.flat.now = omega arith in record { flat_after = c.put_all.ensures.after ∙ ap (λ (l : List ℕ). placed l a.k a.new.now) s.ensures ∙ between_done a.flat.now a.len a.k a.new.now k.0 room; value = between-end a.flat.now a.len a.k a.new.now room }
+    let room : a.len + length a.new.now ≤ length a.flat.now = omega arith in record { flat_after = c.put_all.ensures.after ∙ ap (λ (l : List ℕ). placed l a.k a.new.now) c.copy_within.ensures.after ∙ between_done a.flat.now a.len a.k a.new.now k.0 room; value = between-end a.flat.now a.len a.k a.new.now room }
