@@ -8,14 +8,14 @@ use Rattle.search.specs.Code.{path_room}
 use Rattle.construction.specs.Sets.{stop}
 use Rattle.construction.specs.Ears.{path_space, add_path}
 use Rattle.construction.specs.Start.{marked, three_paths}
-use Rattle.detours.proofs.Filled.{Put, Filled, filled_length, filled_take, filled_added, filled_put, filled_none}
+use Rattle.detours.proofs.Filled.{Put, Filled, filled_take, filled_added, filled_put, filled_none}
 
-pub filled_zero : (room : ℕ) → 0 < room → Filled room (replicate room 0) 1 (0 ∷ [])
+filled_zero : (room : ℕ) → 0 < room → Filled room (replicate room 0) 1 (0 ∷ [])
 filled_zero zero h = absurd (omega arith)
 filled_zero (suc room) h = record { array = let z : suc room - 1 ≡ room = omega arith in rw z; short = omega arith; size = refl }
 
 -- the cycle, closed, in an array of its own
-pub closed_filled : (around : List ℕ) → length around ≤ path_room → {out : List ℕ} {end : ℕ} → Put (replicate (path_room + 1) 0) 1 out end around → Filled (path_room + 1) out end (0 ∷ around)
+closed_filled : (around : List ℕ) → length around ≤ path_room → {out : List ℕ} {end : ℕ} → Put (replicate (path_room + 1) 0) 1 out end around → Filled (path_room + 1) out end (0 ∷ around)
 closed_filled around h p = filled_put (filled_zero (path_room + 1) (omega arith)) around (omega arith) p.0 p.1
 
 module _ (around third across : List ℕ) (h : length around ≤ path_room) {closed a b flat : List ℕ} {k at bt len : ℕ} (p : Put (replicate (path_room + 1) 0) 1 closed k around)
@@ -27,9 +27,6 @@ module _ (around third across : List ℕ) (h : length around ≤ path_room) {clo
   three_filled =
       let f : Filled path_space a at (add_path [] (0 ∷ around)) = subst (λ (l : List ℕ). Filled path_space a at (add_path [] l)) closed_take (filled_added (filled_none path_space) (stop ∷ take (k - 0) closed) q.0 q.1) in
       filled_added (filled_added f (stop ∷ third) r.0 r.1) (stop ∷ across) s.0 s.1
-
-  pub three_room : len ≤ length flat
-  three_room = let f = three_filled in omega (arith, f.size, f.short, filled_length f)
 
   pub three_marked : (table : List ℕ) → marked table (take (len - 0) flat) ≡ marked table (three_paths around third across)
   three_marked table = let z : len - 0 ≡ len = omega arith in ap (marked table) (rw z (filled_take three_filled))

@@ -1,21 +1,25 @@
 -- The start's three searches; the first asks for three neighbours of vertex 0. Assumes nothing.
 use Prim.Native.Nat.{ℕ, ◌≤◌, ◌<◌}
-use mathlib.Core.Path.{◌≡◌, sym, ap, subst, ◌∙◌}
-use mathlib.Core.Bool.{Bool, true, false}
+use mathlib.Core.Path.{◌≡◌, refl, ap, ◌∙◌}
+use mathlib.Core.Bool.{true, cond}
 use mathlib.Core.List.{List, [], ◌∷◌}
-use lib.ListN.{length, get_or}
+use lib.ListN.{get_or}
 use borrow.Author.Tests.{lt-ltb, le-ltb}
-use Rattle.vertexset.specs.Set.{empty_set, count}
+use Rattle.std.specs.Prelude.{Ok, Err}
+use Rattle.arrayvec.specs.ArrayVec.{ArrayVec}
+use Rattle.vertexset.specs.Set.{none, empty_set, count}
 use Rattle.vertexset.specs.declared.VertexSet.{VertexSet}
 use Rattle.graph.specs.Rows.{row_of}
-use Rattle.search.specs.Code.{path_room}
 use Rattle.construction.specs.Sets.{minus, single, pair, set_with_all, least}
 use Rattle.construction.specs.Search.{explore}
-use Rattle.construction.specs.Ears.{cut, is_cut, answered, cycle}
-use Rattle.construction.specs.Start.{broken, third_path, across, start_on, crossed, thirded, around, begin}
-use Rattle.detours.specs.Code.{cut_in, found_of}
-use Rattle.detours.specs.declared.Found.{Found}
-use Rattle.detours.proofs.Earing.{path_part, part_is, cycle-short, stage_cut, stage_on}
+use Rattle.construction.specs.Ears as construction
+use Rattle.construction.specs.Ears.{is_cut, answered, cycle}
+use Rattle.construction.specs.Start.{Begun, begun, broken, third_path, across, start_on, crossed, thirded, around, begin}
+use Rattle.detours.specs.Code.{cut_of, found_of}
+use Rattle.detours.specs.declared.Cut.{Cut}
+use Rattle.detours.proofs.Answered.{ok_test, ok_path, err_test, err_cut}
+use Rattle.starting.specs.Code.{paths_of, start_of}
+use Rattle.starting.specs.declared.Start.{Start}
 
 -- ---- a third path, and a path across
 
@@ -31,38 +35,53 @@ across-found rows around third ends seeds goals one two bare none b p q r s t u 
 
 -- ---- where a search fails its cut is the start's, else its path goes on
 
-module _ (rows around third : List ℕ) (f : Found) (e : f ≡ found_of (across rows around third)) {y : Bool} (t : y ≡ is_cut (cut_in f.cut)) where
-  pub across-cut : y ≡ true → broken (cut_in f.cut) ≡ crossed around third (across rows around third)
-  across-cut h = stage_cut broken (start_on around third) f (across rows around third) e t h
+-- what the definition calls broken is a cut
+broken_is : {x : construction.Cut} → is_cut x ≡ true → {c : Cut} → c ≡ cut_of x → Err c ≡ start_of (broken x)
+broken_is t e = rw t (ap Err e)
 
-  pub across-on : y ≡ false → {l : List ℕ} → l ≡ path_part f → start_on around third l ≡ crossed around third (across rows around third)
-  across-on h q = stage_on broken (start_on around third) f (across rows around third) e t h q
+-- and a start is none
+begun_is : (four : VertexSet) (flat : List ℕ) → Ok (paths_of (begun four flat)) ≡ start_of (begun four flat)
+unfolding none
+begun_is four flat = refl
 
-module _ (rows around : List ℕ) (f : Found) (e : f ≡ found_of (third_path rows around)) {y : Bool} (t : y ≡ is_cut (cut_in f.cut)) where
-  pub third_cut : y ≡ true → broken (cut_in f.cut) ≡ thirded rows around (third_path rows around)
-  third_cut h = stage_cut broken (λ (p : List ℕ). crossed around p (across rows around p)) f (third_path rows around) e t h
+module _ (g : construction.Found) (rest : List ℕ → Begun) where
+  stage_cut : {c : Cut} → Err c ≡ found_of g → Err c ≡ start_of (cond (is_cut g.cut_by) (broken g.cut_by) (rest g.path))
+  stage_cut e =
+      let z : broken g.cut_by ≡ cond (is_cut g.cut_by) (broken g.cut_by) (rest g.path) = rw (err_test g e) in
+      broken_is (err_test g e) (err_cut g e) ∙ ap start_of z
 
-  pub third_on : y ≡ false → {l : List ℕ} → l ≡ path_part f → crossed around l (across rows around l) ≡ thirded rows around (third_path rows around)
-  third_on h q = stage_on broken (λ (p : List ℕ). crossed around p (across rows around p)) f (third_path rows around) e t h q
+  stage_on : {v : ArrayVec ℕ} → Ok v ≡ found_of g → rest v.items ≡ cond (is_cut g.cut_by) (broken g.cut_by) (rest g.path)
+  stage_on e = ap rest (ok_path g e) ∙ rw (ok_test g e)
 
 module _ (rows : List ℕ) (row : VertexSet) (e : row ≡ row_of rows 0) (n : ℕ) (k : n ≡ count row.words) where
   counted : n ≡ count (row_of rows 0).words
   counted = k ∙ ap (λ (s : VertexSet). count s.words) e
 
-  pub begin-few : (s : VertexSet) → s ≡ single 0 → n < 3 → broken (cut row s) ≡ begin rows
-  unfolding begin
+  pub begin-few : (s : VertexSet) → s ≡ single 0 → n < 3 → Err (record { removed = row; side = s }) ≡ start_of (begin rows)
+  unfolding begin none
   begin-few s z h = rw (← counted, lt-ltb n 3 h, e, z)
 
-  module _ (enough : 3 ≤ n) (f : Found) (q : f ≡ found_of (cycle rows)) {y : Bool} (t : y ≡ is_cut (cut_in f.cut)) where
+  module _ (enough : 3 ≤ n) where
     begin-on : around rows (cycle rows) ≡ begin rows
     unfolding begin
     begin-on = rw (← counted, le-ltb n 3 enough)
 
-    pub cycle-cut : y ≡ true → broken (cut_in f.cut) ≡ begin rows
-    cycle-cut h = stage_cut broken (λ (p : List ℕ). thirded rows p (third_path rows p)) f (cycle rows) q t h ∙ begin-on
+    pub cycle-cut : {c : Cut} → Err c ≡ found_of (cycle rows) → Err c ≡ start_of (begin rows)
+    cycle-cut q = stage_cut (cycle rows) (λ p. thirded rows p (third_path rows p)) q ∙ ap start_of begin-on
 
-    pub cycle-on : y ≡ false → {l : List ℕ} → l ≡ path_part f → thirded rows l (third_path rows l) ≡ begin rows
-    cycle-on h p = stage_on broken (λ (p : List ℕ). thirded rows p (third_path rows p)) f (cycle rows) q t h p ∙ begin-on
+    module _ {v : ArrayVec ℕ} (q : Ok v ≡ found_of (cycle rows)) where
+      thirded_is : thirded rows v.items (third_path rows v.items) ≡ begin rows
+      thirded_is = stage_on (cycle rows) (λ p. thirded rows p (third_path rows p)) q ∙ begin-on
 
-    pub cycle-low : {l : List ℕ} → l ≡ path_part f → length l ≤ path_room
-    cycle-low p = subst (λ (l : List ℕ). length l ≤ path_room) (sym (p ∙ part_is f (cycle rows) q)) (cycle-short rows)
+      pub third_cut : {c : Cut} → Err c ≡ found_of (third_path rows v.items) → Err c ≡ start_of (begin rows)
+      third_cut t = stage_cut (third_path rows v.items) (λ p. crossed v.items p (across rows v.items p)) t ∙ ap start_of thirded_is
+
+      module _ {w : ArrayVec ℕ} (t : Ok w ≡ found_of (third_path rows v.items)) where
+        crossed_is : crossed v.items w.items (across rows v.items w.items) ≡ begin rows
+        crossed_is = stage_on (third_path rows v.items) (λ p. crossed v.items p (across rows v.items p)) t ∙ thirded_is
+
+        pub across-cut : {c : Cut} → Err c ≡ found_of (across rows v.items w.items) → Err c ≡ start_of (begin rows)
+        across-cut y = stage_cut (across rows v.items w.items) (start_on v.items w.items) y ∙ ap start_of crossed_is
+
+        pub across-on : {x : ArrayVec ℕ} → Ok x ≡ found_of (across rows v.items w.items) → {s : Start} → s ≡ paths_of (start_on v.items w.items x.items) → Ok s ≡ start_of (begin rows)
+        across-on {x} y z = ap Ok z ∙ begun_is (start_on v.items w.items x.items).four (start_on v.items w.items x.items).flat ∙ ap start_of (stage_on (across rows v.items w.items) (start_on v.items w.items) y ∙ crossed_is)

@@ -1,35 +1,32 @@
 // The start of a build: a cycle through vertex 0, a third path, a path across; from these four branch vertices and six links.
 #![tactic(auto)]
 
-ghost use Rattle.std.specs.Prelude.{◌≡◌, ◌∷◌, ◌≤◌, length};
+ghost use Rattle.std.specs.Prelude.{◌≡◌, ◌∷◌};
 ghost use Rattle.search.specs.Arrays.{placed, placed_end};
-ghost use Rattle.search.specs.Code.{path_room, search_space};
 ghost use Rattle.construction.specs.Sets.{stop};
-ghost use Rattle.construction.specs.Start.{marked, link_in, sorted, three_paths, third_path, across, begun, broken, start_on, crossed, thirded, begin};
+ghost use Rattle.construction.specs.Start.{marked, link_in, sorted, three_paths, third_path, across, begun, start_on, begin};
 ghost use Rattle.detours.specs.Code.{found_of};
-ghost use Rattle.starting.specs.Code.{start_of};
+ghost use Rattle.starting.specs.Code.{paths_of, start_of};
 
 use detours::{Cut, Ears, Found};
 use graph::GraphTable;
 use search::{Reach, VertexList};
 use vertexset::VertexSet;
 
-// The four branch vertices and six paths of a start; or a cut.
+// The four branch vertices and six paths of a start.
 #[derive(Clone, Copy)]
 pub struct Start {
     pub four: VertexSet,
     pub flat: [u16; Ears::ROOM],
     pub len: usize,
-    pub cut: Cut,
 }
 
 // A third path from vertex 0 to the cycle through it.
 fn third_path<'a>(
     rows: &'a [u64; GraphTable::ROW_WORDS],
-    space: &'a mut [u16],
+    space: &'a mut [u16; Reach::SPACE],
     around: &'a [u16],
 ) -> Found
-    requires { length space.old ≡ search_space }
     ensures { result ≡ found_of (third_path rows.now around.now) }
 {
     let set = detours::with_all(VertexSet::empty(), around);
@@ -46,11 +43,10 @@ fn third_path<'a>(
 // A path from inside the third path across to the cycle.
 fn path_across<'a>(
     rows: &'a [u64; GraphTable::ROW_WORDS],
-    space: &'a mut [u16],
+    space: &'a mut [u16; Reach::SPACE],
     around: &'a [u16],
     third: &'a [u16],
 ) -> Found
-    requires { length space.old ≡ search_space }
     ensures { result ≡ found_of (across rows.now around.now third.now) }
 {
     let ends = detours::pair(0, detours::number_at(third, 0));
@@ -62,33 +58,31 @@ fn path_across<'a>(
 // Neighbours on the three paths are joined in a table.
 fn join_paths<'a>(
     table: &'a mut [u64; GraphTable::ROW_WORDS],
-    around: &'a [u16],
-    third: &'a [u16],
-    across: &'a [u16],
+    around: &'a VertexList,
+    third: &'a VertexList,
+    across: &'a VertexList,
 )
-    requires { length around.now ≤ path_room }
-    ensures { table.new ≡ marked table.old (three_paths around.now third.now across.now) }
+    ensures { table.new ≡ marked table.old (three_paths around.now.items third.now.items across.now.items) }
 {
-    let mut closed = [0u16; VertexList::ROOM + 1];
-    let k = search::put_all(&mut closed, 1, around);
+    let mut closed = [0u16; search::PATH_ROOM + 1];
+    let k = search::put_all(&mut closed, 1, around.as_slice());
     let mut flat = [0u16; Ears::ROOM];
     let first = detours::add_path(&mut flat, 0, &closed[0..k]);
-    let second = detours::add_path(&mut flat, first, third);
-    let len = detours::add_path(&mut flat, second, across);
+    let second = detours::add_path(&mut flat, first, third.as_slice());
+    let len = detours::add_path(&mut flat, second, across.as_slice());
     detours::mark(table, &flat[0..len]);
 }
 
 // The link between two branch vertices, behind the other links.
 fn add_link<'a>(
     table: &'a [u64; GraphTable::ROW_WORDS],
-    space: &'a mut [u16],
+    space: &'a mut [u16; Reach::SPACE],
     four: VertexSet,
-    flat: &'a mut [u16],
+    flat: &'a mut [u16; Ears::ROOM],
     len: usize,
     u: u16,
     w: u16,
 ) -> usize
-    requires { length space.old ≡ search_space }
     ensures flat_after { flat.new ≡ placed flat.old len (stop ∷ link_in table.now four u w) }
     ensures value { result ≡ placed_end flat.old len (stop ∷ link_in table.now four u w) }
 {
@@ -99,134 +93,63 @@ fn add_link<'a>(
         detours::single(u),
         four.minus(detours::pair(u, w)),
     );
-    let p = search::route(space, r);
-    detours::add_path(flat, len, detours::front(&p.vertices, p.count))
+    detours::add_path(flat, len, search::route(space, r).as_slice())
 }
 
 // The six links in the order of the record.
+#[tactic(auto, using(vertexset::proofs::Laws::next_low))]
 fn six_links<'a>(
     table: &'a [u64; GraphTable::ROW_WORDS],
-    space: &'a mut [u16],
+    space: &'a mut [u16; Reach::SPACE],
     four: VertexSet,
 ) -> Start
-    requires { length space.old ≡ search_space }
-    ensures { result ≡ start_of (begun four (sorted table.now four)) }
+    ensures { result ≡ paths_of (begun four (sorted table.now four)) }
 {
-    let mut flat = [0u16; Ears::ROOM];
     let p = four.next_from(0);
     let q = four.next_from(p + 1);
     let r = four.next_from(q + 1);
     let s = four.next_from(r + 1);
-    let mut len = add_link(table, space, four, &mut flat, 0, p, q);
-    len = add_link(table, space, four, &mut flat, len, p, r);
-    len = add_link(table, space, four, &mut flat, len, p, s);
-    len = add_link(table, space, four, &mut flat, len, q, r);
-    len = add_link(table, space, four, &mut flat, len, q, s);
-    len = add_link(table, space, four, &mut flat, len, r, s);
-    Start {
-        four,
-        flat,
-        len,
-        cut: Cut::none(),
+    let mut flat = [0u16; Ears::ROOM];
+    let mut len = 0;
+    for (u, w) in [(p, q), (p, r), (p, s), (q, r), (q, s), (r, s)] {
+        len = add_link(table, space, four, &mut flat, len, u, w);
     }
-}
-
-fn broken(c: Cut) -> Start
-    ensures { result ≡ start_of (broken (record { removed = c.removed; side = c.side })) }
-{
-    Start {
-        four: VertexSet::empty(),
-        flat: [0u16; Ears::ROOM],
-        len: 0,
-        cut: c,
-    }
+    Start { four, flat, len }
 }
 
 // The start on three paths.
 fn start_on<'a>(
-    space: &'a mut [u16],
-    around: &'a [u16],
-    third: &'a [u16],
-    across: &'a [u16],
+    space: &'a mut [u16; Reach::SPACE],
+    around: &'a VertexList,
+    third: &'a VertexList,
+    across: &'a VertexList,
 ) -> Start
-    requires { (length space.old ≡ search_space) × (length around.now ≤ path_room) }
-    ensures { result ≡ start_of (start_on around.now third.now across.now) }
+    ensures { result ≡ paths_of (start_on around.now.items third.now.items across.now.items) }
 {
-    let four = detours::pair(0, detours::number_at(third, 0))
-        .insert(detours::number_at(across, 0))
-        .insert(detours::last_of(across));
+    let four = detours::pair(0, detours::number_at(third.as_slice(), 0))
+        .insert(detours::number_at(across.as_slice(), 0))
+        .insert(detours::last_of(across.as_slice()));
     let mut table = [0u64; GraphTable::ROW_WORDS];
     join_paths(&mut table, around, third, across);
     six_links(&table, space, four)
 }
 
-// The start on a cycle and a third path, from a path across; or a cut.
-fn begin_across<'a>(
-    rows: &'a [u64; GraphTable::ROW_WORDS],
-    space: &'a mut [u16],
-    around: &'a [u16],
-    third: &'a [u16],
-) -> Start
-    requires { (length space.old ≡ search_space) × (length around.now ≤ path_room) }
-    ensures { result ≡ start_of (crossed around.now third.now (across rows.now around.now third.now)) }
-{
-    let f = path_across(rows, space, around, third);
-    let c = f.cut;
-    if c.is_cut() {
-        return broken(c);
-    }
-    start_on(
-        space,
-        around,
-        third,
-        detours::front(&f.path.vertices, f.path.count),
-    )
-}
-
-// The start on a cycle through vertex 0; or a cut.
-fn begin_around<'a>(
-    rows: &'a [u64; GraphTable::ROW_WORDS],
-    space: &'a mut [u16],
-    around: &'a [u16],
-) -> Start
-    requires { (length space.old ≡ search_space) × (length around.now ≤ path_room) }
-    ensures { result ≡ start_of (thirded rows.now around.now (third_path rows.now around.now)) }
-{
-    let f = third_path(rows, space, around);
-    let c = f.cut;
-    if c.is_cut() {
-        return broken(c);
-    }
-    begin_across(
-        rows,
-        space,
-        around,
-        detours::front(&f.path.vertices, f.path.count),
-    )
-}
-
 // THE START: four branch vertices and six links; or a cut. All searches share one space.
 // A call of its own: inlined, its locals would lie on the stack beside those of all callers.
 #[inline(never)]
-pub fn begin(rows: &[u64; GraphTable::ROW_WORDS]) -> Start
+pub fn begin(rows: &[u64; GraphTable::ROW_WORDS]) -> Result<Start, Cut>
     ensures { result ≡ start_of (begin rows.now) }
 {
     let row = graph::row(rows, 0);
     if row.size() < 3 {
-        return broken(Cut {
+        return Err(Cut {
             removed: row,
             side: detours::single(0),
         });
     }
     let mut space = [0u16; Reach::SPACE];
-    let f = detours::cycle(rows, &mut space);
-    let c = f.cut;
-    if c.is_cut() {
-        return broken(c);
-    }
-    begin_around(
-        rows,
-        &mut space,
-        detours::front(&f.path.vertices, f.path.count),
-    )
+    let around = detours::cycle(rows, &mut space)?;
+    let third = third_path(rows, &mut space, around.as_slice())?;
+    let across = path_across(rows, &mut space, around.as_slice(), third.as_slice())?;
+    Ok(start_on(&mut space, &around, &third, &across))
 }
