@@ -61,38 +61,33 @@ back-next n u v h =
     let w : suc u + (v - 1 - suc u) ≡ v - 1 = omega arith in
     ap (λ (k : ℕ). row_back u (suc u) k ++ rows_back n u) z ∙ ap (λ (b : ℕ). (u, b) ∷ pairs_back n u (v - 1)) w
 
--- u has no vertex left: the one below it comes
-back-row : (n u v : ℕ) → v ≤ u + 1 → 0 < u → pairs_back n u v ≡ pairs_back n (u - 1) n
-unfolding pairs_back row_back rows_back
-back-row n u v h l =
-    let z : v - suc u ≡ 0 = omega arith in
-    let w : u ≡ suc (u - 1) = omega arith in
-    ap (λ (k : ℕ). row_back u (suc u) k ++ rows_back n u) z ∙ ap (rows_back n) w
+-- u has no vertex left
+back-row : (n u v : ℕ) → v ≤ u + 1 → pairs_back n u v ≡ rows_back n u
+unfolding pairs_back row_back
+back-row n u v h = let z : v - suc u ≡ 0 = omega arith in ap (λ (k : ℕ). row_back u (suc u) k ++ rows_back n u) z
 
--- none is left
-back_end : (n u v : ℕ) → v ≤ u + 1 → u ≡ 0 → pairs_back n u v ≡ []
-unfolding pairs_back row_back rows_back
-back_end n u v h e =
-    let z : v - suc u ≡ 0 = omega arith in
-    ap (λ (k : ℕ). row_back u (suc u) k ++ rows_back n u) z ∙ ap (rows_back n) e
+-- .. and the one below it comes
+back_down : (n u : ℕ) → 0 < u → rows_back n u ≡ pairs_back n (u - 1) n
+unfolding pairs_back rows_back
+back_down n u l = let w : u ≡ suc (u - 1) = omega arith in ap (rows_back n) w
 
 -- the rows, with the pairs before (u, v) looked at, are those asked for
 pub record Striking (plan : List ℕ) (n : ℕ) (done work : List ℕ) (u v : ℕ) : Type 0 where
   pub behind : folded (struck_by plan) work (pairs_back n u v) ≡ done
-  pub beside : u ≤ v
-  pub within : v ≤ n
 
 module _ {plan : List ℕ} {n : ℕ} where
   pub strike_start : {work : List ℕ} → Striking plan n (folded (struck_by plan) work (reverse (pairs_of n))) work n n
-  strike_start {work} = record { behind = ap (folded (struck_by plan) work) (back_start n); beside = omega arith; within = omega arith }
+  strike_start {work} = record { behind = ap (folded (struck_by plan) work) (back_start n) }
 
   module _ {done work : List ℕ} {u v : ℕ} (d : Striking plan n done work u v) where
-    pub strike_row : v ≤ u + 1 → 0 < u → Striking plan n done work (u - 1) n
-    strike_row h l = record {
-      behind = ap (folded (struck_by plan) work) (sym (back-row n u v h l)) ∙ d.behind;
-      beside = omega (arith, d.beside, d.within);
-      within = omega arith;
-    }
+    left : v ≤ u + 1 → folded (struck_by plan) work (rows_back n u) ≡ done
+    left h = ap (folded (struck_by plan) work) (sym (back-row n u v h)) ∙ d.behind
+
+    pub strike_row : v ≤ u + 1 → Striking plan n done work u u
+    strike_row h = record { behind = ap (folded (struck_by plan) work) (back-row n u u (omega arith)) ∙ left h }
+
+    pub strike_down : v ≤ u + 1 → 0 < u → Striking plan n done work (u - 1) n
+    strike_down h l = record { behind = ap (folded (struck_by plan) work) (sym (back_down n u l)) ∙ left h }
 
     pub strike_next : u + 1 < v → {work' : List ℕ} → work' ≡ struck_by plan work (u, v - 1) → Striking plan n done work' u (v - 1)
     unfolding folded
@@ -100,10 +95,8 @@ module _ {plan : List ℕ} {n : ℕ} where
       behind =
           ap (λ (k : List ℕ). folded (struck_by plan) k (pairs_back n u (v - 1))) r
           ∙ ap (folded (struck_by plan) work) (sym (back-next n u v h)) ∙ d.behind;
-      beside = omega arith;
-      within = omega (arith, d.within);
     }
 
     pub strike_end : v ≤ u + 1 → u ≡ 0 → work ≡ done
-    unfolding folded
-    strike_end h e = ap (folded (struck_by plan) work) (sym (back_end n u v h e)) ∙ d.behind
+    unfolding folded rows_back
+    strike_end h e = ap (λ (k : ℕ). folded (struck_by plan) work (rows_back n k)) (sym e) ∙ left h

@@ -13,27 +13,22 @@ use Rattle.reading.proofs.Pairs.{pairs_from, pairs_start, pairs_end, pairs_row, 
 -- the rows, with the pairs from (u, v) on joined, are those asked for
 pub record Joining (n : ℕ) (done rows : List ℕ) (u v : ℕ) : Type 0 where
   pub ahead : folded joined rows (pairs_from n u v) ≡ done
-  pub behind : u < v
 
 pub join_start : (n : ℕ) {rows : List ℕ} → Joining n (folded joined rows (pairs_of n)) rows 0 1
-join_start n {rows} = record { ahead = ap (folded joined rows) (pairs_start n); behind = omega arith }
+join_start n {rows} = record { ahead = ap (folded joined rows) (pairs_start n) }
 
 module _ {n : ℕ} {done rows : List ℕ} {u v : ℕ} (d : Joining n done rows u v) where
   pub join_row : u < n → n ≤ v → Joining n done rows (u + 1) (u + 1 + 1)
-  join_row h l = record {
-    ahead = ap (folded joined rows) (sym (pairs_row n u v h l)) ∙ d.ahead;
-    behind = omega arith;
-  }
+  join_row h l = record { ahead = ap (folded joined rows) (sym (pairs_row n u v h l)) ∙ d.ahead }
 
-  pub join_next : n ≤ capacity → v < n → {rows' : List ℕ} → rows' ≡ joined_rows rows u v → Joining n done rows' u (v + 1)
+  pub join_next : n ≤ capacity → u + 1 ≤ v → v < n → {rows' : List ℕ} → rows' ≡ joined_rows rows u v → Joining n done rows' u (v + 1)
   unfolding folded
-  join_next m h r = record {
+  join_next m b h r = record {
     ahead =
-        ap (λ (k : List ℕ). folded joined k (pairs_from n u (v + 1))) (r ∙ joined-low rows u v (omega (arith, d.behind)) (omega arith))
+        ap (λ (k : List ℕ). folded joined k (pairs_from n u (v + 1))) (r ∙ joined-low rows u v (omega arith) (omega arith))
         ∙ ap (folded joined rows) (sym (pairs_next n u v h)) ∙ d.ahead;
-    behind = omega (arith, d.behind);
   }
 
-  pub join_end : n ≤ u → rows ≡ done
+  pub join_end : n ≤ u → u < v → rows ≡ done
   unfolding folded
-  join_end h = ap (folded joined rows) (sym (pairs_end n u v h d.behind)) ∙ d.ahead
+  join_end h b = ap (folded joined rows) (sym (pairs_end n u v h b)) ∙ d.ahead

@@ -51,7 +51,6 @@ pub record Listing (plan work : List ℕ) (n : ℕ) (ends : List ℕ) (count u v
   pub all : done ++ select (laid plan work) (pairs_from n u v) ≡ added plan work n
   pub held : ends ≡ ends_array (take max_edges done)
   pub counted : count ≡ length done
-  pub behind : u < v
 
 module _ {plan work : List ℕ} {n : ℕ} where
   pub list_start : Listing plan work n no_ends 0 0 1
@@ -61,7 +60,6 @@ module _ {plan work : List ℕ} {n : ℕ} where
     all = ap (select (laid plan work)) (pairs_start n);
     held = refl;
     counted = refl;
-    behind = omega arith;
   }
 
   module _ {ends : List ℕ} {count u v : ℕ} (d : Listing plan work n ends count u v) where
@@ -75,7 +73,6 @@ module _ {plan work : List ℕ} {n : ℕ} where
       all = ap (λ (l : List (ℕ × ℕ)). d.done ++ select (laid plan work) l) (sym (pairs_row n u v h l)) ∙ d.all;
       held = d.held;
       counted = d.counted;
-      behind = omega arith;
     }
 
     module _ (h : v < n) where
@@ -89,7 +86,6 @@ module _ {plan work : List ℕ} {n : ℕ} where
         all = rw e at next;
         held = d.held;
         counted = d.counted;
-        behind = omega (arith, d.behind);
       }
 
       pub list_apart : adjacent_in work u v ≡ false → Listing plan work n ends count u (v + 1)
@@ -106,7 +102,6 @@ module _ {plan work : List ℕ} {n : ℕ} where
           all = append_assoc d.done ((u, v) ∷ []) (select (laid plan work) (pairs_from n u (v + 1))) ∙ (rw (a, b) at next);
           held = k;
           counted = omega (arith, d.counted, length-append d.done ((u, v) ∷ []));
-          behind = omega (arith, d.behind);
         }
 
         pub list_full : max_edges ≤ count → Listing plan work n ends (count + 1) u (v + 1)
@@ -123,8 +118,8 @@ module _ {plan work : List ℕ} {n : ℕ} where
             ∙ ap ends_array (sym (take_all max_edges (d.done ++ ((u, v) ∷ [])) s))
             )
 
-    pub list_end : n ≤ u → record { ends = ends; count = count } ≡ edges_held (added plan work n)
-    list_end h =
-        let none = ap (λ (l : List (ℕ × ℕ)). d.done ++ select (laid plan work) l) (sym (pairs_end n u v h d.behind)) in
+    pub list_end : n ≤ u → u < v → record { ends = ends; count = count } ≡ edges_held (added plan work n)
+    list_end h b =
+        let none = ap (λ (l : List (ℕ × ℕ)). d.done ++ select (laid plan work) l) (sym (pairs_end n u v h b)) in
         let same : d.done ≡ added plan work n = sym (append-nil d.done) ∙ none ∙ d.all in
         (λ i. record { ends = d.held i; count = d.counted i }) ∙ ap edges_held same

@@ -10,7 +10,7 @@ use graph::GraphTable;
 use reading::PlanTable;
 use vertexset::VertexSet;
 
-// Edges in the order of a record, and how many they are, which may be more than there is room for.
+// Edges in the order of a record, and how many they are: that may be more than there is room for, so it is no length of a vector (the definition edges_held).
 #[derive(Clone, Copy)]
 pub struct Edges {
     pub ends: [u16; PlanTable::ENDS],
@@ -22,25 +22,17 @@ fn complete(rows: &mut [u64; GraphTable::ROW_WORDS], n: u16)
     requires { n ≤ capacity }
     ensures { rows.new ≡ completed rows.old n }
 {
-    let mut u = 0u16;
-    let mut v = 1u16;
-    while u < n {
-        let lower = u;
-        let higher = v;
-        if n <= v {
-            u += 1;
-            v = u + 1;
-            continue;
+    for u in 0..n {
+        for v in u + 1..n {
+            graph::join(rows, u, v);
         }
-        v += 1;
-        graph::join(rows, lower, higher);
     }
 }
 
 // Looks at one pair: where the plan has no edge there it is parted, and joined again where it is needed.
-fn strike<'a>(
-    plan: &'a [u64; GraphTable::ROW_WORDS],
-    work: &'a mut [u64; GraphTable::ROW_WORDS],
+fn strike(
+    plan: &[u64; GraphTable::ROW_WORDS],
+    work: &mut [u64; GraphTable::ROW_WORDS],
     u: u16,
     v: u16,
 )
@@ -56,66 +48,35 @@ fn strike<'a>(
     graph::join(work, u, v);
 }
 
-// Looks at every pair, from the last to the first: those of u with a vertex below v come next, then those of lower vertices.
-fn strike_all<'a>(
-    plan: &'a [u64; GraphTable::ROW_WORDS],
-    work: &'a mut [u64; GraphTable::ROW_WORDS],
-    n: u16,
-)
-    requires { n ≤ capacity }
+// Looks at every pair, from the last to the first.
+fn strike_all(plan: &[u64; GraphTable::ROW_WORDS], work: &mut [u64; GraphTable::ROW_WORDS], n: u16)
     ensures { work.new ≡ struck_all plan.now work.old n }
 {
-    let mut u = n;
-    let mut v = n;
-    while 0 < v {
-        if v <= u + 1 {
-            if u == 0 {
-                return;
-            }
-            u -= 1;
-            v = n;
-            continue;
+    for u in (0..n).rev() {
+        for v in (u + 1..n).rev() {
+            strike(plan, work, u, v);
         }
-        v -= 1;
-        strike(plan, work, u, v);
     }
 }
 
 // The pairs that are joined at work and not in the plan.
-fn list<'a>(
-    plan: &'a [u64; GraphTable::ROW_WORDS],
-    work: &'a [u64; GraphTable::ROW_WORDS],
-    n: u16,
-) -> Edges
+fn list(plan: &[u64; GraphTable::ROW_WORDS], work: &[u64; GraphTable::ROW_WORDS], n: u16) -> Edges
     requires { n ≤ capacity }
     ensures { result ≡ edges_held (added plan.now work.now n) }
 {
     let mut ends = [0u16; PlanTable::ENDS];
     let mut count = 0u16;
-    let mut u = 0u16;
-    let mut v = 1u16;
-    while u < n {
-        let lower = u;
-        let higher = v;
-        if n <= v {
-            u += 1;
-            v = u + 1;
-            continue;
+    for u in 0..n {
+        for v in u + 1..n {
+            if !graph::adjacent(work, u, v) || graph::adjacent(plan, u, v) {
+                continue;
+            }
+            if count < GraphTable::MAX_EDGES {
+                ends[2 * count as usize] = u;
+                ends[2 * count as usize + 1] = v;
+            }
+            count += 1;
         }
-        v += 1;
-        if !graph::adjacent(work, lower, higher) {
-            continue;
-        }
-        if graph::adjacent(plan, lower, higher) {
-            continue;
-        }
-        let k = count;
-        count += 1;
-        if GraphTable::MAX_EDGES <= k {
-            continue;
-        }
-        ends[2 * k as usize] = lower;
-        ends[2 * k as usize + 1] = higher;
     }
     Edges { ends, count }
 }
