@@ -1,13 +1,16 @@
 -- What a path that was read and tested leaves of a build. Assumes nothing.
-use Prim.Native.Nat.{ℕ, ◌<◌, ◌≤◌}
+use Prim.Native.Nat.{ℕ}
 use mathlib.Core.List.{List, [], ◌∷◌}
 use mathlib.Core.Bool.{Bool, true, false, cond, ◌&&◌, not}
 use mathlib.Core.Path.{◌≡◌, refl, sym, ap, ◌∙◌}
-use native.Mathlib.Omega.{arith}
-use lib.Dec.{ltb, leb, eqb}
-use borrow.Author.Tests.{lt-ltb, le-ltb, leb-true}
+use lib.Dec.{leb, eqb}
+use borrow.Author.Tests.{leb-true}
+use Rattle.std.specs.Prelude.{Option, Some, None, Result, Ok, Err}
+use Rattle.std.specs.Result.{IsErrAnd}
+use Rattle.std.proofs.lemmas.Result.{err_from_is_err_and}
+use Rattle.record.specs.declared.Answer.{Answer}
 use Rattle.record.specs.Read.{Read, Read.Got, Read.Refused, Reader, on_read, or_kept, ◌needs⟨◌⟩◌}
-use Rattle.record.specs.declared.Answer.TheVariants.{Accepted}
+use Rattle.record.specs.declared.Answer.TheVariants.{CertificateFault}
 use Rattle.record.proofs.Laws.{test_got}
 use Rattle.record.proofs.Loops.{needs_bad}
 use Rattle.vertexset.specs.Set.{has, capacity}
@@ -16,25 +19,32 @@ use Rattle.graph.specs.Rows.{adjacent_in, rows_graph}
 use Rattle.connectivity.specs.Path.{Path}
 use Rattle.certificates.specs.Tests.{path_along, path_new, start_ends}
 use Rattle.certificates.specs.Records.{path}
-use Rattle.paths.specs.Items.{taken, refused, limited, end_read}
+use Rattle.paths.specs.Items.{told, limited}
 use Rattle.paths.specs.Paths.{path_told, path_read}
 use Rattle.paths.specs.declared.PathRead.{PathRead}
-use Rattle.record.proofs.Faults.{NotAccepted}
-use Rattle.paths.proofs.Told.{path-told, path-fault}
+use Rattle.paths.proofs.Told.{told-ok}
 use Rattle.links.specs.declared.End.{End}
 use Rattle.links.specs.declared.Addition.{Addition}
 use Rattle.links.specs.Ends.{addition_of, held}
 use Rattle.links.specs.Tables.{split_by, split_mates_by, is_inner, last_from}
 use Rattle.build.specs.declared.Build.{Build}
-use Rattle.build.specs.declared.Taken.{Taken}
 use Rattle.build.specs.declared.Trace.{Trace}
-use Rattle.build.specs.State.{entered, raised_at, end_of, path_addition, both_in, path_taken, build_path, start_on, no_trace}
-use Rattle.build.specs.declared.Between.{Between}
-use Rattle.build.specs.Code.{path_fault, build_in, ToldAt, before_at, trace_read, on_path_read, Leaves, towards}
+use Rattle.build.specs.State.{entered, raised_at, end_of, path_addition, both_in, path_taken, trace_of, build_path, start_on}
+use Rattle.build.specs.Code.{path_fault, build_in, ToldAt, before_at, on_path_read, towards}
+
+-- a refusal is handed on as it was read
+pub told-refused : {A B : Type 0} (f : A → ℕ → B) {x : Read A} {q p : ℕ} → x ≡ Refused q p → Err (CertificateFault q p) ≡ told f x
+unfolding told
+told-refused f e = rw e
+
+-- what a `?` hands on is the answer that it met
+pub exit : {C : Type 0} (r : Result C Answer) {d : Answer} → IsErrAnd r (λ y. y ≡ d) → r ≡ Err d
+exit r k = let h = err_from_is_err_and r k in cc
 
 -- refused, or as it was read
-abbrev pub faulted : {A : Type 0} → ℕ → A → ℕ → ℕ → Read A
-faulted r v next at = cond (ltb 0 r) (Refused r at) (Got v next)
+abbrev pub faulted : {A : Type 0} → Option ℕ → A → ℕ → ℕ → Read A
+faulted None v next at = Got v next
+faulted (Some r) v next at = Refused r at
 
 -- the tests of a path, one after the other
 module _ {A : Type 0} (R : Reader A) (along ends new apart : A → Bool) (s : List ℕ) (at : ℕ) {v : A} {next : ℕ} (e : R s at ≡ Got v next) where
@@ -91,90 +101,76 @@ same_trace d e f g h = rw (d, e, f, g, h)
 
 -- a path that is read is tested by `item` and taken a step on: `fault` is the number that the tests give, `raise` the build that the path enters
 pub record Takes (n : ℕ) (adj : ℕ → ℕ → Bool) (old : ℕ → Bool) (item : Build → Reader Path) (step : Build → Path → Build) (b : Build) (s : List ℕ) (at : ℕ) : Type 0 where
-  pub fault : PathRead → ℕ
+  pub fault : PathRead → Option ℕ
   pub raise : PathRead → Build
   pub stops : (q p : ℕ) → path n 2 s at ≡ Refused q p → item b s at ≡ Refused q p
   pub tests : (P : Path) (next : ℕ) → path n 2 s at ≡ Got P next → item b s at ≡ faulted (fault (path_told adj old P next)) P next at
   pub steps : (P : Path) (next : ℕ) → entered (raise (path_told adj old P next)) P ≡ step b P
 
+-- a build that no path changed
+pub as_was : (step : Build → Path → Build) (b : Build) {x : Read Path} {q p : ℕ} → x ≡ Refused q p → b ≡ on_path_read step b x
+unfolding on_path_read
+as_was step b e = rw e
+
 module _ {n : ℕ} {adj : ℕ → ℕ → Bool} {old : ℕ → Bool} {item : Build → Reader Path} {step : Build → Path → Build} {b : Build} {s : List ℕ} {at : ℕ}
-    (T : Takes n adj old item step b s at) {x : PathRead} (e : x ≡ path_read adj old (limited n (path n 2) s at)) where
-  kept : {r : Taken} {pointers linked : List ℕ} {q p : ℕ} → limited n (item b) s at ≡ Refused q p → r.end ≡ refused q p → build_in r.sets pointers linked ≡ b
-      → Leaves n item step b s at r pointers linked
-  unfolding end_read on_path_read
-  kept f g h = record { end = g ∙ sym (ap end_read f); build = h ∙ sym (ap (on_path_read step b) f) }
+    (T : Takes n adj old item step b s at) where
+  abbrev reading : Read Path
+  reading = limited n (item b) s at
 
-  pub leaves_unread : {r : Taken} {pointers linked : List ℕ} → NotAccepted x.end.answer → r.end ≡ x.end → build_in r.sets pointers linked ≡ b
-      → Leaves n item step b s at r pointers linked
-  leaves_unread f g h =
-      let t = path-fault adj old _ f e in
-      kept (limit_refused n (path n 2) (item b) s at (T.stops _ _) t.2) (g ∙ t.3) h
+  -- a path that can't be read
+  pub unread : {q p : ℕ} → limited n (path n 2) s at ≡ Refused q p → reading ≡ Refused q p
+  unread e = limit_refused n (path n 2) (item b) s at (T.stops _ _) e
 
-  pub no_trace-unread : NotAccepted x.end.answer → no_trace ≡ trace_read b (limited n (item b) s at)
-  unfolding trace_read
-  no_trace-unread f = let t = path-fault adj old _ f e in sym (ap (trace_read b) (limit_refused n (path n 2) (item b) s at (T.stops _ _) t.2))
+  -- one that was read, from here on
+  module _ {x : PathRead} (e : Ok x ≡ path_read adj old (limited n (path n 2) s at)) where
+    pub there : (P : Path) × (next : ℕ) × (limited n (path n 2) s at ≡ Got P next) × (x ≡ path_told adj old P next)
+    there = told-ok _ _ e
 
-  -- an accepted path, from here on
-  module _ (f : x.end.answer ≡ Accepted) where
-    told : (P : Path) × ((limited n (path n 2) s at ≡ Got P x.end.next) × (x ≡ path_told adj old P x.end.next))
-    told = path-told adj old _ f e
+    got : (leb n capacity ≡ true) × (path n 2 s at ≡ Got there.0 there.1)
+    got = within-limit n (path n 2) there.2
 
-    got : (leb n capacity ≡ true) × (path n 2 s at ≡ Got told.0 x.end.next)
-    got = within-limit n (path n 2) told.1.0
+    tested : reading ≡ faulted (T.fault x) there.0 there.1 at
+    tested = limit_kept n (item b) s at got.0 (T.tests there.0 there.1 got.1 ∙ ap (λ (y : PathRead). faulted (T.fault y) there.0 there.1 at) (sym there.3))
 
-    tested : limited n (item b) s at ≡ faulted (T.fault x) told.0 x.end.next at
-    tested = limit_kept n (item b) s at got.0 (T.tests told.0 x.end.next got.1 ∙ ap (λ (y : PathRead). faulted (T.fault y) told.0 x.end.next at) (sym told.1.1))
+    pub faulty : {q : ℕ} → Some q ≡ T.fault x → reading ≡ Refused q at
+    faulty f = tested ∙ rw (← f)
 
-    pub leaves_refused : {r : Taken} {pointers linked : List ℕ} {q : ℕ} → q ≡ T.fault x → 0 < q → r.end ≡ refused q at → build_in r.sets pointers linked ≡ b
-        → Leaves n item step b s at r pointers linked
-    leaves_refused {q = q} g h k m =
-        let z : 0 < T.fault x = omega arith in
-        kept (tested ∙ rw (lt-ltb 0 (T.fault x) z, g)) k m
-
-    pub no_trace-refused : {q : ℕ} → q ≡ T.fault x → 0 < q → no_trace ≡ trace_read b (limited n (item b) s at)
-    unfolding trace_read
-    no_trace-refused {q} g h =
-        let z : 0 < T.fault x = omega arith in
-        let y : limited n (item b) s at ≡ Refused (T.fault x) at = tested ∙ rw (lt-ltb 0 (T.fault x) z) in
-        sym (ap (trace_read b) y)
-
-    -- what the path tells of itself, and the build that it has entered
+    -- what the path tells of itself
     pub path-there : ToldAt n s at x
     path-there =
-        let P = told.0 in
+        let P = there.0 in
         record {
-          there = record { low = leb-true _ _ got.0; found = P; next = x.end.next; got = got.1 };
-          first = ap (λ (y : PathRead). y.first) told.1.1;
-          last = ap (λ (y : PathRead). y.last) told.1.1;
-          len = ap (λ (y : PathRead). y.len) told.1.1;
+          there = record { low = leb-true _ _ got.0; found = P; next = there.1; got = got.1 };
+          first = ap (λ (y : PathRead). y.first) there.3;
+          last = ap (λ (y : PathRead). y.last) there.3;
+          len = ap (λ (y : PathRead). y.len) there.3;
         }
 
-    pub leaves_taken : {r : Taken} {pointers linked : List ℕ} {q : ℕ} → q ≡ T.fault x → q ≤ 0 → r.end ≡ x.end
-        → build_in r.sets pointers linked ≡ on_path_read entered (T.raise x) (path n 2 s at) → Leaves n item step b s at r pointers linked
-    unfolding end_read on_path_read
-    leaves_taken g h k m =
-        let P = told.0 in
-        let next = x.end.next in
-        let z : T.fault x ≤ 0 = omega arith in
-        let read : limited n (item b) s at ≡ Got P next = tested ∙ rw (le-ltb 0 (T.fault x) z) in
-        let end : x.end ≡ taken 0 next = ap (λ (y : PathRead). y.end) told.1.1 in
-        let built : on_path_read entered (T.raise x) (path n 2 s at) ≡ step b P =
-        ap (on_path_read entered (T.raise x)) got.1 ∙ ap (λ (y : PathRead). entered (T.raise y) P) told.1.1 ∙ T.steps P next
-        in
-        record { end = k ∙ end ∙ sym (ap end_read read); build = m ∙ built ∙ sym (ap (on_path_read step b) read) }
+    -- where no test fails, the path that is taken in, and the place after it
+    pub sound : None ≡ T.fault x → (reading ≡ Got there.0 there.1) × (x.next ≡ there.1)
+    sound f = (tested ∙ rw (← f), ap (λ (y : PathRead). y.next) there.3)
+
+    -- the build that it has entered
+    pub taken-in : {out : Build} → None ≡ T.fault x → out ≡ on_path_read entered (T.raise x) (path n 2 s at) → (out ≡ step b there.0) × (out ≡ on_path_read step b reading)
+    unfolding on_path_read
+    taken-in f g =
+        let k = g ∙ ap (on_path_read entered (T.raise x)) got.1 ∙ ap (λ (y : PathRead). entered (T.raise y) there.0) there.3 ∙ T.steps there.0 there.1 in
+        (k, k ∙ sym (ap (on_path_read step b) (sound f).0))
 
     -- the trace that it leaves, by what the code has of it
-    pub traced : {q k : ℕ} {from upto : Bool} → q ≡ T.fault x → q ≤ 0 → k ≡ before_at n s at → from ≡ is_inner (end_of b x.first) → upto ≡ is_inner (end_of b x.last)
-        → ◌≡◌ {A = Trace} (record { first = x.first; last = x.last; before = k; from = from; upto = upto }) (trace_read b (limited n (item b) s at))
-    unfolding trace_read before_at
-    traced {k = k} {from = from} {upto = upto} g h m d u =
-        let P = told.0 in
-        let z : T.fault x ≤ 0 = omega arith in
-        let read : limited n (item b) s at ≡ Got P x.end.next = tested ∙ rw (le-ltb 0 (T.fault x) z) in
-        let first : x.first ≡ P.s = ap (λ (y : PathRead). y.first) told.1.1 in
-        let last : x.last ≡ P.t = ap (λ (y : PathRead). y.last) told.1.1 in
-        let before : k ≡ last_from P.s P.inner = m ∙ ap (λ (r : Read Path). or_kept r (λ P next. last_from P.s P.inner) 0) got.1 in
-        same_trace first last before (d ∙ ap (λ (v : ℕ). is_inner (end_of b v)) first) (u ∙ ap (λ (v : ℕ). is_inner (end_of b v)) last) ∙ sym (ap (trace_read b) read)
+    pub trace-of : {k : ℕ} {from upto : Bool} → k ≡ before_at n s at → from ≡ is_inner (end_of b x.first) → upto ≡ is_inner (end_of b x.last)
+        → ◌≡◌ {A = Trace} (record { first = x.first; last = x.last; before = k; from = from; upto = upto }) (trace_of b there.0)
+    unfolding before_at
+    trace-of m d u =
+        let P = there.0 in
+        let first : x.first ≡ P.s = ap (λ (y : PathRead). y.first) there.3 in
+        let last : x.last ≡ P.t = ap (λ (y : PathRead). y.last) there.3 in
+        same_trace first last (m ∙ ap (λ (r : Read Path). or_kept r (λ P next. last_from P.s P.inner) 0) got.1) (d ∙ ap (λ (v : ℕ). is_inner (end_of b v)) first) (u ∙ ap (λ (v : ℕ). is_inner (end_of b v)) last)
+
+    -- what is handed on of it
+    pub handed : {B : Type 0} (hand : Path → ℕ → B) → None ≡ T.fault x → {y : B} → y ≡ hand there.0 x.next → Ok y ≡ told hand reading
+    unfolding told
+    handed hand f g = let k = sound f in ap Ok (g ∙ ap (hand there.0) k.1) ∙ sym (ap (told hand) k.0)
 
 -- the code's own results for what a test asks
 pub fault_same : (along new p q h p' q' h' : Bool) → p ≡ p' → q ≡ q' → h ≡ h' → path_fault along (p && q) new (not h) ≡ path_fault along (p' && q') new (not h')
@@ -187,19 +183,19 @@ pub raised-same : (branch : VertexSet) {mid out : VertexSet} {x y x' y' : End} �
 raised-same branch e f g h = rw (f, e, g, h)
 
 -- a path of the start between the ends of l
-module _ (n : ℕ) (rows s : List ℕ) (at : ℕ) (l : Between) (b : Build) where
+module _ (n : ℕ) (rows s : List ℕ) (at : ℕ) (l : ℕ × ℕ) (b : Build) where
   pub start-stops : (q p : ℕ) → path n 2 s at ≡ Refused q p → start_on (rows_graph n rows) (towards l b) s at ≡ Refused q p
   unfolding start_on
   start-stops q p e = needs_bad _ 26 _ (needs_bad _ 25 _ (needs_bad _ 24 _ e))
 
   pub start-tests : (P : Path) (next : ℕ) → path n 2 s at ≡ Got P next
-      → start_on (rows_graph n rows) (towards l b) s at ≡ faulted (path_fault (path_along (rows_graph n rows) P) (eqb P.s l.a && eqb P.t l.b) (path_new (has b.sets.built.words) P) true) P next at
+      → start_on (rows_graph n rows) (towards l b) s at ≡ faulted (path_fault (path_along (rows_graph n rows) P) (eqb P.s l.0 && eqb P.t l.1) (path_new (has b.sets.built.words) P) true) P next at
   unfolding start_on
-  start-tests P next e = tested_three (path n 2) (path_along (rows_graph n rows)) (start_ends ((l.a, l.b) ∷ [])) (path_new (has b.sets.built.words)) (λ P. true) s at e
+  start-tests P next e = tested_three (path n 2) (path_along (rows_graph n rows)) (start_ends (l ∷ [])) (path_new (has b.sets.built.words)) (λ P. true) s at e
 
   abbrev pub start-takes : Takes n (adjacent_in rows) (has b.sets.built.words) (λ b. start_on (rows_graph n rows) (towards l b)) entered b s at
   start-takes = record {
-    fault = λ x. path_fault x.along (eqb x.first l.a && eqb x.last l.b) x.new true;
+    fault = λ x. path_fault x.along (eqb x.first l.0 && eqb x.last l.1) x.new true;
     raise = λ x. b;
     stops = start-stops;
     tests = start-tests;

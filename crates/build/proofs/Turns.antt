@@ -1,32 +1,33 @@
 -- The start and one turn of the loops over paths. Assumes nothing.
-use Prim.Native.Nat.{ℕ, zero, suc, ◌-◌, ◌<◌, ◌≤◌}
-use mathlib.Core.List.{List, [], ◌∷◌}
+use Prim.Native.Nat.{ℕ, suc, ◌+◌, ◌-◌, ◌<◌, ◌≤◌}
+use mathlib.Core.List.{List, ◌∷◌}
 use mathlib.Core.Bool.{true, false}
 use mathlib.Core.Path.{◌≡◌, refl, sym, ap, ◌∙◌}
 use native.Mathlib.Omega.{arith}
 use lib.Dec.{leb}
-use lib.ListN.{get_or}
+use lib.ListN.{length, get_or, drop}
+use Rattle.std.proofs.lemmas.List.{drop_more}
 use borrow.Author.Tests.{le-leb, lt-leb}
-use Rattle.record.specs.Read.{Read.Got, Read.Refused, Reader, ◌needs⟨◌⟩◌, ◌▸◌, led}
+use Rattle.std.specs.Prelude.{Ok, Err}
+use Rattle.record.specs.Read.{Read, Read.Got, Read.Refused, Reader, ◌needs⟨◌⟩◌, ◌▸◌, led}
 use Rattle.record.specs.Loop.{runs}
-use Rattle.record.specs.declared.Answer.TheVariants.{Accepted}
+use Rattle.record.specs.declared.Answer.{Answer}
+use Rattle.record.specs.declared.Answer.TheVariants.{CertificateFault}
 use Rattle.record.proofs.Loops.{turn_go, turn_stop, turn_done, led-go, led-stop, needs_got}
-use Rattle.vertexset.specs.Set.{has, empty_set, inserted, capacity}
-use Rattle.vertexset.specs.declared.VertexSet.{VertexSet}
+use Rattle.vertexset.specs.Set.{has, capacity}
 use Rattle.connectivity.specs.Graph.{Graph}
 use Rattle.connectivity.specs.Path.{Path}
 use Rattle.certificates.specs.Tests.{all_below, later_ends}
 use Rattle.certificates.specs.Records.{vertex, branch_four}
 use Rattle.graph.specs.Rows.{rows_graph}
-use Rattle.paths.specs.Items.{taken, refused, limited}
-use Rattle.record.proofs.Faults.{NotAccepted}
-use Rattle.paths.proofs.Told.{Stopped, end_told, end_fault}
+use Rattle.paths.specs.Items.{told, limited}
+use Rattle.paths.proofs.Told.{told-ok, told-err}
 use Rattle.build.specs.declared.Build.{Build}
-use Rattle.build.specs.declared.Four.{Four}
 use Rattle.build.specs.declared.Taken.{Taken}
-use Rattle.build.specs.State.{entered, path_taken, build_path, BuildStart, bare_on, four_set, start_of, start_on, start_entered}
-use Rattle.build.specs.declared.Between.{Between}
-use Rattle.build.specs.Code.{build_in, on_path_read, Leaves, towards, four_of, firsts, lasts, path_ends, start_loop, further_loop}
+use Rattle.build.specs.declared.Traced.{Traced}
+use Rattle.build.specs.State.{entered, path_taken, build_path, BuildStart, start_on, start_entered}
+use Rattle.build.specs.Code.{build_in, on_path_read, towards, start_path_read, further_read, traced, start_loop, further_loop}
+use Rattle.build.proofs.Inner.{same_build}
 use Rattle.build.proofs.Taking.{limit_kept}
 
 -- a vertex above the one before it
@@ -62,109 +63,102 @@ module _ (n : ℕ) (s : List ℕ) (at : ℕ) where
         unfolding branch_four ◌▸◌
         four-got h = rw (e, f, g, h)
 
--- what is known after a path was read, within the limit
-module _ {n : ℕ} {item : Build → Reader Path} {step : Build → Path → Build} {b : Build} {s : List ℕ} {at : ℕ} {r : Taken} {pointers linked : List ℕ}
-    (low : n ≤ capacity) (h : Leaves n item step b s at r pointers linked) where
-  within : limited n (item b) s at ≡ item b s at
-  within = limit_kept n (item b) s at (le-leb n capacity low) refl
-
-  -- refused: the build is as it was
-  pub left_bad : NotAccepted r.end.answer → (Stopped (item b s at) r.end) × (build_in r.sets pointers linked ≡ b)
+-- what reading a path leaves of a build, the tables told by themselves
+module _ (step : Build → Path → Build) (b : Build) {x : Read Path} {pointers linked : List ℕ} (f : pointers ≡ (on_path_read step b x).pointers) (g : linked ≡ (on_path_read step b x).linked) {B : Type 0} (hand : Path → ℕ → B) where
+  -- refused: they are as they were
+  pub left_bad : {d : Answer} → Err d ≡ told hand x → (q : ℕ) × (p : ℕ) × (x ≡ Refused q p) × (d ≡ CertificateFault q p) × (pointers ≡ b.pointers) × (linked ≡ b.linked)
   unfolding on_path_read
-  left_bad f =
-      let t = end_fault (limited n (item b) s at) f h.end in
-      ((t.0, t.1, sym within ∙ t.2, t.3), h.build ∙ ap (on_path_read step b) t.2)
+  left_bad e =
+      let t = told-err hand x e in
+      (t.0, t.1, t.2, t.3, f ∙ ap (λ (y : Read Path). (on_path_read step b y).pointers) t.2, g ∙ ap (λ (y : Read Path). (on_path_read step b y).linked) t.2)
 
-  pub left_got : r.end.answer ≡ Accepted → (P : Path) × ((item b s at ≡ Got P r.end.next) × (build_in r.sets pointers linked ≡ step b P))
+  pub left_got : {y : B} → Ok y ≡ told hand x → (P : Path) × (next : ℕ) × (x ≡ Got P next) × (y ≡ hand P next) × (pointers ≡ (step b P).pointers) × (linked ≡ (step b P).linked)
   unfolding on_path_read
-  left_got f =
-      let t = end_told (limited n (item b) s at) f h.end in
-      (t.0, (sym within ∙ t.1, h.build ∙ ap (on_path_read step b) t.1))
+  left_got e =
+      let t = told-ok hand x e in
+      (t.0, t.1, t.2, t.3, f ∙ ap (λ (y : Read Path). (on_path_read step b y).pointers) t.2, g ∙ ap (λ (y : Read Path). (on_path_read step b y).linked) t.2)
 
--- a turn over the further paths
-module _ (n : ℕ) (rows s : List ℕ) (b : Build) (at : ℕ) {r : Taken} {pointers linked : List ℕ}
-    (low : n ≤ capacity) (h : Leaves n (build_path (rows_graph n rows)) path_taken b s at r pointers linked) (k : ℕ) (some : 0 < k) where
-  pub further_stop : NotAccepted r.end.answer → r.end ≡ runs (further_loop n rows) k b b s at
-  further_stop f =
-      let t = (left_bad low h f).0 in
-      t.3 ∙ turn_stop (further_loop n rows) s k some b b at t.2
+within : {n : ℕ} (R : Reader Path) (s : List ℕ) (at : ℕ) → n ≤ capacity → R s at ≡ limited n R s at
+within {n} R s at low = sym (limit_kept n R s at (le-leb n capacity low) refl)
 
-  pub further_go : r.end.answer ≡ Accepted
-      → runs (further_loop n rows) (k - 1) (build_in r.sets pointers linked) (build_in r.sets pointers linked) s r.end.next ≡ runs (further_loop n rows) k b b s at
-  further_go f =
-      let t = left_got low h f in
-      turn_go (further_loop n rows) s k some b b t.1.0 t.1.1 t.1.1
+-- a turn over the further paths, after i of m
+module _ (n : ℕ) (rows s : List ℕ) (b : Build) (at m i : ℕ) {pointers linked : List ℕ} (low : n ≤ capacity) (some : i < m)
+    (f : pointers ≡ (on_path_read path_taken b (further_read n rows b s at)).pointers) (g : linked ≡ (on_path_read path_taken b (further_read n rows b s at)).linked) where
+  pub further_stop : {d : Answer} → Err d ≡ told (traced b) (further_read n rows b s at) → Err d ≡ runs (further_loop n rows) (m - i) b b s at
+  further_stop e =
+      let t = left_bad path_taken b f g (traced b) e in
+      ap Err t.3 ∙ turn_stop (further_loop n rows) s (m - i) (omega arith) b b at (within (build_path (rows_graph n rows) b) s at low ∙ t.2)
+
+  pub further_go : {x : Traced} → Ok x ≡ told (traced b) (further_read n rows b s at)
+      → runs (further_loop n rows) (m - (i + 1)) (build_in x.taken.sets pointers linked) (build_in x.taken.sets pointers linked) s x.taken.next ≡ runs (further_loop n rows) (m - i) b b s at
+  further_go {x} e =
+      let t = left_got path_taken b f g (traced b) e in
+      let P = t.0 in
+      let k : build_in x.taken.sets pointers linked ≡ path_taken b P = same_build (ap (λ (y : Traced). y.taken.sets) t.3) t.4 t.5 in
+      let z : m - (i + 1) ≡ m - i - 1 = omega arith in
+      let r = within (build_path (rows_graph n rows) b) s at low ∙ t.2 in
+      rw z (ap (λ (next : ℕ). runs (further_loop n rows) (m - i - 1) (build_in x.taken.sets pointers linked) (build_in x.taken.sets pointers linked) s next) (ap (λ (y : Traced). y.taken.next) t.3)
+      ∙ turn_go (further_loop n rows) s (m - i) (omega arith) b b r k k)
 
 -- after the last of them
 module _ (n : ℕ) (rows s : List ℕ) (b : Build) (at k : ℕ) (none : k ≤ 0) where
-  pub further_done : all_below n (has b.sets.branch.words) ≡ true → taken 0 at ≡ runs (further_loop n rows) k b b s at
+  pub further_done : all_below n (has b.sets.branch.words) ≡ true → Ok at ≡ runs (further_loop n rows) k b b s at
   further_done e = rw (← turn_done (further_loop n rows) s k none b b at, e)
 
-  pub further_open : all_below n (has b.sets.branch.words) ≡ false → refused 28 at ≡ runs (further_loop n rows) k b b s at
+  pub further_open : all_below n (has b.sets.branch.words) ≡ false → Err (CertificateFault 28 at) ≡ runs (further_loop n rows) k b b s at
   further_open e = rw (← turn_done (further_loop n rows) s k none b b at, e)
 
--- the pairs of ends that the arrays name, k of them from i on
-unfoldable pub pairs_from : List ℕ → List ℕ → ℕ → ℕ → List (ℕ × ℕ)
-pairs_from first last zero i = []
-pairs_from first last (suc k) i = (get_or first i 0, get_or last i 0) ∷ pairs_from first last k (suc i)
-
--- the start with k paths to come
-abbrev pub start_with : List ℕ → List ℕ → ℕ → Build → BuildStart
-start_with first last k b = record { ends = pairs_from first last k (6 - k); build = b }
-
-first_pair : (first last : List ℕ) (k : ℕ) → 0 < k → k ≤ 6
-    → pairs_from first last k (6 - k) ≡ (get_or first (6 - k) 0, get_or last (6 - k) 0) ∷ pairs_from first last (k - 1) (6 - (k - 1))
-unfolding pairs_from
-first_pair first last zero h i = absurd (omega arith)
-first_pair first last (suc k) h i =
-    let z : suc k - 1 ≡ k = omega arith in
-    let y : suc (6 - suc k) ≡ 6 - k = omega arith in
-    rw (z, y)
+-- the start with the pairs of ends still to be joined, after i of six
+abbrev pub start_with : List (ℕ × ℕ) → ℕ → Build → BuildStart
+start_with pairs i b = record { ends = drop i pairs; build = b }
 
 -- only the pair that comes next counts
-next-pair : (g : Graph) (l : Between) (es : List (ℕ × ℕ)) (b : Build) (s : List ℕ) (at : ℕ) → start_on g (record { ends = (l.a, l.b) ∷ es; build = b }) s at ≡ start_on g (towards l b) s at
+next-pair : (g : Graph) (l : ℕ × ℕ) (es : List (ℕ × ℕ)) (b : Build) (s : List ℕ) (at : ℕ) → start_on g (record { ends = l ∷ es; build = b }) s at ≡ start_on g (towards l b) s at
 unfolding start_on
 next-pair g l es b s at = refl
 
 same_start : {es es' : List (ℕ × ℕ)} {b b' : Build} → es ≡ es' → b ≡ b' → ◌≡◌ {A = BuildStart} (record { ends = es; build = b }) (record { ends = es'; build = b' })
 same_start e f = rw (e, f)
 
--- a turn over the paths of the start
-module _ (n : ℕ) (rows s first last : List ℕ) (b : Build) (at k : ℕ) {r : Taken} {pointers linked : List ℕ}
-    (low : n ≤ capacity) (some : 0 < k) (six : k ≤ 6) {l : Between} (ends : l ≡ path_ends first last (6 - k))
-    (h : Leaves n (λ b. start_on (rows_graph n rows) (towards l b)) entered b s at r pointers linked) where
-  tested_next : start_on (rows_graph n rows) (start_with first last k b) s at ≡ start_on (rows_graph n rows) (towards l b) s at
-  tested_next =
-      ap (λ (es : List (ℕ × ℕ)). start_on (rows_graph n rows) (record { ends = es; build = b }) s at) (first_pair first last k some six)
-      ∙ next-pair (rows_graph n rows) (path_ends first last (6 - k)) (pairs_from first last (k - 1) (6 - (k - 1))) b s at
-      ∙ ap (λ (l : Between). start_on (rows_graph n rows) (towards l b) s at) (sym ends)
+-- what a path of the start hands on
+abbrev pub start_hand : Build → Path → ℕ → Taken
+start_hand b P next = record { next = next; sets = (entered b P).sets }
+
+-- a turn over the paths of the start, after i of six
+module _ (n : ℕ) (rows s : List ℕ) (pairs : List (ℕ × ℕ)) (b : Build) (at i : ℕ) {l : ℕ × ℕ} {pointers linked : List ℕ} (low : n ≤ capacity) (some : i < 6) (six : length pairs ≡ 6) (next_ends : l ≡ get_or pairs i (0, 0))
+    (f : pointers ≡ (on_path_read entered b (start_path_read n rows l b s at)).pointers) (g : linked ≡ (on_path_read entered b (start_path_read n rows l b s at)).linked) where
+  pairs_on : drop i pairs ≡ l ∷ drop (i + 1) pairs
+  pairs_on = rw next_ends (drop_more pairs i (0, 0) (omega arith))
 
   abbrev st : BuildStart
-  st = start_with first last k b
+  st = start_with pairs i b
 
-  pub start-stop : NotAccepted r.end.answer → (r.end ≡ runs (start_loop n rows) k st tt s at) × (build_in r.sets pointers linked ≡ (led (start_on (rows_graph n rows)) start_entered k st s at).build)
-  start-stop f =
-      let t = left_bad low h f in
-      let e = tested_next ∙ t.0.2 in
-      (t.0.3 ∙ turn_stop (start_loop n rows) s k some st tt at e, t.1 ∙ ap (λ (z : BuildStart). z.build) (led-stop (start_on (rows_graph n rows)) start_entered s k st at e))
+  tested_next : start_on (rows_graph n rows) st s at ≡ start_on (rows_graph n rows) (towards l b) s at
+  tested_next =
+      ap (λ (es : List (ℕ × ℕ)). start_on (rows_graph n rows) (record { ends = es; build = b }) s at) pairs_on
+      ∙ next-pair (rows_graph n rows) l (drop (i + 1) pairs) b s at
 
-  abbrev on : BuildStart
-  on = start_with first last (k - 1) (build_in r.sets pointers linked)
+  abbrev reading : Reader Path
+  reading = start_on (rows_graph n rows) (towards l b)
 
-  pub start-go : r.end.answer ≡ Accepted
-      → (runs (start_loop n rows) (k - 1) on tt s r.end.next ≡ runs (start_loop n rows) k st tt s at)
-      × (led (start_on (rows_graph n rows)) start_entered (k - 1) on s r.end.next ≡ led (start_on (rows_graph n rows)) start_entered k st s at)
-  start-go f =
-      let t = left_got low h f in
-      let e : pairs_from first last (k - 1) (6 - (k - 1)) ≡ later_ends (pairs_from first last k (6 - k)) = ap later_ends (sym (first_pair first last k some six)) in
-      let g = same_start e t.1.1 in
-      let i = tested_next ∙ t.1.0 in
-      (turn_go (start_loop n rows) s k some st tt i g refl, led-go (start_on (rows_graph n rows)) start_entered s k some st i g)
+  pub start-stop : {d : Answer} → Err d ≡ told (start_hand b) (start_path_read n rows l b s at)
+      → (Err d ≡ runs (start_loop n rows) (6 - i) st st s at)
+      × (pointers ≡ (led (start_on (rows_graph n rows)) start_entered (6 - i) st s at).build.pointers) × (linked ≡ (led (start_on (rows_graph n rows)) start_entered (6 - i) st s at).build.linked)
+  start-stop e =
+      let t = left_bad entered b f g (start_hand b) e in
+      let r = tested_next ∙ within reading s at low ∙ t.2 in
+      let k = led-stop (start_on (rows_graph n rows)) start_entered s (6 - i) st at r in
+      (ap Err t.3 ∙ turn_stop (start_loop n rows) s (6 - i) (omega arith) st st at r, t.4 ∙ ap (λ (z : BuildStart). z.build.pointers) k, t.5 ∙ ap (λ (z : BuildStart). z.build.linked) k)
 
--- where the loop begins
-pub four-set : {e a b c d : VertexSet} (p q r s : ℕ) → e ≡ empty_set → a ≡ inserted e p → b ≡ inserted a q → c ≡ inserted b r → d ≡ inserted c s → d ≡ four_set (p, (q, (r, s)))
-four-set p q r s f g h i j = rw (j, i, h, g, f)
-
-pub start-begun : (f : Four) (pointers linked : List ℕ) {set : VertexSet} → set ≡ four_set (four_of f) → start_with (firsts f) (lasts f) 6 (bare_on set pointers linked) ≡ start_of pointers linked (four_of f)
-unfolding pairs_from
-start-begun f pointers linked e = ap (λ (set : VertexSet). start_with (firsts f) (lasts f) 6 (bare_on set pointers linked)) e
+  pub start-go : {x : Taken} → Ok x ≡ told (start_hand b) (start_path_read n rows l b s at)
+      → let on = start_with pairs (i + 1) (build_in x.sets pointers linked) in
+      (runs (start_loop n rows) (6 - (i + 1)) on on s x.next ≡ runs (start_loop n rows) (6 - i) st st s at)
+      × (led (start_on (rows_graph n rows)) start_entered (6 - (i + 1)) on s x.next ≡ led (start_on (rows_graph n rows)) start_entered (6 - i) st s at)
+  start-go {x} e =
+      let t = left_got entered b f g (start_hand b) e in
+      let r = tested_next ∙ within reading s at low ∙ t.2 in
+      let on = start_with pairs (i + 1) (build_in x.sets pointers linked) in
+      let k : on ≡ start_entered st t.0 = same_start (sym (ap later_ends pairs_on)) (same_build (ap (λ (y : Taken). y.sets) t.3) t.4 t.5) in
+      let z : 6 - (i + 1) ≡ 6 - i - 1 = omega arith in
+      let next : x.next ≡ t.1 = ap (λ (y : Taken). y.next) t.3 in
+      rw (z, next) (turn_go (start_loop n rows) s (6 - i) (omega arith) st st r k k, led-go (start_on (rows_graph n rows)) start_entered s (6 - i) (omega arith) st r k)

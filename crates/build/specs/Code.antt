@@ -1,28 +1,28 @@
 -- What the functions of this crate give, beside the definitions of the build.
-use Rattle.std.specs.Prelude.{ℕ, ◌≤◌, List, [], ◌∷◌, Bool, cond, ◌≡◌, length, get_or}
+use Rattle.std.specs.Prelude.{ℕ, ◌≤◌, List, [], ◌∷◌, Bool, Option, Some, None, Result, Ok, Err, cond, ◌≡◌, length}
 use Rattle.record.specs.Read.{Read, Read.Got, Read.Refused, Reader, or_kept, led}
 use Rattle.record.specs.Loop.{Loop}
+use Rattle.record.specs.declared.Answer.{Answer}
+use Rattle.record.specs.declared.Answer.TheVariants.{CertificateFault}
 use Rattle.vertexset.specs.Set.{has, empty_set, capacity}
 use Rattle.graph.specs.Rows.{rows_graph}
 use Rattle.connectivity.specs.Graph.{Graph}
 use Rattle.connectivity.specs.Path.{Path, vertices}
 use Rattle.certificates.specs.Tests.{all_below}
 use Rattle.certificates.specs.Records.{path, branch_four}
-use Rattle.paths.specs.Items.{taken, refused, end_read, limited}
+use Rattle.paths.specs.Items.{limited}
 use Rattle.paths.specs.declared.PathRead.{PathRead}
-use Rattle.paths.specs.declared.Item.{Item}
 use Rattle.build.specs.declared.Build.{Build}
 use Rattle.build.specs.declared.Sets.{Sets}
 use Rattle.build.specs.declared.Taken.{Taken}
+use Rattle.build.specs.declared.Traced.{Traced}
 use Rattle.build.specs.declared.Four.{Four}
-use Rattle.build.specs.declared.Between.{Between}
-use Rattle.build.specs.declared.Trace.{Trace}
 use Rattle.links.specs.Tables.{last_from}
-use Rattle.build.specs.State.{path_taken, trace_of, no_trace, bare_on, build_path, BuildStart, start_on, start_entered, start_of}
+use Rattle.build.specs.State.{path_taken, trace_of, bare_on, build_path, BuildStart, start_on, start_entered, start_of}
 
--- document 01's number for a path that was read whole, or 0
-abbrev pub path_fault : Bool → Bool → Bool → Bool → ℕ
-path_fault along ends new apart = cond along (cond ends (cond new (cond apart 0 27) 26) 25) 24
+-- document 01's number for what is wrong with a path that was read whole
+abbrev pub path_fault : Bool → Bool → Bool → Bool → Option ℕ
+path_fault along ends new apart = cond along (cond ends (cond new (cond apart None (Some 27)) (Some 26)) (Some 25)) (Some 24)
 
 -- the build with these parts
 abbrev pub build_in : Sets → List ℕ → List ℕ → Build
@@ -50,50 +50,32 @@ inner_at n s at = or_kept (path n 2 s at) (λ P next. P.inner) []
 unfoldable pub before_at : ℕ → List ℕ → ℕ → ℕ
 before_at n s at = or_kept (path n 2 s at) (λ P next. last_from P.s P.inner) 0
 
--- the trace of a path that was read, and none where it was refused
-unfoldable pub trace_read : Build → Read Path → Trace
-trace_read b (Got P next) = trace_of b P
-trace_read b (Refused r p) = no_trace
-
 -- what reading a path leaves of a build: one step on, or as it was
 unfoldable pub on_path_read : (Build → Path → Build) → Build → Read Path → Build
 on_path_read step b (Got P next) = step b P
 on_path_read step b (Refused r p) = b
 
--- what a function leaves that reads a path with what is tested of it and takes it a step on: where reading goes on, and the build
-pub record Leaves (n : ℕ) (item : Build → Reader Path) (step : Build → Path → Build) (b : Build) (s : List ℕ) (at : ℕ)
-    (r : Taken) (pointers linked : List ℕ) : Type 0 where
-  pub end : r.end ≡ end_read (limited n (item b) s at)
-  pub build : build_in r.sets pointers linked ≡ on_path_read step b (limited n (item b) s at)
-
 -- the start at a path between these ends
-abbrev pub towards : Between → Build → BuildStart
-towards l b = record { ends = (l.a, l.b) ∷ []; build = b }
+abbrev pub towards : ℕ × ℕ → Build → BuildStart
+towards l b = record { ends = l ∷ []; build = b }
 
--- the four branch vertices, and where reading goes on or the fault
-abbrev pub no_four : Item → Four
-no_four x = record { end = x; p = 0; q = 0; r = 0; s = 0 }
+-- a path of the start between these ends, and a further path, within the limit
+abbrev pub start_path_read : ℕ → List ℕ → ℕ × ℕ → Build → Reader Path
+start_path_read n rows l b = limited n (start_on (rows_graph n rows) (towards l b))
 
-unfoldable pub four_read : Read (ℕ × (ℕ × (ℕ × ℕ))) → Four
-four_read (Got b next) = record { end = taken 0 next; p = b.0; q = b.1.0; r = b.1.1.0; s = b.1.1.1 }
-four_read (Refused r p) = no_four (refused r p)
+abbrev pub further_read : ℕ → List ℕ → Build → Reader Path
+further_read n rows b = limited n (build_path (rows_graph n rows) b)
+
+-- what a further path hands on once it is taken in: the place after it, the sets of the build then, and its trace
+abbrev pub traced : Build → Path → ℕ → Traced
+traced b P next = record { taken = record { next = next; sets = (path_taken b P).sets }; trace = trace_of b P }
+
+-- the four branch vertices, and the place after them
+abbrev pub four_read : ℕ × (ℕ × (ℕ × ℕ)) → ℕ → Four
+four_read b next = record { next = next; p = b.0; q = b.1.0; r = b.1.1.0; s = b.1.1.1 }
 
 abbrev pub four_of : Four → ℕ × (ℕ × (ℕ × ℕ))
 four_of f = (f.p, (f.q, (f.r, f.s)))
-
--- the ends of the six paths, and those of the path at a place
-abbrev pub firsts : Four → List ℕ
-firsts f = f.p ∷ f.p ∷ f.p ∷ f.q ∷ f.q ∷ f.r ∷ []
-
-abbrev pub lasts : Four → List ℕ
-lasts f = f.q ∷ f.r ∷ f.s ∷ f.r ∷ f.s ∷ f.s ∷ []
-
-abbrev pub path_ends : List ℕ → List ℕ → ℕ → Between
-path_ends first last i = record { a = get_or first i 0; b = get_or last i 0 }
-
--- a start that was not read: no sets
-abbrev pub no_start : Item → Taken
-no_start x = record { end = x; sets = record { branch = empty_set; built = empty_set } }
 
 -- what reading a start leaves of the tables that it is lent, with the sets: the paths before a fault, or all six, are entered; where
 -- the four can't be read, the tables as they were and no sets
@@ -102,15 +84,21 @@ start_left pointers linked g s at =
     or_kept (limited g.n (branch_four g.n) s at) (λ b mid. (led (start_on g) start_entered 6 (start_of pointers linked b) s mid).build) (bare_on empty_set pointers linked)
 
 -- the loop over the six paths of a start
-abbrev pub start_loop : ℕ → List ℕ → Loop BuildStart Path (Unit {0}) Item
-start_loop n rows = record { item = start_on (rows_graph n rows); after = start_entered; step = λ u P. u; ok = λ u next. taken 0 next; bad = refused }
+abbrev pub start_loop : ℕ → List ℕ → Loop BuildStart Path BuildStart (Result Taken Answer)
+start_loop n rows = record {
+  item = start_on (rows_graph n rows);
+  after = start_entered;
+  step = start_entered;
+  ok = λ st next. Ok (record { next = next; sets = st.build.sets });
+  bad = λ r p. Err (CertificateFault r p);
+}
 
 -- the loop over the further paths, with 28 after the last
-abbrev pub further_loop : ℕ → List ℕ → Loop Build Path Build Item
+abbrev pub further_loop : ℕ → List ℕ → Loop Build Path Build (Result ℕ Answer)
 further_loop n rows = record {
   item = build_path (rows_graph n rows);
   after = path_taken;
   step = path_taken;
-  ok = λ b next. cond (all_below n (has b.sets.branch.words)) (taken 0 next) (refused 28 next);
-  bad = refused;
+  ok = λ b next. cond (all_below n (has b.sets.branch.words)) (Ok next) (Err (CertificateFault 28 next));
+  bad = λ r p. Err (CertificateFault r p);
 }

@@ -131,12 +131,16 @@ start_of pointers linked b = record { ends = six_pairs b.0 b.1.0 b.1.1.0 b.1.1.1
 unfoldable pub start_in : List ℕ → List ℕ → Graph → Reader ((ℕ × (ℕ × (ℕ × ℕ))) × List Path)
 start_in pointers linked g = branch_four g.n ▸ λ b. many (start_on g) start_entered 6 (start_of pointers linked b)
 
+-- the build that they are, once the paths have entered
+abbrev pub started : List ℕ → List ℕ → (ℕ × (ℕ × (ℕ × ℕ))) × List Path → Build
+started pointers linked x = (folded start_entered (start_of pointers linked x.0) x.1).build
+
 -- .. and bare tables
 abbrev pub build_start : Graph → Reader ((ℕ × (ℕ × (ℕ × ℕ))) × List Path)
 build_start g = start_in bare_pointers bare_rows g
 
 abbrev pub started_build : (ℕ × (ℕ × (ℕ × ℕ))) × List Path → Build
-started_build x = (folded start_entered (start_of bare_pointers bare_rows x.0) x.1).build
+started_build x = started bare_pointers bare_rows x
 
 -- a certificate of kind 3 after its kind: the start, the given number of further paths, and 28 where a vertex is no branch vertex
 unfoldable pub build_body : Graph → ℕ → Reader ((x : (ℕ × (ℕ × (ℕ × ℕ))) × List Path) × (List Path × Unit {0}))

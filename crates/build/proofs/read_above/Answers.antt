@@ -2,22 +2,19 @@
 
 use mathlib.Core.Path.{◌∙◌, sym, ap}
 use Rattle.record.proofs.Loops.{needs_bad}
-use Rattle.paths.specs.Items.{item_read}
-use Rattle.paths.proofs.Told.{value_told, fault_told}
+use Rattle.paths.specs.Items.{told, item_read}
+use Rattle.paths.proofs.Told.{told-exit, item-ok}
+use Rattle.build.proofs.Taking.{told-refused}
 use Rattle.build.proofs.Turns.{above_low, above_got}
 use Rattle.build.proofs.read_above.Goals as goal
 
-pub returns-in_default : goal.returns-in_default
-unfolding item_read
-returns-in_default c = let f = fault_told _ c.in_default.not-Accepted c.read_vertex-x.ensures in
-    f.3 ∙ sym (ap item_read (needs_bad _ 20 _ f.2))
+pub returns-in_err-x : goal.returns-in_err-x
+returns-in_err-x c = let f = told-exit _ c.from_residual.result _ c.in_err-x.ensures c.from_residual.ensures.1 in
+    f.3 ∙ told-refused _ (needs_bad _ 20 _ f.2)
 
-pub returns-then-v-before : goal.returns-then-v-before
-unfolding item_read
-returns-then-v-before c = c.refused.ensures ∙ sym (ap item_read (above_low _ _ _ _ (value_told _ c.in-Accepted.is c.read_vertex-x.ensures) c.if-v-before.true))
+pub returns-then-x-before : goal.returns-then-x-before
+returns-then-x-before c = told-refused _ (above_low _ _ _ _ (item-ok _ c.in_ok-x.ensures) c.if-x-before.true)
 
 pub returns : goal.returns
-unfolding item_read
-returns c = let x = c.read_vertex-x.ensures in
-    let e = value_told _ c.in-Accepted.is x in
-    x ∙ ap item_read (e ∙ sym (above_got _ _ _ _ e c.if-v-before.false))
+unfolding told
+returns c = ap item_read (sym (above_got _ _ _ _ (item-ok _ c.in_ok-x.ensures) c.if-x-before.false))

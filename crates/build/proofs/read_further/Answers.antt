@@ -1,33 +1,21 @@
 -- `build::read_further` meets its contract: what is left to read gives the same from here as from the start. Assumes nothing.
 
-use mathlib.Core.Path.{refl, sym, ◌∙◌}
-use Rattle.build.specs.Code.{build_in}
+use mathlib.Core.Path.{sym, ◌∙◌}
+use native.Mathlib.Omega.{arith}
+use Rattle.build.proofs.Taking.{exit}
 use Rattle.build.proofs.Turns.{further_stop, further_go, further_done, further_open}
 use Rattle.build.proofs.read_further.Goals as goal
 
-pub loop-left-init : goal.loop-left-init
-loop-left-init c = refl
+pub returns-in_err-x : goal.returns-in_err-x
+returns-in_err-x c = let e = c.in_err-x.ensures in
+    exit c.from_residual.result c.from_residual.ensures.1 ∙ further_stop _ _ _ _ _ _ _ c.requires c.loop-test.true e.pointers_after e.linked_after e.value ∙ c.loop.invariant
 
-pub returns-in_default : goal.returns-in_default
-returns-in_default c = let l = c.loop-left in
-    let a = c.args in
-    let b = build_in l.sets l.pointers l.linked in
-    further_stop a.n a.rows.now a.s.now b l.at c.requires c.take_path-y.ensures.leaves l.left c.loop-left-test.true c.in_default.not-Accepted ∙ l.invariant
+pub loop-preserved : goal.loop-preserved
+loop-preserved c = let e = c.in_ok-x.ensures in
+    further_go _ _ _ _ _ _ _ c.requires c.loop-test.true e.pointers_after e.linked_after e.value ∙ c.loop.invariant
 
-pub loop-left-preserved : goal.loop-left-preserved
-loop-left-preserved c = let l = c.loop-left in
-    let a = c.args in
-    let b = build_in l.sets l.pointers l.linked in
-    further_go a.n a.rows.now a.s.now b l.at c.requires c.take_path-y.ensures.leaves l.left c.loop-left-test.true c.in-Accepted.is ∙ l.invariant
-
-pub returns-then-all_below : goal.returns-then-all_below
-returns-then-all_below c = let l = c.loop-left in
-    let a = c.args in
-    let b = build_in l.sets l.pointers l.linked in
-    c.taken.ensures ∙ further_done a.n a.rows.now a.s.now b l.at l.left c.loop-left-test.false (sym c.all_below.ensures ∙ c.if-all_below.true) ∙ l.invariant
+pub returns-then-not-all_below : goal.returns-then-not-all_below
+returns-then-not-all_below c = further_open _ _ _ _ _ _ (omega arith) (sym c.if-not-all_below.ensures) ∙ c.loop.invariant
 
 pub returns : goal.returns
-returns c = let l = c.loop-left in
-    let a = c.args in
-    let b = build_in l.sets l.pointers l.linked in
-    c.refused.ensures ∙ further_open a.n a.rows.now a.s.now b l.at l.left c.loop-left-test.false (sym c.all_below.ensures ∙ c.if-all_below.false) ∙ l.invariant
+returns c = further_done _ _ _ _ _ _ (omega arith) (sym c.if-not-all_below.ensures) ∙ c.loop.invariant

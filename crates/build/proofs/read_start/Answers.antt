@@ -1,22 +1,24 @@
 -- `build::read_start` meets its contract. Assumes nothing.
 
-use mathlib.Core.Path.{◌∙◌, ap}
-use Rattle.build.specs.declared.Taken.{Taken}
-use Rattle.build.specs.Code.{build_in}
+use mathlib.Core.Path.{ap, ◌∙◌}
+use Rattle.paths.proofs.Told.{told-exit}
+use Rattle.build.specs.declared.Build.{Build}
 use Rattle.build.proofs.Starts.{start-over, start-unread, start-six}
 use Rattle.build.proofs.read_start.Goals as goal
 
 pub returns-then-n-gt-CAPACITY : goal.returns-then-n-gt-CAPACITY
 returns-then-n-gt-CAPACITY c = let a = c.args in
-    let r = start-over a.n a.rows.now a.s.now a.at a.pointers.now a.linked.now c.if-n-gt-CAPACITY.true c.refused.ensures in
-    record { end_value = ap (λ (x : Taken). x.end) c.no_start.ensures ∙ r.0; linked_after = ap (λ (x : Taken). build_in x.sets a.pointers.now a.linked.now) c.no_start.ensures ∙ r.1 }
+    let r = start-over a.n a.rows.now a.s.now a.at a.pointers.now a.linked.now c.if-n-gt-CAPACITY.true in
+    record { value = r.0; pointers_after = ap (λ (b : Build). b.pointers) r.1; linked_after = ap (λ (b : Build). b.linked) r.1 }
 
-pub returns-in_default : goal.returns-in_default
-returns-in_default c = let a = c.args in
-    let r = start-unread a.n a.rows.now a.s.now a.at a.pointers.now a.linked.now c.if-n-gt-CAPACITY.false c.read_four-four.ensures c.in_default.not-Accepted in
-    record { end_value = ap (λ (x : Taken). x.end) c.no_start-in_default.ensures ∙ r.0; linked_after = ap (λ (x : Taken). build_in x.sets a.pointers.now a.linked.now) c.no_start-in_default.ensures ∙ r.1 }
+pub returns-in_err-four : goal.returns-in_err-four
+returns-in_err-four c = let a = c.args in
+    let f = told-exit _ c.from_residual.result _ c.in_err-four.ensures c.from_residual.ensures.1 in
+    let r = start-unread a.n a.rows.now a.s.now a.at a.pointers.now a.linked.now c.if-n-gt-CAPACITY.false f.2 in
+    record { value = f.3 ∙ r.0; pointers_after = ap (λ (b : Build). b.pointers) r.1; linked_after = ap (λ (b : Build). b.linked) r.1 }
 
 pub returns : goal.returns
 returns c = let a = c.args in
-    let r = start-six a.n a.rows.now a.s.now a.at a.pointers.now a.linked.now c.if-n-gt-CAPACITY.false c.read_four-four.ensures c.in-Accepted.is in
-    record { end_value = c.read_six.ensures.end_value ∙ r.0; linked_after = c.read_six.ensures.linked_after ∙ r.1 }
+    let r = start-six a.n a.rows.now a.s.now a.at a.pointers.now a.linked.now c.if-n-gt-CAPACITY.false c.in_ok-four.ensures in
+    let six = c.read_six.ensures in
+    record { value = six.value ∙ r.0; pointers_after = six.pointers_after ∙ ap (λ (b : Build). b.pointers) r.1; linked_after = six.linked_after ∙ ap (λ (b : Build). b.linked) r.1 }

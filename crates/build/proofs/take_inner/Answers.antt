@@ -2,51 +2,67 @@
 
 use Prim.Native.Nat.{ℕ}
 use mathlib.Core.List.{List}
-use mathlib.Core.Path.{◌≡◌, sym, ap, ◌∙◌}
+use mathlib.Core.Path.{refl, sym, ap, ◌∙◌}
 use borrow.Author.Rules.{rules}
-use lib.ListN.{length, length-set}
+use native.Mathlib.Omega.{arith}
+use lib.ListN.{length-set}
 use Rattle.record.specs.Read.{folded}
-use Rattle.vertexset.specs.Set.{word_count, inserted}
+use Rattle.vertexset.specs.Set.{inserted}
 use Rattle.vertexset.proofs.Bit.{bit_of_lem}
-use Rattle.paths.proofs.Sets.{of_words}
 use Rattle.links.specs.Tables.{point_along, last_from, mated_ends}
 use Rattle.build.specs.Code.{inner_at}
-use Rattle.build.proofs.Inner.{value_low, inner_vertices_lem, inner_begun, pointed-on, inner_on, pointed-done, inner_done, last_on, last_done, before_begun, mated-done}
+use Rattle.build.proofs.Inner.{value_low, values_left, length_again, first-again, second-again, more_again, left-on, inner_vertices_lem, inner_begun, pointed-on, inner_on, pointed-done, inner_done, last_on, last_done, before_begun, mated-done, same_sets}
 use Rattle.build.proofs.take_inner.Goals as goal
 
-pub loop-left-init : goal.loop-left-init
-loop-left-init c = let i = c.args in
-    let ex = c.read_ranged-x.ensures in
-    let ea = c.read_vertex-a.ensures in
-    let eb = c.read_vertex-b.ensures in
-    let g = c.well_formed.1.1.1.0.1.1.0 in
-    let w : length i.built.words ≡ word_count = search rules in (
-      w,
-      value_low i.n i.s.now _ c.requires.path_at.low eb,
-      ap (point_along _) (sym (inner_vertices_lem i.n i.s.now i.at c.requires.path_at ex ea eb)),
-      ap (folded inserted _) (sym (inner_begun i.n i.s.now i.at c.requires.path_at ex ea eb)),
-      ap (last_from c.read_vertex-a.result.value) (sym (inner_begun i.n i.s.now i.at c.requires.path_at ex ea eb)),
-    )
+pub unreachable-requires : goal.unreachable-requires
+unreachable-requires c = length_again _ _ _ c.requires.path_at c.in_default.ensures
 
-pub loop-left-preserved : goal.loop-left-preserved
-loop-left-preserved c = let l = c.loop-left in
-    let i = c.args in
-    let ey = c.read_vertex-y.ensures in (
-      simp length-set l.invariant.0,
-      value_low i.n i.s.now _ c.requires.path_at.low ey,
-      pointed-on i.n i.s.now l.u l.v l.left l.next l.pointers c.loop-left-test.true ey c.point_between.ensures ∙ l.invariant.2,
-      rw (bit_of_lem l.v) (inner_on i.n i.s.now l.u l.v l.left l.next (of_words l.words) c.loop-left-test.true ey ∙ l.invariant.3),
-      last_on i.n i.s.now l.u l.v l.left l.next c.loop-left-test.true ey ∙ l.invariant.4,
-    )
+pub unreachable-requires-in_default-read_vertex : goal.unreachable-requires-in_default-read_vertex
+unreachable-requires-in_default-read_vertex c = first-again _ _ _ c.requires.path_at c.in-Ok.ensures c.in_default-read_vertex.ensures
+
+pub unreachable-requires-in_default-read_vertex-2 : goal.unreachable-requires-in_default-read_vertex-2
+unreachable-requires-in_default-read_vertex-2 c = second-again _ _ _ c.requires.path_at c.in-Ok.ensures c.in-Ok-read_vertex.ensures c.in_default-read_vertex-2.ensures
+
+pub loop-init : goal.loop-init
+loop-init c = let h = c.requires.path_at in
+    let ex = c.in-Ok.ensures in
+    let ea = c.in-Ok-read_vertex.ensures in
+    let eb = c.in-Ok-read_vertex-2.ensures in
+    let begun = inner_begun _ _ _ h ex ea eb in record {
+      wide = search rules;
+      low = value_low _ _ _ h.low eb;
+      left = more_again _ _ _ h ex ea eb;
+      along = ap (point_along _) (sym (inner_vertices_lem _ _ _ h ex ea eb));
+      inner = ap (folded inserted _) (sym begun);
+      last = ap (last_from _) (sym begun);
+    }
+
+pub unreachable-requires-in_default-read_vertex-3 : goal.unreachable-requires-in_default-read_vertex-3
+unreachable-requires-in_default-read_vertex-3 c = values_left _ _ _ _ c.loop.invariant.left (omega arith) c.in_default-read_vertex-3.ensures
+
+pub loop-preserved : goal.loop-preserved
+loop-preserved c = let l = c.loop in
+    let i = l.invariant in
+    let ew = c.in-Ok-read_vertex-3.ensures in
+    let more = c.loop-test.true in record {
+      wide = simp length-set i.wide;
+      low = value_low _ _ _ c.requires.path_at.low ew;
+      left = left-on _ _ _ _ _ more ew i.left;
+      along = pointed-on _ _ _ _ _ _ _ _ more ew c.point_between.ensures ∙ i.along;
+      inner = rw (bit_of_lem l.v.value) (inner_on _ _ _ _ _ _ _ _ more ew ∙ i.inner);
+      last = last_on _ _ _ _ _ _ _ more ew ∙ i.last;
+    }
 
 pub returns : goal.returns
-returns c = let l = c.loop-left in
-    let i = c.args in
-    let done = c.loop-left-test.false in
-    let last = last_done i.n i.s.now l.u l.v l.left l.next done ∙ l.invariant.4 in
-    let along = pointed-done i.n i.s.now l.u l.v l.left l.next l.pointers done ∙ l.invariant.2 in record {
-      built_value = inner_done i.n i.s.now l.u l.v l.left l.next (of_words l.words) done ∙ l.invariant.3;
-      last_value = last ∙ before_begun i.n i.s.now i.at c.requires.path_at c.read_ranged-x.ensures c.read_vertex-a.ensures c.read_vertex-b.ensures;
-      pointers_after = mated-done i.n i.s.now i.at c.requires.path_at c.read_ranged-x.ensures c.read_vertex-a.ensures c.read_vertex-b.ensures l.pointers c.requires.nonzero last c.mate.ensures
-          ∙ ap (λ (p : List ℕ). mated_ends p (inner_at i.n i.s.now i.at)) along;
+returns c = let l = c.loop in
+    let i = l.invariant in
+    let h = c.requires.path_at in
+    let done = c.loop-test.false in
+    let ex = c.in-Ok.ensures in
+    let ea = c.in-Ok-read_vertex.ensures in
+    let eb = c.in-Ok-read_vertex-2.ensures in
+    let last = last_done _ _ _ _ _ _ _ done ∙ i.last in record {
+      sets_value = same_sets refl (inner_done _ _ _ _ _ _ _ _ done ∙ i.inner);
+      before_value = last ∙ before_begun _ _ _ h ex ea eb;
+      pointers_after = mated-done _ _ _ h ex ea eb _ c.requires.nonzero last c.mate.ensures ∙ ap (λ (p : List ℕ). mated_ends p (inner_at c.args.n c.args.s.now c.args.at)) (pointed-done _ _ _ _ _ _ _ _ done ∙ i.along);
     }
