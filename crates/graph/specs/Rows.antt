@@ -1,5 +1,5 @@
 -- A graph by value: its adjacency as rows of bits, one row for each vertex, in one list of words.
-use Rattle.std.specs.Prelude.{ℕ, zero, suc, ◌+◌, ◌*◌, List, [], ◌∷◌, Bool, cond, ◌&&◌, ltb, get_or, replicate}
+use Rattle.std.specs.Prelude.{ℕ, zero, suc, ◌+◌, ◌*◌, ◌/◌, ◌%◌, ◌^◌, List, [], ◌∷◌, Bool, cond, ◌&&◌, ltb, get_or, set, replicate}
 use Rattle.connectivity.specs.Graph as connectivity
 use Rattle.vertexset.specs.Set.{has, with_bit, without_bit, word_count, empty_set, capacity}
 use Rattle.vertexset.specs.declared.VertexSet.{VertexSet}
@@ -21,6 +21,13 @@ words_from rows (suc j) i = get_or rows i 0 ∷ words_from rows j (i + 1)
 -- the row of u as a vertex set: the vertices adjacent to u; none where u is past the rows
 abbrev pub row_of : List ℕ → ℕ → VertexSet
 row_of rows u = cond (ltb u capacity) (record { words = words_from rows word_count (u * word_count) }) empty_set
+
+-- the bit for v in the row of u changed: its word becomes what f makes of that word and of the bit alone; a number past the vertices changes nothing
+abbrev pub changed_at : (ℕ → ℕ → ℕ) → List ℕ → ℕ → ℕ → List ℕ
+changed_at f rows u v =
+    cond (ltb u capacity && ltb v capacity)
+    (set rows ((u * capacity + v) / 64) (f (get_or rows ((u * capacity + v) / 64) 0) (2 ^ ((u * capacity + v) % 64))))
+    rows
 
 -- no edges
 abbrev pub bare_rows : List ℕ

@@ -1,9 +1,8 @@
 // A graph by value: rows of bits, one for each vertex; two vertices are joined or parted in them, or found adjacent.
 #![tactic(auto)]
 
-ghost use Rattle.std.specs.Prelude.{◌≡◌, ◌+◌, ◌*◌, ◌<◌};
-ghost use Rattle.vertexset.specs.Set.{with_bit, without_bit, capacity};
-ghost use Rattle.graph.specs.Rows.{adjacent_in, row_of, no_graph, joined_rows, parted_rows};
+ghost use Rattle.std.specs.Prelude.{◌≡◌, ℕ};
+ghost use Rattle.graph.specs.Rows.{adjacent_in, row_of, no_graph, joined_rows, changed_at, parted_rows};
 
 use vertexset::VertexSet;
 
@@ -42,12 +41,9 @@ impl GraphTable {
 pub fn adjacent(rows: &[u64; GraphTable::ROW_WORDS], u: u16, v: u16) -> bool
     ensures { result ≡ adjacent_in rows.now u v }
 {
-    if u < VertexSet::CAPACITY {
-        if v < VertexSet::CAPACITY {
-            let i = u as usize * VertexSet::WORDS + (v / 64) as usize;
-            let w = rows[i];
-            return (w >> (v % 64)) % 2 == 1;
-        }
+    if u < VertexSet::CAPACITY && v < VertexSet::CAPACITY {
+        let i = u as usize * VertexSet::WORDS + (v / 64) as usize;
+        return (rows[i] >> (v % 64)) % 2 == 1;
     }
     false
 }
@@ -61,54 +57,36 @@ pub fn row(rows: &[u64; GraphTable::ROW_WORDS], u: u16) -> VertexSet
         return set;
     }
     let first = u as usize * VertexSet::WORDS;
-    for i in 0..VertexSet::WORDS {
-        set.words[i] = rows[first + i];
-    }
+    set.words
+        .copy_from_slice(&rows[first..first + VertexSet::WORDS]);
     set
 }
 
-fn set_bit(rows: &mut [u64; GraphTable::ROW_WORDS], u: u16, v: u16)
-    requires { (u < capacity) × (v < capacity) }
-    ensures { rows.new ≡ with_bit rows.old (u * capacity + v) }
+// Bit v of row u becomes what f makes of its word and of the bit alone, whichever function it is; a number past the vertices changes nothing.
+fn change_bit<F: Fn(u64, u64) -> u64>(rows: &mut [u64; GraphTable::ROW_WORDS], u: u16, v: u16, f: F)
+    requires { F.IsAlwaysCallable f }
+    ensures { (g : ℕ → ℕ → ℕ) → ((w b r : ℕ) → F.post f w b r → r ≡ g w b) → rows.new ≡ changed_at g rows.old u v }
 {
-    let i = u as usize * VertexSet::WORDS + (v / 64) as usize;
-    let w = rows[i];
-    rows[i] = w | (1u64 << (v % 64));
+    if u < VertexSet::CAPACITY && v < VertexSet::CAPACITY {
+        let i = u as usize * VertexSet::WORDS + (v / 64) as usize;
+        rows[i] = f(rows[i], 1u64 << (v % 64));
+    }
 }
 
 // Two vertices are joined in a table of rows; a number past the vertices joins nothing.
 pub fn join(rows: &mut [u64; GraphTable::ROW_WORDS], u: u16, v: u16)
     ensures { rows.new ≡ joined_rows rows.old u v }
 {
-    if VertexSet::CAPACITY <= u {
-        return;
-    }
-    if VertexSet::CAPACITY <= v {
-        return;
-    }
-    set_bit(rows, u, v);
-    set_bit(rows, v, u);
-}
-
-fn clear_bit(rows: &mut [u64; GraphTable::ROW_WORDS], u: u16, v: u16)
-    requires { (u < capacity) × (v < capacity) }
-    ensures { rows.new ≡ without_bit rows.old (u * capacity + v) }
-{
-    let i = u as usize * VertexSet::WORDS + (v / 64) as usize;
-    let w = rows[i];
-    rows[i] = w ^ (w & (1u64 << (v % 64)));
+    let with = |word: u64, bit: u64| word | bit;
+    change_bit(rows, u, v, with);
+    change_bit(rows, v, u, with);
 }
 
 // Two vertices are parted in a table of rows; a number past the vertices parts nothing.
 pub fn part(rows: &mut [u64; GraphTable::ROW_WORDS], u: u16, v: u16)
     ensures { rows.new ≡ parted_rows rows.old u v }
 {
-    if VertexSet::CAPACITY <= u {
-        return;
-    }
-    if VertexSet::CAPACITY <= v {
-        return;
-    }
-    clear_bit(rows, u, v);
-    clear_bit(rows, v, u);
+    let without = |word: u64, bit: u64| word ^ (word & bit);
+    change_bit(rows, u, v, without);
+    change_bit(rows, v, u, without);
 }

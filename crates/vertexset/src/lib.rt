@@ -1,7 +1,7 @@
 // A set of vertices (a set of boxes), by value: one bit for each vertex, 64 to a word.
 #![tactic(auto)]
 
-ghost use Rattle.std.specs.Prelude.{◌≡◌, get_or, ◌<◌};
+ghost use Rattle.std.specs.Prelude.{◌≡◌, ℕ, get_or, ◌<◌};
 ghost use Rattle.std.specs.Int.Bits.{bit_or};
 ghost use Rattle.vertexset.specs.Set.{has, empty_set, inserted, removed, count, wordwise, less, none, subset_of, next, below_set, word_count};
 ghost use Rattle.vertexset.specs.Walk.{standing, walk_from, going, meets, met, stepped};
@@ -37,39 +37,32 @@ impl VertexSet {
         }
     }
 
-    // Nothing changes where v is past the words. Every word is looked at, so that the set can stay in registers: a processor waits
-    // where a word is stored and the whole set is loaded right after it.
-    pub fn insert(mut self, v: u16) -> Self
-        ensures { result ≡ inserted self v }
+    // The set of v alone; it is empty where v is past the words. Every word is looked at, so that the set can stay in registers: a processor
+    // waits where a word is stored and the whole set is loaded right after it.
+    fn only(v: u16) -> Self
+        ensures { result ≡ inserted empty_set v }
     {
-        let k = (v / 64) as usize;
-        let bit = 1u64 << (v % 64);
-        let mut i = 0;
-        while i < VertexSet::WORDS {
-            let w = i;
-            i += 1;
-            if w == k {
-                self.words[w] |= bit;
+        let mut words = [0u64; VertexSet::WORDS];
+        for (i, word) in words.iter_mut().enumerate() {
+            if i == (v / 64) as usize {
+                *word = 1u64 << (v % 64);
             }
         }
-        self
+        VertexSet { words }
+    }
+
+    // Nothing changes where v is past the words.
+    pub fn insert(self, v: u16) -> Self
+        ensures { result ≡ inserted self v }
+    {
+        self.union(VertexSet::only(v))
     }
 
     // Nothing changes where v is no member, or past the words.
-    pub fn remove(mut self, v: u16) -> Self
+    pub fn remove(self, v: u16) -> Self
         ensures { result ≡ removed self v }
     {
-        let k = (v / 64) as usize;
-        let bit = 1u64 << (v % 64);
-        let mut i = 0;
-        while i < VertexSet::WORDS {
-            let w = i;
-            i += 1;
-            if w == k {
-                self.words[w] ^= self.words[w] & bit;
-            }
-        }
-        self
+        self.minus(VertexSet::only(v))
     }
 
     // Word i of the vertices below n: full in front of the word into which n falls, and empty behind it.
@@ -92,8 +85,8 @@ impl VertexSet {
         ensures { result ≡ below_set n }
     {
         let mut words = [0u64; VertexSet::WORDS];
-        for i in 0..VertexSet::WORDS {
-            words[i] = VertexSet::word_below(n, i);
+        for (i, word) in words.iter_mut().enumerate() {
+            *word = VertexSet::word_below(n, i);
         }
         VertexSet { words }
     }
@@ -102,35 +95,40 @@ impl VertexSet {
         ensures { result ≡ count self.words }
     {
         let mut n: u16 = 0;
-        for i in 0..VertexSet::WORDS {
-            n += u64::count_ones(self.words[i]) as u16;
+        for word in self.words {
+            n += word.count_ones() as u16;
         }
         n
     }
 
-    pub fn union(mut self, other: VertexSet) -> Self
-        ensures { result ≡ wordwise bit_or self other }
+    // Two sets word by word: what f makes of a word of each, whichever function it is.
+    fn zip<F: Fn(u64, u64) -> u64>(mut self, other: VertexSet, f: F) -> Self
+        requires { F.IsAlwaysCallable f }
+        ensures { (g : ℕ → ℕ → ℕ) → ((x y r : ℕ) → F.post f x y r → r ≡ g x y) → result ≡ wordwise g self other }
     {
-        for i in 0..VertexSet::WORDS {
-            self.words[i] |= other.words[i];
+        for (i, word) in self.words.iter_mut().enumerate() {
+            *word = f(*word, other.words[i]);
         }
         self
     }
 
-    pub fn minus(mut self, other: VertexSet) -> Self
+    pub fn union(self, other: VertexSet) -> Self
+        ensures { result ≡ wordwise bit_or self other }
+    {
+        self.zip(other, |x, y| x | y)
+    }
+
+    pub fn minus(self, other: VertexSet) -> Self
         ensures { result ≡ wordwise less self other }
     {
-        for i in 0..VertexSet::WORDS {
-            self.words[i] ^= self.words[i] & other.words[i];
-        }
-        self
+        self.zip(other, |x, y| x ^ (x & y))
     }
 
     pub fn is_empty(self) -> bool
         ensures { result ≡ none self.words }
     {
-        for i in 0..VertexSet::WORDS {
-            if self.words[i] != 0 {
+        for word in self.words {
+            if word != 0 {
                 return false;
             }
         }
@@ -172,6 +170,7 @@ impl VertexSet {
         ensures { result ≡ next self.words v }
     {
         let mut walk = self.walk_from(v);
+        // a walk takes one step a turn, so a while
         while walk.going() {
             if walk.meets() {
                 return walk.member();
@@ -209,7 +208,7 @@ impl Cursor {
     pub fn member(self) -> u16
         ensures { result ≡ met self }
     {
-        64 * self.word as u16 + u64::trailing_zeros(self.rest) as u16
+        64 * self.word as u16 + self.rest.trailing_zeros() as u16
     }
 
     // One step through the set: behind that member, or where none is left on to the next word.

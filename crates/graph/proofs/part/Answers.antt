@@ -1,15 +1,12 @@
 -- `graph::part` meets its contract. Assumes nothing.
 
 use mathlib.Core.Path.{◌∙◌}
-use mathlib.Core.Bool.{and-false}
-use borrow.Author.Tests.{lt-ltb, le-ltb}
+use borrow.Author.Rules.{rules}
+use Rattle.vertexset.specs.Set.{less}
+use Rattle.graph.proofs.Rows.{changed_twice}
 use Rattle.graph.proofs.part.Goals as goal
 
-pub returns-then-u-ge-CAPACITY : goal.returns-then-u-ge-CAPACITY
-returns-then-u-ge-CAPACITY c = rw (le-ltb _ _ c.if-u-ge-CAPACITY.true)
-
-pub returns-then-v-ge-CAPACITY : goal.returns-then-v-ge-CAPACITY
-returns-then-v-ge-CAPACITY c = rw (le-ltb _ _ c.if-v-ge-CAPACITY.true, and-false)
-
 pub returns : goal.returns
-returns c = c.clear_bit-2.ensures ∙ rw (lt-ltb _ _ c.if-u-ge-CAPACITY.false, lt-ltb _ _ c.if-v-ge-CAPACITY.false, c.clear_bit.ensures)
+returns c = let a = c.args in
+    c.change_bit-2.ensures less (λ w b r e. search rules)
+    ∙ rw (c.change_bit.ensures less (λ w b r e. search rules)) (changed_twice less a.rows.now a.u a.v)

@@ -17,7 +17,7 @@ pub loop-i-preserved : goal.loop-i-preserved
 loop-i-preserved c = let l = c.loop-i in
     let n = c.args.n in
     let long = below_length n in
-    let h : l.i < length l.words = omega arith in
+    let h : l.i < length l.word-items = omega arith in
     let k : l.i < length (below_set n).words = omega arith in
     (simp length-set l.invariant.0, rw (add-one, take-suc-set, take-suc (below_set n).words l.i 0, l.invariant.1, c.word_below.ensures))
 
@@ -25,6 +25,6 @@ pub returns : goal.returns
 returns c = let l = c.loop-i in
     let n = c.args.n in
     let long = below_length n in
-    let h : length l.words ≤ l.i = omega arith in
+    let h : length l.word-items ≤ l.i = omega arith in
     let k : length (below_set n).words ≤ l.i = omega arith in
-    ap (λ ws. record { words = ws }) (sym (take_all l.i l.words h) ∙ l.invariant.1 ∙ take_all l.i (below_set n).words k)
+    ap (λ ws. record { words = ws }) (sym (take_all l.i l.word-items h) ∙ l.invariant.1 ∙ take_all l.i (below_set n).words k)

@@ -10,20 +10,20 @@ use Rattle.vertexset.specs.Set.{none, word_count}
 use Rattle.vertexset.proofs.Steps.{drop_next}
 use Rattle.vertexset.proofs.VertexSet.is_empty.Goals as goal
 
-pub returns-then-self-i-ne0 : goal.returns-then-self-i-ne0
+pub returns-then-word-ne0 : goal.returns-then-word-ne0
 unfolding none
-returns-then-self-i-ne0 c = let l : length c.args.self.words ≡ word_count = search rules in
-    let k : c.loop-i.i < length c.args.self.words = omega arith in
-    rw (← c.loop-i.invariant, drop_next, ne_eqb _ _ c.if-self-i-ne0.true)
+returns-then-word-ne0 c = let l : length c.args.self.words ≡ word_count = search rules in
+    let k : c.loop-word.word-index < length c.args.self.words = omega arith in
+    rw (← c.loop-word.invariant, drop_next, ne_eqb _ _ c.if-word-ne0.true)
 
-pub loop-i-preserved : goal.loop-i-preserved
+pub loop-word-preserved : goal.loop-word-preserved
 unfolding none
-loop-i-preserved c = let l : length c.args.self.words ≡ word_count = search rules in
-    let k : c.loop-i.i < length c.args.self.words = omega arith in
-    rw (← c.loop-i.invariant, drop_next _ c.loop-i.i, eq-eqb _ _ c.if-self-i-ne0.false)
+loop-word-preserved c = let l : length c.args.self.words ≡ word_count = search rules in
+    let k : c.loop-word.word-index < length c.args.self.words = omega arith in
+    rw (← c.loop-word.invariant, drop_next _ c.loop-word.word-index, eq-eqb _ _ c.if-word-ne0.false)
 
 pub returns : goal.returns
 unfolding none
 returns c = let l : length c.args.self.words ≡ word_count = search rules in
-    let k : length c.args.self.words ≤ c.loop-i.i = omega arith in
-    rw (← c.loop-i.invariant, drop_of_length-le)
+    let k : length c.args.self.words ≤ c.loop-word.word-index = omega arith in
+    rw (← c.loop-word.invariant, drop_of_length-le)
