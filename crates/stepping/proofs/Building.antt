@@ -3,9 +3,7 @@ use Prim.Native.Nat.{ℕ, ◌+◌}
 use mathlib.Core.Path.{◌≡◌, refl, sym, ap, subst, ◌∙◌}
 use mathlib.Core.Bool.{Bool, true, false, cond}
 use mathlib.Core.List.{List, []}
-use native.Mathlib.Omega.{arith}
-use lib.ListN.{length, take, replicate}
-use lib.Seq.{length-take-le}
+use lib.ListN.{take, replicate}
 use Rattle.vertexset.specs.Set.{empty_set}
 use Rattle.vertexset.specs.declared.VertexSet.{VertexSet}
 use Rattle.graph.specs.Limits.{max_edges}
@@ -17,7 +15,7 @@ use Rattle.construction.specs.Steps.{State, steps, first_state, build, finish}
 use Rattle.construction.proofs.Near.{near-set}
 use Rattle.detours.specs.Code.{cut_of, cut_in, FlatShows}
 use Rattle.detours.specs.declared.Cut.{Cut}
-use Rattle.detours.proofs.Filled.{Filled, filled_length, filled_take, filled_added, filled_none, flat_kept}
+use Rattle.detours.proofs.Filled.{Filled, filled_take, filled_added, filled_none, flat_kept}
 use Rattle.stepping.specs.Code.{Shows, Holds, state_in, built_of, finished_of}
 use Rattle.stepping.specs.declared.Built.{Built}
 use Rattle.stepping.specs.declared.Progress.{Progress}
@@ -32,9 +30,6 @@ build_steps rows full b = refl
 module _ (list : List ℕ) {flat : List ℕ} {len : ℕ} (o : flat ≡ placed (replicate path_space 0) 0 list) (e : len ≡ placed_end (replicate path_space 0) 0 list) where
   put : Filled path_space flat len (added path_space [] list)
   put = filled_added (filled_none path_space) list o e
-
-  pub put_fits : len ≡ length (take len flat)
-  put_fits = let f = put in sym (length-take-le len flat (omega (arith, f.size, f.short, filled_length f)))
 
   module _ (rows : List ℕ) (full four : VertexSet) {bare built bare2 n : VertexSet} {none : Cut} (z : bare ≡ empty_set) (w : built ≡ set_with_all bare (take len flat))
       (y : bare2 ≡ empty_set) (m : n ≡ near_all rows bare2 (take len flat)) (c : none ≡ cut_of no_cut) where

@@ -1,11 +1,11 @@
--- Lists as the loops of the steps take them: what is left of a list, and what stands at the front of an array. Assumes nothing.
+-- Lists as the steps go through them: the place of what is looked for, and what is left of a list. Assumes nothing.
 use Rattle.std.specs.Prelude.{None, Some, position, nat_lt}
 use Rattle.std.proofs.lemmas.List.Quantifiers.{position-Some}
 use Rattle.std.proofs.lemmas.List.Sums.{position_or_len_is}
 use borrow.Author.Tests.{ltb-false}
 use Prim.Native.Nat.{ℕ, ◌+◌, ◌≤◌, ◌<◌}
-use mathlib.Core.Path.{◌≡◌, refl, sym, ap, ◌∙◌}
-use mathlib.Core.Bool.{Bool, true, false, cond, not, ◌&&◌, ◌||◌}
+use mathlib.Core.Path.{◌≡◌, refl, ap, ◌∙◌}
+use mathlib.Core.Bool.{Bool, true, false, cond, ◌&&◌, ◌||◌}
 use mathlib.Core.List.{List, [], ◌∷◌}
 use native.Mathlib.Omega.{arith}
 use lib.Dec.{eqb}
@@ -43,14 +43,6 @@ module _ (p : ℕ → Bool) (l : List ℕ) (i : ℕ) where
 
   pub place_turn : i < length l → p (get_or l i 0) ≡ false → i + 1 + place_of p (drop (i + 1) l) ≡ i + place_of p (drop i l)
   place_turn h e = let q : place_of p (drop i l) ≡ place_of p (drop (i + 1) l) + 1 = rw e at (place_at h) in omega arith
-
-pub not-true : (b : Bool) → not b ≡ true → b ≡ false
-not-true true p = sym p
-not-true false p = refl
-
-pub not-false : (b : Bool) → not b ≡ false → b ≡ true
-not-false true p = refl
-not-false false p = sym p
 
 abbrev pub two_are : ℕ → ℕ → ℕ → ℕ → Bool
 two_are x y a b = (eqb a x && eqb b y) || (eqb a y && eqb b x)

@@ -1,12 +1,12 @@
 -- Two vertices side by side in a list: what is left of the list, and places that are passed over. Assumes nothing.
 use Prim.Native.Nat.{ℕ, zero, suc, ◌+◌, ◌-◌, ◌≤◌, ◌<◌}
 use mathlib.Core.Path.{◌≡◌, refl, ap}
-use mathlib.Core.Bool.{Bool, true, false, ◌||◌}
+use mathlib.Core.Bool.{false, ◌||◌}
 use mathlib.Core.List.{List, [], ◌∷◌}
 use native.Mathlib.Omega.{arith}
 use lib.ListN.{length, take, drop, get_or, length-drop}
 use lib.Seq.{drop-drop}
-use Rattle.connectivity.proofs.Lists.{clash}
+use Rattle.std.proofs.lemmas.Bool.{or_parts}
 use Rattle.vertexset.proofs.Steps.{drop_next}
 use Rattle.construction.specs.Steps.{pair_place}
 use Rattle.stepping.specs.Code.{has_pair}
@@ -29,10 +29,6 @@ module _ (x y : ℕ) (l : List ℕ) (j i : ℕ) (next : i ≡ j + 1) where
       go (a ∷ []) h = refl
       go (a ∷ (b ∷ k)) h = absurd (omega arith)
 
-both_false : (a b : Bool) → (a || b) ≡ false → (a ≡ false) × (b ≡ false)
-both_false false b e = (refl, e)
-both_false true b e = absurd (clash refl e)
-
 -- places without the pair are passed over
 pair-skip : (x y k : ℕ) (l : List ℕ) → k < length l → has_pair x y (take (suc k) l) ≡ false → k + pair_place x y (drop k l) ≡ pair_place x y l
 unfolding has_pair pair_place
@@ -40,7 +36,7 @@ pair-skip x y zero l h e = omega arith
 pair-skip x y (suc k) [] h e = absurd (omega arith)
 pair-skip x y (suc k) (a ∷ []) h e = absurd (omega arith)
 pair-skip x y (suc k) (a ∷ (b ∷ l)) h e =
-    let p = both_false (two_are x y a b) (has_pair x y (b ∷ take k l)) e in
+    let p = or_parts (two_are x y a b) (has_pair x y (b ∷ take k l)) e in
     let r = pair-skip x y k (b ∷ l) (omega arith) p.1 in
     rw p.0 (omega arith)
 

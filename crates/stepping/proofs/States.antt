@@ -1,5 +1,4 @@
 -- Lists of paths at the front of the array, and what a step makes of them. Assumes nothing.
-use Rattle.std.specs.List.{copy_within}
 use Prim.Native.Nat.{ℕ, ◌+◌, ◌-◌, ◌≤◌, ◌<◌}
 use mathlib.Core.Path.{◌≡◌, refl, sym, ap, ◌∙◌}
 use mathlib.Core.Bool.{Bool, true, false, cond}
@@ -7,8 +6,8 @@ use mathlib.Core.List.{List, ◌∷◌, ◌++◌, append_assoc}
 use native.Mathlib.Omega.{arith}
 use lib.Dec.{leb}
 use lib.ListN.{length, take, drop, get_or, replicate, length-append, length-drop}
-use lib.Seq.{take-append-le, drop-append-le, take_at, drop_at, drop-append-add, take-take, length-take-le, get_or-take}
-use borrow.Author.Tests.{le-leb, lt-leb, leb-true}
+use lib.Seq.{take-append-le, drop-append-le, take_at, drop-append-add, length-take-le, get_or-take}
+use borrow.Author.Tests.{leb-true}
 use Rattle.vertexset.specs.Set.{inserted}
 use Rattle.vertexset.specs.declared.VertexSet.{VertexSet}
 use Rattle.search.specs.Arrays.{padded, placed, placed_end}
@@ -35,46 +34,6 @@ module _ (rows items : List ℕ) (b : Progress) (st : State) (s : Shows rows ite
   shows_state = rw s.beside (rw (flat_take items st.flat s.array s.short))
 
 -- ---- a list put in between
-
-module _ (items : List ℕ) (len k : ℕ) (new : List ℕ) where
-  pub between_none : length items < len + length new → (items ≡ put_between items len k new) × (len ≡ put_between_end items len new)
-  between_none h = (rw (lt-leb (len + length new) (length items) h), rw (lt-leb (len + length new) (length items) h))
-
-  pub between-end : len + length new ≤ length items → len + length new ≡ put_between_end items len new
-  between-end h = rw (le-leb (len + length new) (length items) h)
-
-  module _ (low : k ≤ len) (room : len + length new ≤ length items) where
-    -- the numbers from k on have moved up
-    abbrev moved : List ℕ
-    moved = take (k + length new) items ++ (take (len - k) (drop k items) ++ drop (len + length new) items)
-
-    moved_is : copy_within items k len (k + length new) ≡ moved
-    moved_is =
-        let z : k + length new + (len - k) ≡ len + length new = omega arith in
-        append_assoc (take (k + length new) items) (take (len - k) (drop k items)) (drop (k + length new + (len - k)) items) ∙ rw z
-
-    front : length (take (k + length new) items) ≡ k + length new
-    front = length-take-le (k + length new) items (omega arith)
-
-    moved_length : length moved ≡ length items
-    moved_length =
-        omega (arith, front, length-append (take (k + length new) items) (take (len - k) (drop k items) ++ drop (len + length new) items), length-append (take (len - k) (drop k items)) (drop (len + length new) items), length-take-le (len - k) (drop k items) (omega (arith, length-drop k items)), length-drop (len + length new) items)
-
-    moved_front : take k moved ≡ take k items
-    moved_front =
-        let h : k ≤ length (take (k + length new) items) = omega (arith, front) in
-        let i : k ≤ k + length new = omega arith in
-        take-append-le k (take (k + length new) items) _ h ∙ take-take k (k + length new) items i
-
-    moved_rest : drop (k + length new) moved ≡ take (len - k) (drop k items) ++ drop (len + length new) items
-    moved_rest = drop_at (take (k + length new) items) _ (k + length new) front
-
-    pub between_done : placed (copy_within items k len (k + length new)) k new ≡ put_between items len k new
-    between_done =
-        let h : k + length new ≤ length moved = omega (arith, moved_length) in
-        rw moved_is
-        (rw (le-leb (k + length new) (length moved) h, le-leb (len + length new) (length items) room, moved_front, moved_rest)
-        (append_assoc (take k items) new _))
 
 abbrev put_at : List ℕ → ℕ → List ℕ → List ℕ
 put_at l k new = take k l ++ (new ++ drop k l)

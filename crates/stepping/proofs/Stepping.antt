@@ -1,9 +1,9 @@
 -- The steps of a build, as the code puts them together. Assumes nothing.
 use Rattle.std.specs.Prelude.{Option, None, Some, IfSome, Ok, Err, position}
-use Prim.Native.Nat.{ℕ, zero, suc, ◌+◌, ◌-◌, ◌≤◌, ◌<◌}
+use Prim.Native.Nat.{ℕ, zero, suc, ◌+◌, ◌≤◌, ◌<◌}
 use mathlib.Core.Path.{◌≡◌, refl, sym, ap, subst, ◌∙◌}
 use mathlib.Core.Bool.{Bool, true, false, cond, not}
-use mathlib.Core.List.{List, []}
+use mathlib.Core.List.{List}
 use native.Mathlib.Omega.{arith}
 use lib.Dec.{ltb}
 use lib.ListN.{length, take, get_or}
@@ -11,9 +11,7 @@ use lib.Seq.{take_all}
 use borrow.Author.Tests.{lt-ltb, le-ltb}
 use Rattle.vertexset.specs.Set.{has}
 use Rattle.vertexset.specs.declared.VertexSet.{VertexSet}
-use Rattle.search.specs.Code.{path_room}
-use Rattle.construction.specs.Sets.{pair, set_of, minus, last_of, place_of, empty}
-use Rattle.construction.specs.Search.{explore}
+use Rattle.construction.specs.Sets.{set_of, minus, last_of, place_of, empty}
 use Rattle.construction.specs.Ears as construction
 use Rattle.construction.specs.Ears.{no_cut, is_cut, answered, near, detour}
 use Rattle.construction.specs.Steps.{State, state, stopped, extended, segment, off_link, up_to, run_end, link_step, beside_place, reroute, out_taken, out_step, inner_place, step, steps}
@@ -22,13 +20,13 @@ use Rattle.detours.specs.Code.{cut_of, found_of}
 use Rattle.detours.specs.declared.Cut.{Cut}
 use Rattle.detours.proofs.Answered.{Found, ok_test, ok_path, err_test, err_cut}
 use Rattle.detours.proofs.Kept.{kept_size, kept_shows}
-use Rattle.detours.proofs.Earing.{detour-short}
 use Rattle.arrayvec.specs.ArrayVec.{ArrayVec}
 use Rattle.stepping.specs.Code.{Shows, Holds, state_in, Spans, Works, Left}
 use Rattle.stepping.specs.declared.Progress.{Progress}
 use Rattle.stepping.specs.declared.Work.{Work}
 use Rattle.stepping.proofs.States.{shows_holds, shows_state, same_shows}
-use Rattle.stepping.proofs.Lists.{not-true, not-false, placed_at, not_placed}
+use Rattle.std.proofs.lemmas.Bool.{not-true, not-false}
+use Rattle.stepping.proofs.Lists.{placed_at, not_placed}
 use Rattle.stepping.proofs.Working.{span_low, goal_alone, left_works}
 
 -- ---- a step that stops
@@ -42,11 +40,6 @@ stops rows flat b h x e q =
     record { array = h.kept.0; short = (kept_shows flat b.len h.kept).short; beside = q ∙ rw (kept_size flat b.len h.kept, ← h.same_near, e) }
 
 -- ---- (a) from inside a link
-
-pub off_found : (rows list : List ℕ) (built : VertexSet) (i j : ℕ) {p q a b u v : ℕ} {ends seeds inner rest goals : VertexSet} → p ≡ i - 1 → a ≡ get_or list p 0 → b ≡ get_or list j 0 → ends ≡ pair a b
-    → u ≡ get_or list i 0 → q ≡ j - 1 → v ≡ get_or list q 0 → seeds ≡ pair u v → inner ≡ set_of (segment list i j) → rest ≡ minus built inner → goals ≡ minus rest ends
-    → answered (explore rows seeds goals ends) ends [] ≡ off_link rows (state list built built 0) i j
-off_found rows list built i j p a b e u q v s n r g = rw (g, r, n, s, v, q, u, e, b, a, p)
 
 -- a path up to a set
 module _ (path : List ℕ) (set : VertexSet) where
@@ -102,9 +95,6 @@ module _ (rows flat : List ℕ) (b : Progress) (w : Work) where
       subst (λ (st : State). Works st work) (sym (shows_state rows out n (extended (state_in flat b) l w.first) t)) (left_works (state_in flat b) sb su w up s l (goal_alone w.link path q) work m)
 
 -- ---- (b) out and back
-
-pub detour_short : (rows : List ℕ) (n set : VertexSet) {p : ArrayVec ℕ} → Ok p ≡ found_of (detour rows n set) → {l : List ℕ} → l ≡ p.items → length l ≤ path_room
-detour_short rows n set e q = subst (λ (l : List ℕ). length l ≤ path_room) (sym (q ∙ ok_path (detour rows n set) e)) (detour-short rows n set)
 
 -- by the test of whether every vertex is in
 out_step_lem : (rows : List ℕ) (full : VertexSet) (st : State) → out_step rows full st ≡ cond (empty (minus full st.built)) (stopped st no_cut) (out_taken rows st (detour rows (near rows st.built) st.built))

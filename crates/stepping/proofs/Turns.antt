@@ -6,7 +6,7 @@ use mathlib.Core.List.{List, [], ◌∷◌, ◌++◌, reverse}
 use native.Mathlib.Omega.{arith}
 use lib.Dec.{eqb}
 use lib.ListN.{length, drop, get_or}
-use borrow.Author.Tests.{eq-eqb, ne_eqb}
+use borrow.Author.Tests.{ne_eqb}
 use Rattle.std.proofs.lemmas.Grind.{reverse_onto}
 use Rattle.std.specs.List.{refill}
 use Rattle.std.proofs.lemmas.List.{length-reverse}
@@ -33,12 +33,8 @@ module _ (path : List ℕ) (z : ℕ) where
       go true = refl
       go false = refl
 
-  -- its inner vertices, put into an empty one, or reversed there
-  module _ {none items : List ℕ} (n : none ≡ []) (e : items ≡ none ++ segment path 1 (length path - 1)) where
-    pub turned_same : z ≡ get_or path 0 0 → items ≡ turned path z
-    turned_same h = rw (eq-eqb z (get_or path 0 0) h) (rw n at e)
-
-    pub turned-other : {l : List ℕ} → (z ≡ get_or path 0 0 → ⊥) → l ≡ reverse items → refill (length items) items l ≡ turned path z
-    turned-other {l} h q =
-        let k : items ≡ segment path 1 (length path - 1) = rw n at e in
-        refilled items l (ap length q ∙ length-reverse items) ∙ q ∙ reversed-is items ∙ rw (ne_eqb z (get_or path 0 0) h, k)
+  -- its inner vertices, put into an empty list and reversed there
+  pub turned-other : {none items l : List ℕ} → none ≡ [] → items ≡ none ++ segment path 1 (length path - 1) → (z ≡ get_or path 0 0 → ⊥) → l ≡ reverse items → refill (length items) items l ≡ turned path z
+  turned-other {items} {l} n e h q =
+      let k : items ≡ segment path 1 (length path - 1) = rw n at e in
+      refilled items l (ap length q ∙ length-reverse items) ∙ q ∙ reversed-is items ∙ rw (ne_eqb z (get_or path 0 0) h, k)

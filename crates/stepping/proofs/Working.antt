@@ -1,6 +1,7 @@
 -- The link at work: its run in the list of paths, and what is left of it when a path from its first or its last inner vertex is taken. Assumes nothing.
 use Rattle.std.specs.Prelude.{Option, None, Some, IfSome, position}
 use Rattle.std.specs.List.{prefix_len}
+use Rattle.std.proofs.lemmas.List.Sums.{passes_at_first}
 use Prim.Native.Nat.{ℕ, zero, suc, ◌+◌, ◌-◌, ◌≤◌, ◌<◌}
 use mathlib.Core.Path.{◌≡◌, refl, sym, ap, subst, ◌∙◌}
 use mathlib.Core.Bool.{Bool, true, false, cond, not}
@@ -27,7 +28,8 @@ use Rattle.construction.proofs.Near.{same_test}
 use Rattle.construction.proofs.SetLaws.{sized_empty, sized_inserted, sized_all, sized_minus, sized_single, on_low, minus-on, on_minus, inserted-on, on_inserted, inserted-keep, single-on, on_single, on_all, set_on, on_set, members-in, members-nodup, members-count}
 use Rattle.stepping.specs.Code.{Spans, IsNext, Works, Left}
 use Rattle.stepping.specs.declared.Work.{Work}
-use Rattle.stepping.proofs.Lists.{place_here, place_turn, placed_at, not_placed, not-false}
+use Rattle.std.proofs.lemmas.Bool.{not-false}
+use Rattle.stepping.proofs.Lists.{place_is, place_here, place_turn, placed_at, not_placed}
 
 -- ---- the first place from i on at which a test holds
 
@@ -52,13 +54,7 @@ module _ (p : ℕ → Bool) (l : List ℕ) where
       (λ t. before_place d (i + 1) m (omega arith) (omega (arith, place_turn p l i (place_low i m (omega arith) h) t))) (bool? (p (get_or l i 0)))
 
 place_holds : (p : ℕ → Bool) (l : List ℕ) → place_of p l < length l → p (get_or l (place_of p l) 0) ≡ true
-unfolding place_of
-place_holds p [] h = absurd (omega arith)
-place_holds p (a ∷ l) h = go (p a) refl h (place_holds p l)
-  where
-    go : (b : Bool) → p a ≡ b → cond b 0 (place_of p l + 1) < suc (length l) → (place_of p l < length l → p (get_or l (place_of p l) 0) ≡ true) → p (get_or (a ∷ l) (cond b 0 (place_of p l + 1)) 0) ≡ true
-    go true t k f = t
-    go false t k f = rw (add-one (place_of p l)) (f (omega arith))
+place_holds p l h = rw (place_is p l) (passes_at_first p l 0 (rw (place_is p l) at h))
 
 -- ---- a part of a list, by its places
 
@@ -156,19 +152,6 @@ up_to-first set (a ∷ l) h = go (has set.words a) refl h
 
 pub goal_alone : (set : VertexSet) (path : List ℕ) {l : List ℕ} → l ≡ up_to set path → On set (get_or l 0 0) → get_or l 0 0 ≡ last_of l
 goal_alone set path e = subst (λ (l : List ℕ). On set (get_or l 0 0) → get_or l 0 0 ≡ last_of l) (sym e) (up_to-first set path)
-
--- the tests of the code
-pub left_told : (flat : List ℕ) (branch : VertexSet) (w : Work) (x : ℕ) {r : Work} {in_branch : Bool} {size : ℕ} {one : VertexSet} → r.first < r.end → w.end < length flat → in_branch ≡ has branch.words (get_or flat w.end 0) → in_branch ≡ true
-    → size ≡ count w.link.words → size ≡ w.end - w.first → one ≡ single x → r.link ≡ minus w.link one
-    → ((x ≡ get_or flat w.first 0) × ((r.first ≡ w.first + 1) × (r.end ≡ w.end))) ⊎ ((x ≡ get_or flat (w.end - 1) 0) × ((r.first ≡ w.first) × (r.end ≡ w.end - 1))) → Left flat branch w x r
-left_told flat branch w x up low has-it t n m o l p = record {
-  some = up;
-  low = low;
-  behind = sym has-it ∙ t;
-  once = sym n ∙ m;
-  link = l ∙ ap (λ (k : VertexSet). minus w.link k) o;
-  places = p;
-}
 
 -- ---- what is left of it: without the place q, its first or its last, the places i to j are the places f to e
 

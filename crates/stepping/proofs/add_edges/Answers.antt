@@ -3,13 +3,12 @@
 use Prim.Native.Nat.{ℕ, ◌+◌}
 use mathlib.Core.Path.{◌≡◌, refl, sym, ap, ◌∙◌}
 use mathlib.Core.List.{List, [], ◌∷◌}
-use lib.ListN.{length, get_or, set, length-set}
+use lib.ListN.{length, get_or, set}
 use mir.Val.{Fits}
 use mir.Syntax.{w64}
 use borrow.Author.Rules.{rules}
 use Rattle.vertexset.specs.Set.{Words, word_count}
 use Rattle.vertexset.proofs.Walks.{walks_begin, walks_on, walks_less}
-use Rattle.detours.proofs.Filled.{filled_length, kept_flat}
 use Rattle.stepping.proofs.Edges.{edges-start, edges-turn, edges-passes, edges-end}
 use Rattle.stepping.proofs.add_edges.Goals as goal
 
@@ -20,11 +19,6 @@ loop-set-init c = let a = c.args in
     let f : Words ws = λ i. let f : Fits w64 (get_or ws i 0) = search rules in f.fits in
     let e = c.walk_from-walk.ensures in
     (walks_begin ws l f (a.u + 1) e, edges-start a.u a.set l a.flat.now a.from c.requires.0 e, refl)
-
-pub slice_bounds-add_path-end : goal.slice_bounds-add_path-end
-slice_bounds-add_path-end c = let v = c.member.result in
-    let l = c.loop-set in
-    sym (length-set l.edge 1 v ∙ ap length l.invariant.2)
 
 pub loop-set-smaller-then-meets : goal.loop-set-smaller-then-meets
 loop-set-smaller-then-meets c = walks_less c.loop-set.invariant.0 (sym c.going.ensures ∙ c.loop-set-test.true) c.step-walk.ensures
@@ -50,9 +44,6 @@ loop-set-preserved c = let a = c.args in
       edges-passes a.u a.set c.loop-set.invariant.0 c.loop-set.invariant.1 g c.step-walk.ensures (sym c.meets.ensures ∙ c.if-meets.false),
       c.loop-set.invariant.2,
     )
-
-pub shape_of-flat : goal.shape_of-flat
-shape_of-flat c = filled_length c.loop-set.invariant.1.front ∙ sym (filled_length (kept_flat _ _ c.requires.0))
 
 pub returns : goal.returns
 returns c = let a = c.args in

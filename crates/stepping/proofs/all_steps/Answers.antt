@@ -9,10 +9,6 @@ returns-then-not-s c = let l = c.loop in
     let a = c.args in
     steps-stopped a.rows.now a.full l.flat l.s.progress l.invariant.0.0 _ l.invariant.0.1 c.if-not-s.true
 
-pub step-s-requires : goal.step-s-requires
-step-s-requires c = let l = c.loop in
-    (l.invariant.0.0, l.invariant.1)
-
 pub loop-preserved : goal.loop-preserved
 loop-preserved c = let l = c.loop in
     let a = c.args in

@@ -6,14 +6,8 @@ use Rattle.construction.specs.Ears.{path_space}
 use Rattle.construction.specs.Start.{begun}
 use Rattle.construction.specs.Steps as construction
 use Rattle.stepping.proofs.States.{shows_holds}
-use Rattle.stepping.proofs.Building.{put_fits, first_holds, build-shows, build-cut, build-done}
+use Rattle.stepping.proofs.Building.{first_holds, build-shows, build-cut, build-done}
 use Rattle.stepping.proofs.build.Goals as goal
-
-pub slice_bounds-with_all-end : goal.slice_bounds-with_all-end
-slice_bounds-with_all-end c = put_fits c.args.list.now c.put_all-len.ensures.after c.put_all-len.ensures.value
-
-pub slice_bounds-near_all-end : goal.slice_bounds-near_all-end
-slice_bounds-near_all-end c = put_fits c.args.list.now c.put_all-len.ensures.after c.put_all-len.ensures.value
 
 pub all_steps-b-requires : goal.all_steps-b-requires
 all_steps-b-requires c = let a = c.args in

@@ -1,7 +1,7 @@
 -- `stepping::has_pair` meets its contract: what was met so far, or what is left, tells of the whole list. Assumes nothing.
 
 use Prim.Native.Nat.{◌+◌, ◌-◌}
-use mathlib.Core.Path.{◌≡◌, refl, sym, ap, ◌∙◌}
+use mathlib.Core.Path.{◌≡◌, sym, ap, ◌∙◌}
 use mathlib.Core.Bool.{Bool, ◌||◌, or-false, or_assoc}
 use native.Mathlib.Omega.{arith}
 use lib.ListN.{drop, get_or}
@@ -9,9 +9,6 @@ use Rattle.stepping.specs.Code.{has_pair}
 use Rattle.stepping.proofs.Lists.{two_are}
 use Rattle.stepping.proofs.Pairs.{has-turn, has_end}
 use Rattle.stepping.proofs.has_pair.Goals as goal
-
-pub loop-i-init : goal.loop-i-init
-loop-i-init c = refl
 
 pub loop-i-preserved : goal.loop-i-preserved
 loop-i-preserved c = let l = c.loop-i in

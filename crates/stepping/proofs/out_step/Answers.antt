@@ -1,10 +1,8 @@
 -- `stepping::out_step` meets its contract. Assumes nothing.
 
-use native.Mathlib.Omega.{arith}
 use borrow.Author.Rules.{rules}
 use Rattle.detours.proofs.Answered.{detour-told}
-use Rattle.detours.proofs.Kept.{kept_length}
-use Rattle.stepping.proofs.Stepping.{detour_short, out_done, out_stops, out_reroutes, out_extends}
+use Rattle.stepping.proofs.Stepping.{out_done, out_stops, out_reroutes, out_extends}
 use Rattle.stepping.proofs.out_step.Goals as goal
 
 pub returns-then-is_empty : goal.returns-then-is_empty
@@ -16,15 +14,6 @@ pub returns-in-Err : goal.returns-in-Err
 returns-in-Err c = let a = c.args in
     out_stops a.rows.now a.full a.flat.now a.b c.requires c.minus.ensures c.is_empty.ensures c.if-is_empty.false
     (detour-told a.space.now (search rules) a.rows.now a.b.near a.b.built c.in-Err.ensures.value) c.stopped-in-Err.ensures
-
-pub slice_bounds-beside-end : goal.slice_bounds-beside-end
-slice_bounds-beside-end c = omega (arith, kept_length c.args.flat.now c.args.b.len c.requires.kept, c.requires.kept.1)
-
-pub reroute-requires : goal.reroute-requires
-reroute-requires c = let a = c.args in (
-  c.requires,
-  (c.if-k-b.true, detour_short a.rows.now a.b.near a.b.built (detour-told a.space.now (search rules) a.rows.now a.b.near a.b.built c.in-Ok.ensures.value) c.as_slice-path.ensures.value),
-)
 
 pub returns-then-k-b : goal.returns-then-k-b
 returns-then-k-b c = let a = c.args in

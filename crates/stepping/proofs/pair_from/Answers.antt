@@ -6,9 +6,6 @@ use native.Mathlib.Omega.{arith}
 use Rattle.stepping.proofs.Lists.{pair-here, pair_turn, pair_end}
 use Rattle.stepping.proofs.pair_from.Goals as goal
 
-pub loop-i-init : goal.loop-i-init
-loop-i-init c = let z : c.args.from + 1 - 1 ≡ c.args.from = omega arith in (omega arith, rw z)
-
 pub returns-then-a-x : goal.returns-then-a-x
 returns-then-a-x c = let l = c.loop-i in
     pair-here _ _ c.args.list.now (l.i - 1) l.i (omega arith) c.loop-i-test.true c.if-a-x.true ∙ l.invariant.1

@@ -1,29 +1,17 @@
 -- `stepping::reroute` meets its contract. Assumes nothing.
 
-use Prim.Native.Nat.{ℕ, ◌+◌, ◌≤◌}
+use Prim.Native.Nat.{ℕ, ◌+◌}
 use mathlib.Core.List.{List}
 use mathlib.Core.Path.{ap, ◌∙◌}
-use native.Mathlib.Omega.{arith}
 use mir.Val.{Fits}
 use mir.Syntax.{w64}
 use borrow.Author.Rules.{rules}
-use lib.ListN.{length, get_or}
+use lib.ListN.{get_or}
 use Rattle.arrayvec.specs.ArrayVec.{ArrayVec}
 use Rattle.construction.proofs.Basics.{Sized}
-use Rattle.detours.proofs.Kept.{kept_length}
 use Rattle.stepping.specs.Code.{put_between, put_between_end}
 use Rattle.stepping.proofs.States.{reroute-shows}
 use Rattle.stepping.proofs.reroute.Goals as goal
-
-pub bounds-flat-k : goal.bounds-flat-k
-bounds-flat-k c = let a = c.args in
-    omega (arith, kept_length a.flat.now a.b.len c.requires.0.kept, c.requires.0.kept.1, c.requires.1.0)
-
-pub put_between-len-requires : goal.put_between-len-requires
-put_between-len-requires c = let a = c.args in
-    let h : a.k + 1 ≤ a.b.len = omega (arith, c.requires.1.0) in
-    let m : a.b.len ≤ length a.flat.now = omega (arith, c.requires.0.kept.1, kept_length a.flat.now a.b.len c.requires.0.kept) in
-    (h, m)
 
 pub returns : goal.returns
 returns c = let a = c.args in
