@@ -5,6 +5,8 @@ use Rattle.vertexset.specs.Set.{has, capacity}
 use Rattle.vertexset.specs.declared.VertexSet.{VertexSet}
 use Rattle.graph.specs.Rows.{joined_rows, parted_rows}
 use Rattle.links.specs.declared.Link.{Link}
+use Rattle.links.specs.declared.Part.{Part}
+use Rattle.links.specs.declared.Part.TheVariants.{Before, After, Mate}
 use Rattle.links.specs.declared.End.{End}
 use Rattle.links.specs.declared.End.TheVariants.{Branch, Inner}
 use Rattle.links.specs.declared.Addition.{Addition}
@@ -17,6 +19,12 @@ pointer_count = 3 * capacity
 -- the mate of v stands at mates + v: where v is an outermost inner vertex of its link, next to an end, the other one
 abbrev pub mates : ℕ
 mates = 2 * capacity
+
+-- where each part of the table begins, as the code names them
+abbrev pub part_start : Part → ℕ
+part_start Before = 0
+part_start After = capacity
+part_start Mate = mates
 
 -- the pointer of v in the part of the table that begins at a place; a number past the vertices has none
 abbrev pub pointer : List ℕ → ℕ → ℕ → ℕ

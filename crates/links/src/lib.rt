@@ -1,10 +1,9 @@
 // Links of a build: the two ends of a path, and the tables of what they join and of the way along them.
 #![tactic(auto)]
 
-ghost use Rattle.std.specs.Prelude.{◌≡◌, ◌*◌, ◌≤◌};
-ghost use Rattle.vertexset.specs.Set.{capacity};
+ghost use Rattle.std.specs.Prelude.{◌≡◌, ◌*◌};
 ghost use Rattle.links.specs.Ends.{same_link, link_end, addition_of, held};
-ghost use Rattle.links.specs.Tables.{pointer, pointed, pointed_both, mated, link_around, link_at, end_in, mated_aside, split_rows, split_mates, split_by, split_mates_by, is_inner, cleared, rejoined_rows, unmated_aside, rejoined_mates, outer_aside, link_split};
+ghost use Rattle.links.specs.Tables.{part_start, pointer, pointed, pointed_both, mated, link_around, link_at, end_in, mated_aside, split_rows, split_mates, split_by, split_mates_by, is_inner, cleared, rejoined_rows, unmated_aside, rejoined_mates, outer_aside, link_split};
 
 use graph::GraphTable;
 use vertexset::VertexSet;
@@ -40,16 +39,28 @@ pub enum Addition {
     EdgeEdge(u16, Link, u16, Link),
 }
 
+// A part of the table of pointers, which has three, one behind the other: to the vertex before each vertex on its link, to the one after it, and
+// from one outermost inner vertex of a link to the other.
+#[derive(Clone, Copy)]
+enum Part {
+    Before,
+    After,
+    Mate,
+}
+
+impl Part {
+    fn start(self) -> usize
+        ensures { result ≡ part_start self }
+    {
+        match self {
+            Part::Before => 0,
+            Part::After => VertexSet::CAPACITY as usize,
+            Part::Mate => 2 * VertexSet::CAPACITY as usize,
+        }
+    }
+}
+
 impl Link {
-    // the pointers to the vertex before each vertex on its link begin here,
-    const BEFORE: usize = 0;
-
-    // those to the vertex after it here,
-    const AFTER: usize = VertexSet::CAPACITY as usize;
-
-    // and those from one outermost inner vertex of a link to the other here
-    const MATE: usize = 2 * VertexSet::CAPACITY as usize;
-
     pub const POINTERS: usize = 3 * VertexSet::CAPACITY as usize;
 
     fn has_end(self, v: u16) -> bool
@@ -111,12 +122,11 @@ impl Addition {
     }
 }
 
-fn pointer(pointers: &[u16; Link::POINTERS], part: usize, v: u16) -> u16
-    requires { part ≤ 2 * capacity }
-    ensures { result ≡ pointer pointers.now part v }
+fn pointer(pointers: &[u16; Link::POINTERS], part: Part, v: u16) -> u16
+    ensures { result ≡ pointer pointers.now (part_start part) v }
 {
     if v < VertexSet::CAPACITY {
-        return pointers[part + v as usize];
+        return pointers[part.start() + v as usize];
     }
     0
 }
@@ -126,8 +136,8 @@ fn link_around(pointers: &[u16; Link::POINTERS], first: u16, last: u16) -> Link
     ensures { result ≡ link_around pointers.now (first, last) }
 {
     Link {
-        a: pointer(pointers, Link::BEFORE, first),
-        b: pointer(pointers, Link::AFTER, last),
+        a: pointer(pointers, Part::Before, first),
+        b: pointer(pointers, Part::After, last),
         first,
         last,
     }
@@ -141,13 +151,13 @@ fn link_at(pointers: &[u16; Link::POINTERS], branch: VertexSet, v: u16) -> Link
     let mut u = v;
     let mut w = v;
     for _ in 0..VertexSet::CAPACITY {
-        let before = pointer(pointers, Link::BEFORE, u);
+        let before = pointer(pointers, Part::Before, u);
         if branch.contains(before) {
-            return link_around(pointers, u, pointer(pointers, Link::MATE, u));
+            return link_around(pointers, u, pointer(pointers, Part::Mate, u));
         }
-        let after = pointer(pointers, Link::AFTER, w);
+        let after = pointer(pointers, Part::After, w);
         if branch.contains(after) {
-            return link_around(pointers, pointer(pointers, Link::MATE, w), w);
+            return link_around(pointers, pointer(pointers, Part::Mate, w), w);
         }
         u = before;
         w = after;
@@ -165,12 +175,11 @@ pub fn end_of(pointers: &[u16; Link::POINTERS], branch: VertexSet, v: u16) -> En
     End::Inner(v, link_at(pointers, branch, v))
 }
 
-fn point(pointers: &mut [u16; Link::POINTERS], part: usize, v: u16, to: u16)
-    requires { part ≤ 2 * capacity }
-    ensures { pointers.new ≡ pointed pointers.old part v to }
+fn point(pointers: &mut [u16; Link::POINTERS], part: Part, v: u16, to: u16)
+    ensures { pointers.new ≡ pointed pointers.old (part_start part) v to }
 {
     if v < VertexSet::CAPACITY {
-        pointers[part + v as usize] = to;
+        pointers[part.start() + v as usize] = to;
     }
 }
 
@@ -178,23 +187,22 @@ fn point(pointers: &mut [u16; Link::POINTERS], part: usize, v: u16, to: u16)
 pub fn point_between(pointers: &mut [u16; Link::POINTERS], u: u16, v: u16, w: u16)
     ensures { pointers.new ≡ pointed_both pointers.old u v w }
 {
-    point(pointers, Link::BEFORE, v, u);
-    point(pointers, Link::AFTER, v, w);
+    point(pointers, Part::Before, v, u);
+    point(pointers, Part::After, v, w);
 }
 
 // The outermost inner vertices of a link point to each other.
 pub fn mate(pointers: &mut [u16; Link::POINTERS], first: u16, last: u16)
     ensures { pointers.new ≡ mated pointers.old first last }
 {
-    point(pointers, Link::MATE, first, last);
-    point(pointers, Link::MATE, last, first);
+    point(pointers, Part::Mate, first, last);
+    point(pointers, Part::Mate, last, first);
 }
 
 // What x leaves of its link on one side has the outermost vertex of that side and x's neighbour there outermost; where x is
 // outermost, nothing is left.
-fn mate_aside(pointers: &mut [u16; Link::POINTERS], part: usize, x: u16, outer: u16)
-    requires { part ≤ 2 * capacity }
-    ensures { pointers.new ≡ mated_aside pointers.old part x outer }
+fn mate_aside(pointers: &mut [u16; Link::POINTERS], part: Part, x: u16, outer: u16)
+    ensures { pointers.new ≡ mated_aside pointers.old (part_start part) x outer }
 {
     if x == outer {
         return;
@@ -216,8 +224,8 @@ fn split_link<'a>(
     graph::part(linked, l.a, l.b);
     graph::join(linked, l.a, x);
     graph::join(linked, x, l.b);
-    mate_aside(pointers, Link::BEFORE, x, l.first);
-    mate_aside(pointers, Link::AFTER, x, l.last);
+    mate_aside(pointers, Part::Before, x, l.first);
+    mate_aside(pointers, Part::After, x, l.last);
 }
 
 // The links are split that an addition splits.
@@ -245,24 +253,23 @@ pub fn clear(pointers: &mut [u16; Link::POINTERS], v: u16) -> u16
     ensures value { result ≡ pointer pointers.old 0 v }
     ensures pointers_after { pointers.new ≡ cleared pointers.old v }
 {
-    let before = pointer(pointers, Link::BEFORE, v);
-    point(pointers, Link::BEFORE, v, 0);
-    point(pointers, Link::AFTER, v, 0);
-    point(pointers, Link::MATE, v, 0);
+    let before = pointer(pointers, Part::Before, v);
+    point(pointers, Part::Before, v, 0);
+    point(pointers, Part::After, v, 0);
+    point(pointers, Part::Mate, v, 0);
     before
 }
 
 // The neighbour of x on one side of a link that was split at x is no longer outermost; where x is outermost, there is none inside. It shares with
 // mate_aside only where that neighbour stands: one function for both would take a flag for what it does there.
-fn unmate_aside(pointers: &mut [u16; Link::POINTERS], part: usize, x: u16, outer: u16)
-    requires { part ≤ 2 * capacity }
-    ensures { pointers.new ≡ unmated_aside pointers.old part x outer }
+fn unmate_aside(pointers: &mut [u16; Link::POINTERS], part: Part, x: u16, outer: u16)
+    ensures { pointers.new ≡ unmated_aside pointers.old (part_start part) x outer }
 {
     if x == outer {
         return;
     }
     let next = pointer(pointers, part, x);
-    point(pointers, Link::MATE, next, 0);
+    point(pointers, Part::Mate, next, 0);
 }
 
 // A link that was split at x is whole again; in the table of links what was done last is taken back first, so that no step is one of split_link's
@@ -279,22 +286,21 @@ fn rejoin_link<'a>(
     graph::part(linked, l.b, x);
     graph::part(linked, x, l.a);
     graph::join(linked, l.b, l.a);
-    unmate_aside(pointers, Link::BEFORE, x, l.first);
-    unmate_aside(pointers, Link::AFTER, x, l.last);
+    unmate_aside(pointers, Part::Before, x, l.first);
+    unmate_aside(pointers, Part::After, x, l.last);
     mate(pointers, l.first, l.last);
 }
 
 // The outermost vertex, on one side of x, of the link that was split at x: the mate of x's neighbour there, which is outermost in its
 // part; x itself where that neighbour is a branch vertex.
-fn outer_aside(pointers: &[u16; Link::POINTERS], branch: VertexSet, part: usize, x: u16) -> u16
-    requires { part ≤ 2 * capacity }
-    ensures { result ≡ outer_aside pointers.now branch part x }
+fn outer_aside(pointers: &[u16; Link::POINTERS], branch: VertexSet, part: Part, x: u16) -> u16
+    ensures { result ≡ outer_aside pointers.now branch (part_start part) x }
 {
     let next = pointer(pointers, part, x);
     if branch.contains(next) {
         return x;
     }
-    pointer(pointers, Link::MATE, next)
+    pointer(pointers, Part::Mate, next)
 }
 
 // The link that was split at x is whole again. Which one it was is told by x's own pointers, which it keeps as a branch vertex, and by the
@@ -308,8 +314,8 @@ pub fn rejoin<'a>(
     ensures linked_after { linked.new ≡ rejoined_rows linked.old x (link_split pointers.old branch x) }
     ensures pointers_after { pointers.new ≡ rejoined_mates pointers.old x (link_split pointers.old branch x) }
 {
-    let first = outer_aside(pointers, branch, Link::BEFORE, x);
-    let last = outer_aside(pointers, branch, Link::AFTER, x);
+    let first = outer_aside(pointers, branch, Part::Before, x);
+    let last = outer_aside(pointers, branch, Part::After, x);
     let l = link_around(pointers, first, last);
     rejoin_link(linked, pointers, x, l);
 }
