@@ -4,6 +4,7 @@ use mathlib.Core.Path.{◌≡◌, refl, sym, ap, ◌∙◌}
 use mathlib.Core.Bool.{Bool, true, false, cond, not}
 use mathlib.Core.List.{List, [], ◌∷◌, ◌++◌}
 use native.Mathlib.Omega.{arith}
+use Rattle.std.specs.Prelude.{Ok, Err}
 use lib.Dec.{ltb, eqb}
 use lib.ListN.{length, take, replicate}
 use lib.Seq.{take-append_seam}
@@ -14,14 +15,16 @@ use Rattle.connectivity.specs.Lists.{up_from, below}
 use Rattle.construction.specs.Sets.{minus, set_with_all, members, empty}
 use Rattle.construction.specs.Ears as construction
 use Rattle.construction.specs.Ears.{no_cut, cut, is_cut, eared, ears, path_space}
-use Rattle.construction.specs.Start.{Begun, begin}
+use Rattle.construction.specs.Start.{Begun, begun, begin}
 use Rattle.construction.specs.Steps.{State, build, finish}
 use Rattle.construction.specs.Certificate.{tree_numbers, evidence, lengthened, cut_numbers, cut_certificate, build_certificate, begun_certificate, chosen, side_numbers, build_numbers, certificate_numbers, full_set}
 use Rattle.search.specs.Code.{reach_of}
 use Rattle.search.specs.declared.Reach.{Reach}
-use Rattle.detours.specs.Code.{cut_of, cut_in, ears_of, flat_of}
-use Rattle.starting.specs.Code.{start_of}
+use Rattle.detours.specs.declared.Cut.{Cut}
+use Rattle.detours.specs.Code.{cut_of, ears_of, flat_of}
+use Rattle.starting.specs.Code.{paths_of, start_of}
 use Rattle.starting.specs.declared.Start.{Start}
+use Rattle.certifier.proofs.Certifying.{err_of, ok_of, build-same}
 use Rattle.certifier.specs.Code.{first_search, evidence_in, cut_numbers_in, cut_certificate_in, built_certificate_in, start_certificate_in}
 
 -- ---- the code's structs hold what the definition has
@@ -45,9 +48,10 @@ module _ (rows : List ℕ) (n : ℕ) (full : VertexSet) where
   built_same : (four : VertexSet) (st : State) → built_certificate_in rows n full four st ≡ build_certificate (first_search rows) rows n full four st
   built_same four st = ap (λ (l : List ℕ). cond (is_cut st.cut_by) l (build_numbers four (finish rows n st.flat))) (cut-same rows full st.cut_by)
 
-  pub start-same : (b : Begun) → start_certificate_in rows n full (start_of b) ≡ build_certificate (first_search rows) rows n full b.four (build rows full b)
+  pub start-same : (b : Begun) → start_certificate_in rows n full (paths_of b) ≡ build_certificate (first_search rows) rows n full b.four (build rows full b)
   start-same b =
-      ap (λ (l : List ℕ). built_certificate_in rows n full b.four (build rows full (record { four = b.four; flat = l; cut_by = b.cut_by }))) (flat_same b.flat)
+      ap (λ (l : List ℕ). built_certificate_in rows n full b.four (build rows full (begun b.four l))) (flat_same b.flat)
+      ∙ ap (built_certificate_in rows n full b.four) (build-same rows full b)
       ∙ built_same b.four (build rows full b)
 
 -- ---- the vertices below n, taken in one by one
@@ -100,30 +104,28 @@ module _ (rows : List ℕ) (n : ℕ) {full rest : VertexSet} {tree : Reach} (f�
       off true e = sym e
       off false e = refl
 
-  module _ (h : not all ≡ false) {s : Start} (e : s ≡ start_of (begin rows)) {z : Bool} (u : z ≡ is_cut (cut_in s.cut)) where
+  module _ (h : not all ≡ false) where
     on : (b : Bool) → not b ≡ false → b ≡ true
     on true q = refl
     on false q = sym q
 
-    begun-test : is_cut (begin rows).cut_by ≡ z
-    begun-test = ap (λ (x : Start). is_cut (cut_in x.cut)) (sym e) ∙ sym u
-
-    begun-is : {b : Bool} → z ≡ b
+    begun-is : {b : Bool} → is_cut (begin rows).cut_by ≡ b
         → cond b (cut_certificate (first_search rows) rows (full_set n) (begin rows).cut_by) (build_certificate (first_search rows) rows n (full_set n) (begin rows).four (build rows (full_set n) (begin rows)))
         ≡ certificate_numbers rows n
     begun-is q =
         ap
         (λ (b : Bool).
         cond b (cut_certificate (first_search rows) rows (full_set n) (begin rows).cut_by) (build_certificate (first_search rows) rows n (full_set n) (begin rows).four (build rows (full_set n) (begin rows))))
-        (sym (begun-test ∙ q))
+        (sym q)
         ∙ whole rows n (test ∙ on all h)
 
-    pub whole_cut : z ≡ true → cut_certificate_in rows full s.cut ≡ certificate_numbers rows n
-    whole_cut q = ap (λ (x : Start). cut_certificate_in rows full x.cut) e ∙ cut-is (begin rows).cut_by ∙ begun-is q
+    pub whole_cut : {c : Cut} → Err c ≡ start_of (begin rows) → cut_certificate_in rows full c ≡ certificate_numbers rows n
+    whole_cut e = let r = err_of (is_cut (begin rows).cut_by) _ e in ap (cut_certificate_in rows full) r.1 ∙ cut-is (begin rows).cut_by ∙ begun-is r.0
 
-    pub whole_built : z ≡ false → start_certificate_in rows n full s ≡ certificate_numbers rows n
-    whole_built q =
-        ap (λ (x : Start). start_certificate_in rows n full x) e
-        ∙ ap (λ (v : VertexSet). start_certificate_in rows n v (start_of (begin rows))) f
+    pub whole_built : {s : Start} → Ok s ≡ start_of (begin rows) → start_certificate_in rows n full s ≡ certificate_numbers rows n
+    whole_built e =
+        let r = ok_of (is_cut (begin rows).cut_by) _ e in
+        ap (start_certificate_in rows n full) r.1
+        ∙ ap (λ (v : VertexSet). start_certificate_in rows n v (paths_of (begin rows))) f
         ∙ start-same rows n (full_set n) (begin rows)
-        ∙ begun-is q
+        ∙ begun-is r.0

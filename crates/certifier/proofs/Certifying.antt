@@ -4,9 +4,10 @@ use mathlib.Core.Path.{◌≡◌, refl, sym, ap, subst, ◌∙◌}
 use mathlib.Core.Bool.{Bool, true, false, cond}
 use mathlib.Core.List.{List, [], ◌∷◌, ◌++◌}
 use native.Mathlib.Omega.{arith}
+use Rattle.std.specs.Prelude.{Ok, Err}
 use lib.Dec.{ltb}
-use lib.ListN.{length, take, drop, replicate, length-append, length-take}
-use lib.Seq.{take-append_seam, take_at}
+use lib.ListN.{length, take, replicate, length-append, length-take}
+use lib.Seq.{take-append_seam}
 use borrow.Author.Tests.{lt-ltb, le-ltb}
 use Rattle.vertexset.specs.Set.{count}
 use Rattle.vertexset.specs.declared.VertexSet.{VertexSet}
@@ -21,12 +22,22 @@ use Rattle.detours.specs.Code.{cut_of, cut_in, flat_of, ears_of}
 use Rattle.detours.specs.declared.Cut.{Cut}
 use Rattle.detours.specs.declared.Ears.{Ears}
 use Rattle.detours.proofs.Kept.{front, front_take}
-use Rattle.starting.specs.Code.{start_of}
+use Rattle.starting.specs.Code.{paths_of, start_of}
 use Rattle.starting.specs.declared.Start.{Start}
 use Rattle.stepping.specs.Code.{built_of, finished_of, built_in}
 use Rattle.stepping.specs.declared.Built.{Built}
 use Rattle.certifier.specs.Code.{cut_numbers_in, cut_certificate_in, start_in, start_certificate_in}
 use Rattle.certifier.proofs.Written.{lengthened-size}
+
+-- ---- a cut, or a start
+
+pub err_of : {A E : Type 0} (b : Bool) (v : A) {e c : E} → Err c ≡ cond b (Err e) (Ok v) → (b ≡ true) × (c ≡ e)
+err_of true v q = (refl, cc)
+err_of false v q = cc
+
+pub ok_of : {A E : Type 0} (b : Bool) (e : E) {v w : A} → Ok w ≡ cond b (Err e) (Ok v) → (b ≡ false) × (w ≡ v)
+ok_of true e q = cc
+ok_of false e q = (refl, cc)
 
 -- ---- a list at the front of an array has room there
 
@@ -38,8 +49,9 @@ ears-low x e q h =
     let z : length (flat_of x.flat) ≡ path_space = sym (ap (λ (y : Ears). length y.flat) q) ∙ h in
     subst (λ (n : ℕ). n ≤ path_space) (sym (ap (λ (y : Ears). y.len) q)) (flat_short x.flat z)
 
-pub start-low : (x : Begun) (s : Start) → s ≡ start_of x → length s.flat ≡ path_space → s.len ≤ path_space
-start-low x s q h =
+pub start-low : (x : Begun) {s : Start} → Ok s ≡ start_of x → length s.flat ≡ path_space → s.len ≤ path_space
+start-low x {s} e h =
+    let q : s ≡ paths_of x = (ok_of (is_cut x.cut_by) _ e).1 in
     let z : length (flat_of x.flat) ≡ path_space = sym (ap (λ (y : Start). length y.flat) q) ∙ h in
     subst (λ (n : ℕ). n ≤ path_space) (sym (ap (λ (y : Start). y.len) q)) (flat_short x.flat z)
 
@@ -72,7 +84,7 @@ module _ (rows : List ℕ) (full : VertexSet) (c : Cut) {k : ℕ} (n : k ≡ cou
 -- ---- the certificate of a build
 
 -- the build takes the start's vertices and paths only
-build-same : (rows : List ℕ) (full : VertexSet) (b : Begun) → build rows full (begun b.four b.flat) ≡ build rows full b
+pub build-same : (rows : List ℕ) (full : VertexSet) (b : Begun) → build rows full (begun b.four b.flat) ≡ build rows full b
 unfolding build
 build-same rows full b = refl
 
@@ -113,18 +125,12 @@ module _ (rows : List ℕ) (n : ℕ) (full : VertexSet) (s : Start) (low : s.len
           let m : b.len ≤ path_space = subst (λ (k : ℕ). k ≤ path_space) (sym (ap (λ (x : Built). x.len) all-built)) (flat_short paths z) in
           (omega arith, m)
 
-      module _ {done : List ℕ} (d : done ≡ (lengthened (take b.len b.flat)).0 ++ drop b.len b.flat) where
-        taken : take b.len b.flat ≡ paths
-        taken = ap (λ (x : Built). take x.len x.flat) all-built ∙ take-append_seam paths (replicate (path_space - length paths) 0)
+      module _ {done : List ℕ} (d : done ≡ (lengthened (front b.flat b.len)).0) where
+        taken : front b.flat b.len ≡ paths
+        taken = front_take b.flat b.len ∙ ap (λ (x : Built). take x.len x.flat) all-built ∙ take-append_seam paths (replicate (path_space - length paths) 0)
 
-        long : length (lengthened (take b.len b.flat)).0 ≡ b.len
-        long = lengthened-size (take b.len b.flat) ∙ ap length taken ∙ sym (ap (λ (x : Built). x.len) all-built)
+        pub done_short : length b.flat ≡ path_space → length done ≤ path_space
+        done_short h = let r = build-room h in omega (arith, ap length d, lengthened-size (front b.flat b.len), ap length (front_take b.flat b.len), length-take b.len b.flat)
 
-        done_front : front done b.len ≡ (lengthened (take b.len b.flat)).0
-        done_front = front_take done b.len ∙ ap (take b.len) d ∙ take_at (lengthened (take b.len b.flat)).0 (drop b.len b.flat) b.len long
-
-        pub done_short : length b.flat ≡ path_space → length (front done b.len) ≤ path_space
-        done_short h = let r = build-room h in let m : length (front done b.len) ≡ b.len = ap length done_front ∙ long in omega arith
-
-        pub build-done : 3 ∷ (members s.four ++ front done b.len) ≡ start_certificate_in rows n full s
-        build-done = ap (λ (l : List ℕ). 3 ∷ (members s.four ++ l)) (done_front ∙ ap (λ (l : List ℕ). (lengthened l).0) taken) ∙ by_cut u
+        pub build-done : 3 ∷ (members s.four ++ done) ≡ start_certificate_in rows n full s
+        build-done = ap (λ (l : List ℕ). 3 ∷ (members s.four ++ l)) (d ∙ ap (λ (l : List ℕ). (lengthened l).0) taken) ∙ by_cut u

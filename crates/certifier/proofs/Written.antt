@@ -5,15 +5,14 @@ use mathlib.Core.Bool.{Bool, true, false, cond}
 use mathlib.Core.List.{List, [], ◌∷◌, ◌++◌, append_assoc}
 use native.Mathlib.Numerals.{add-one}
 use native.Mathlib.Omega.{arith}
+use Rattle.std.specs.Prelude.{Option, Some, IsSome}
 use lib.Dec.{eqb}
 use lib.ListN.{length, get_or, set, take, drop, replicate, length-append, length-take, length-set, length-drop, drop_of_length-le, take-append-drop}
-use lib.Seq.{drop-cons, take-suc, get_or-take, append_snoc, set_at, take_at, get_or_at, length-take-le}
+use lib.Seq.{drop-cons, take-suc, append_snoc, set_at, get_or_at, length-take-le}
 use borrow.Author.Tests.{eq-eqb, ne_eqb}
 use Rattle.record.specs.Number.{number_bytes, list_bytes}
 use Rattle.record.specs.Write.{has_room, overwritten, can_write, written_number, with_number}
-use Rattle.record.specs.declared.Written.{Written}
-use Rattle.record.specs.declared.Written.TheVariants.{Next, Nothing}
-use Rattle.record.proofs.Write.{can_write_lem, put_told, put_fails, few_bytes, overwritten-none, overwritten-length, overwritten-more}
+use Rattle.record.proofs.Write.{can_write_lem, put_told, few_bytes, overwritten-none, overwritten-length, overwritten-more}
 use Rattle.vertexset.specs.Set.{empty_set, has, capacity}
 use Rattle.vertexset.specs.declared.VertexSet.{VertexSet}
 use Rattle.connectivity.specs.Lists.{up_from, select}
@@ -22,10 +21,10 @@ use Rattle.construction.specs.Sets.{stop, single, members}
 use Rattle.construction.specs.Ears.{path_space}
 use Rattle.construction.specs.Certificate.{lengthened, pairs_from, tree_numbers}
 use Rattle.search.specs.Arrays.{placed, placed_end}
-use Rattle.search.proofs.Filling.{Filling, fill_start, fill_length, fill_place, fill_turn, fill_done}
+use Rattle.search.proofs.Filling.{Filling, fill_start, fill_turn, fill_done}
 use Rattle.search.proofs.Sizes.{explore-sized}
 use Rattle.detours.specs.declared.Ears.{Ears}
-use Rattle.detours.proofs.Filled.{Put, Filled, filled_length, filled_put, filled_first, first_put, first_end}
+use Rattle.detours.proofs.Filled.{Put, Filled, filled_put, filled_first, first_put, first_end}
 use Rattle.certifier.specs.declared.Numbers.{Numbers}
 use Rattle.certifier.specs.Code.{number_room, numbers_of, first_search, evidence_in, Small}
 
@@ -61,94 +60,75 @@ unfolding lengthened
 lengthened-on v l e = rw (ne_eqb v stop e)
 
 -- the places from i on are done, and k is the length of what stands there before the first stop
-pub record Lengthening (flat : List ℕ) (len : ℕ) (out : List ℕ) (k i : ℕ) : Type 0 where
-  pub within : i ≤ len
-  pub done : out ≡ take i flat ++ ((lengthened (drop i (take len flat))).0 ++ drop len flat)
-  pub run : k ≡ (lengthened (drop i (take len flat))).1
+pub record Lengthening (list out : List ℕ) (k i : ℕ) : Type 0 where
+  pub within : i ≤ length list
+  pub done : out ≡ take i list ++ (lengthened (drop i list)).0
+  pub run : k ≡ (lengthened (drop i list)).1
 
-module _ (flat : List ℕ) (len : ℕ) (room : len ≤ length flat) where
-  front : length (take len flat) ≡ len
-  front = length-take-le len flat room
-
-  none_left : drop len (take len flat) ≡ []
-  none_left = let h : length (take len flat) ≤ len = omega (arith, front) in drop_of_length-le (take len flat) h
-
-  pub lengthen_start : Lengthening flat len flat 0 len
+module _ (list : List ℕ) where
+  pub lengthen_start : Lengthening list list 0 (length list)
   unfolding lengthened
-  lengthen_start = record { within = omega arith; done = rw none_left (sym (take-append-drop len flat)); run = rw none_left }
+  lengthen_start =
+      let h : length list ≤ length list = omega arith in
+      let z : drop (length list) list ≡ [] = drop_of_length-le list h in
+      let t : take (length list) list ++ [] ≡ list = ap (λ (l : List ℕ). take (length list) list ++ l) (sym z) ∙ take-append-drop (length list) list in
+      record { within = h; done = rw z (sym t); run = rw z }
 
-  module _ {out : List ℕ} {k i : ℕ} (f : Lengthening flat len out k i) where
-    pub lengthen_run : k + i ≤ len
-    lengthen_run = omega (arith, f.run, f.within, run_short (drop i (take len flat)), length-drop i (take len flat), front)
+  module _ {out : List ℕ} {k i : ℕ} (f : Lengthening list out k i) where
+    pub lengthen_run : k + i ≤ length list
+    lengthen_run = omega (arith, f.run, f.within, run_short (drop i list), length-drop i list)
 
-    pub lengthen_end : i ≤ 0 → out ≡ (lengthened (take len flat)).0 ++ drop len flat
-    lengthen_end h =
-        let z : i ≡ 0 = omega arith in
-        f.done ∙ ap (λ (n : ℕ). take n flat ++ ((lengthened (drop n (take len flat))).0 ++ drop len flat)) z
+    pub lengthen_end : i ≤ 0 → out ≡ (lengthened list).0
+    lengthen_end h = let z : i ≡ 0 = omega arith in f.done ∙ ap (λ (n : ℕ). take n list ++ (lengthened (drop n list)).0) z
 
-    pub lengthen_length : length out ≡ length flat
+    pub lengthen_length : length out ≡ length list
     lengthen_length =
-        omega (
-          arith,
-          f.within,
-          ap length f.done,
-          length-append (take i flat) ((lengthened (drop i (take len flat))).0 ++ drop len flat),
-          length-append (lengthened (drop i (take len flat))).0 (drop len flat),
-          length-take-le i flat (let z : i ≤ length flat = omega (arith, f.within) in z),
-          lengthened-size (drop i (take len flat)),
-          length-drop i (take len flat),
-          length-drop len flat,
-          front,
-        )
+        omega (arith, f.within, ap length f.done, length-append (take i list) (lengthened (drop i list)).0, length-take-le i list f.within, lengthened-size (drop i list), length-drop i list)
 
-  module _ {out : List ℕ} {k j : ℕ} (f : Lengthening flat len out k (suc j)) where
-    low : j < len
+  module _ {out : List ℕ} {k j : ℕ} (f : Lengthening list out k (suc j)) where
+    low : j < length list
     low = omega (arith, f.within)
 
-    below : j < length flat
-    below = omega (arith, low)
+    here : drop j list ≡ get_or list j 0 ∷ drop (suc j) list
+    here = drop-cons list j 0 low
 
-    here : drop j (take len flat) ≡ get_or flat j 0 ∷ drop (suc j) (take len flat)
-    here =
-        let h : j < length (take len flat) = omega (arith, low, front) in
-        drop-cons (take len flat) j 0 h ∙ ap (λ (v : ℕ). v ∷ drop (suc j) (take len flat)) (get_or-take len flat j 0 low)
+    split : out ≡ take j list ++ (get_or list j 0 ∷ (lengthened (drop (suc j) list)).0)
+    split = f.done ∙ ap (λ (l : List ℕ). l ++ (lengthened (drop (suc j) list)).0) (take-suc list j 0 low) ∙ append_snoc (take j list) (get_or list j 0) (lengthened (drop (suc j) list)).0
 
-    split : out ≡ take j flat ++ (get_or flat j 0 ∷ ((lengthened (drop (suc j) (take len flat))).0 ++ drop len flat))
-    split =
-        f.done ∙ ap (λ (l : List ℕ). l ++ ((lengthened (drop (suc j) (take len flat))).0 ++ drop len flat)) (take-suc flat j 0 below)
-        ∙ append_snoc (take j flat) (get_or flat j 0) ((lengthened (drop (suc j) (take len flat))).0 ++ drop len flat)
+    front : length (take j list) ≡ j
+    front = length-take-le j list (let z : j ≤ length list = omega (arith, low) in z)
 
-    lengthen_here : get_or out j 0 ≡ get_or flat j 0
-    lengthen_here = ap (λ (l : List ℕ). get_or l j 0) split ∙ get_or_at (take j flat) (get_or flat j 0) _ 0 j (length-take-le j flat (let z : j ≤ length flat = omega (arith, below) in z))
+    same_here : get_or out j 0 ≡ get_or list j 0
+    same_here = ap (λ (l : List ℕ). get_or l j 0) split ∙ get_or_at (take j list) (get_or list j 0) _ 0 j front
 
-    stop-here : get_or out j 0 ≡ stop → Lengthening flat len (set out j k) 0 j
+    stop-here : get_or out j 0 ≡ stop → Lengthening list (set out j k) 0 j
     stop-here e =
-        let v : get_or flat j 0 ≡ stop = sym lengthen_here ∙ e in
+        let v : get_or list j 0 ≡ stop = sym same_here ∙ e in
         record {
           within = omega (arith, low);
           done =
-              ap (λ (l : List ℕ). set l j k) split ∙ set_at (take j flat) (get_or flat j 0) _ k j (length-take-le j flat (let z : j ≤ length flat = omega (arith, below) in z))
-              ∙ rw (here, lengthened-stop (get_or flat j 0) (drop (suc j) (take len flat)) v, f.run);
-          run = rw (here, lengthened-stop (get_or flat j 0) (drop (suc j) (take len flat)) v);
+              ap (λ (l : List ℕ). set l j k) split ∙ set_at (take j list) (get_or list j 0) _ k j front
+              ∙ rw (here, lengthened-stop (get_or list j 0) (drop (suc j) list) v, f.run);
+          run = rw (here, lengthened-stop (get_or list j 0) (drop (suc j) list) v);
         }
 
-    on_here : (get_or out j 0 ≡ stop → ⊥) → Lengthening flat len out (k + 1) j
+    on_here : (get_or out j 0 ≡ stop → ⊥) → Lengthening list out (k + 1) j
     on_here e =
-        let v : get_or flat j 0 ≡ stop → ⊥ = λ h. e (lengthen_here ∙ h) in
+        let v : get_or list j 0 ≡ stop → ⊥ = λ h. e (same_here ∙ h) in
         record {
           within = omega (arith, low);
-          done = split ∙ rw (here, lengthened-on (get_or flat j 0) (drop (suc j) (take len flat)) v);
-          run = rw (here, lengthened-on (get_or flat j 0) (drop (suc j) (take len flat)) v) (ap (λ (n : ℕ). n + 1) f.run);
+          done = split ∙ rw (here, lengthened-on (get_or list j 0) (drop (suc j) list) v);
+          run = rw (here, lengthened-on (get_or list j 0) (drop (suc j) list) v) (ap (λ (n : ℕ). n + 1) f.run);
         }
 
-  module _ {out : List ℕ} {k i : ℕ} (f : Lengthening flat len out k i) (h : 0 < i) where
-    at_suc : Lengthening flat len out k (suc (i - 1))
-    at_suc = let z : i ≡ suc (i - 1) = omega arith in subst (λ (n : ℕ). Lengthening flat len out k n) z f
+  module _ {out : List ℕ} {k i : ℕ} (f : Lengthening list out k i) (h : 0 < i) where
+    at_suc : Lengthening list out k (suc (i - 1))
+    at_suc = let z : i ≡ suc (i - 1) = omega arith in subst (λ (n : ℕ). Lengthening list out k n) z f
 
-    pub lengthen_stop : get_or out (i - 1) 0 ≡ stop → Lengthening flat len (set out (i - 1) k) 0 (i - 1)
+    pub lengthen_stop : get_or out (i - 1) 0 ≡ stop → Lengthening list (set out (i - 1) k) 0 (i - 1)
     lengthen_stop e = stop-here at_suc e
 
-    pub lengthen_on : (get_or out (i - 1) 0 ≡ stop → ⊥) → Lengthening flat len out (k + 1) (i - 1)
+    pub lengthen_on : (get_or out (i - 1) 0 ≡ stop → ⊥) → Lengthening list out (k + 1) (i - 1)
     lengthen_on e = on_here at_suc e
 
 -- ---- numbers as bytes
@@ -206,14 +186,14 @@ module _ (buffer list : List ℕ) where
       fits : at + length (number_bytes (get_or list i 0)) ≤ length out
       fits = omega (arith, f.place, f.long, ap length (bytes_next list i h), length-append (number_bytes (get_or list i 0)) (bytes_of (drop (i + 1) list)))
 
-      module _ (small : Small list) {x : Written} (e : x ≡ written_number out at (get_or list i 0)) where
+      module _ (small : Small list) {x : Option ℕ} (e : x ≡ written_number out at (get_or list i 0)) where
         can : can_write out at (get_or list i 0) ≡ true
         can = can_write_lem out at (get_or list i 0) (small i) fits
 
-        pub write_fails : x ≡ Nothing → ⊥
-        write_fails q = put_fails out at (get_or list i 0) can e q
+        pub write_some : IsSome x
+        write_some = rw (e, can)
 
-        pub write_turn : {next : ℕ} {more : List ℕ} → x ≡ Next next → more ≡ with_number out at (get_or list i 0) → Writing buffer list more next (i + 1)
+        pub write_turn : {next : ℕ} {more : List ℕ} → x ≡ Some next → more ≡ with_number out at (get_or list i 0) → Writing buffer list more next (i + 1)
         write_turn {next} {more} q m =
             let v = get_or list i 0 in
             let p = put_told out at v can e q m in
@@ -242,9 +222,6 @@ module _ (order from items : List ℕ) (at : ℕ) (l : List ℕ) (count i : ℕ)
     unfolding pairs_from
     two = let z : count - i ≡ suc (count - (i + 1)) = omega arith in subst (λ (k : ℕ). Filling items at l (pairs_from order from k i) end out) z f
 
-    pairs_place : end + 1 < length items
-    pairs_place = fill_place items at l (fill_turn items at l two)
-
     pub tree_turn : {a b : ℕ} → a ≡ get_or order i 0 → b ≡ get_or order (get_or from i 0) 0
         → Filling items at l (pairs_from order from (count - (i + 1)) (i + 1)) (end + 2) (set (set out end a) (end + 1) b)
     tree_turn {a} {b} p q =
@@ -263,14 +240,6 @@ module _ (order from items : List ℕ) (at count : ℕ) (few : count ≤ capacit
   tree_start = fill_start (set items at 0) (at + 1) pairs (omega (arith, pairs_fit, length-set items at 0))
 
   module _ (i : ℕ) {end : ℕ} {out : List ℕ} (f : Filling (set items at 0) (at + 1) pairs (pairs_from order from (count - i) i) end out) where
-    pub tree_length : length out ≡ length items
-    tree_length = fill_length (set items at 0) (at + 1) pairs f ∙ length-set items at 0
-
-    pub tree_place : i < count → (end + 1 < length items) × (end + 1 < length out)
-    tree_place h =
-        let p = pairs_place order from (set items at 0) (at + 1) pairs count i f h in
-        omega (arith, tree_length, length-set items at 0)
-
     pub tree_end : count ≤ i → (out ≡ placed items at (0 ∷ pairs)) × (end ≡ placed_end items at (0 ∷ pairs))
     tree_end h =
         let r = pairs_end order from (set items at 0) (at + 1) pairs count i f h in
@@ -305,17 +274,15 @@ module _ (rows : List ℕ) (e : Ears) (k : ℕ) where
     pub evidence-tree : (k ≡ 0 → ⊥) → k ≡ 1 → {l out : List ℕ} {end : ℕ} → l ≡ tree_numbers (first_search rows) → Put items at out end l → Put items at out end (evidence_in rows e k)
     evidence-tree h i {l} {out} {end} q p = put_as items at out end (tree_in_lem h i ∙ sym q) p
 
-    pub evidence-ears : (k ≡ 0 → ⊥) → (k ≡ 1 → ⊥) → e.len ≤ length e.flat → at + 1 + e.len ≤ length items
-        → {flat out : List ℕ} {end : ℕ} → flat ≡ (lengthened (take e.len e.flat)).0 ++ drop e.len e.flat
-        → Put (set items at e.count) (at + 1) out end (take (e.len - 0) flat) → Put items at out end (evidence_in rows e k)
-    evidence-ears h i short room {flat} {out} {end} f p =
-        let front : List ℕ = (lengthened (take e.len e.flat)).0 in
-        let n : length front ≡ e.len = lengthened-size (take e.len e.flat) ∙ length-take-le e.len e.flat short in
+    pub evidence-ears : (k ≡ 0 → ⊥) → (k ≡ 1 → ⊥) → at + 1 + e.len ≤ length items
+        → {list out : List ℕ} {end : ℕ} → list ≡ (lengthened (take (e.len - 0) e.flat)).0
+        → Put (set items at e.count) (at + 1) out end list → Put items at out end (evidence_in rows e k)
+    evidence-ears h i room {list} {out} {end} f p =
         let z : e.len - 0 ≡ e.len = omega arith in
-        let l : take (e.len - 0) flat ≡ front = rw (z, f) (take_at front (drop e.len e.flat) e.len n) in
-        let r : at + suc (length front) ≤ length items = omega arith in
-        put_as items at out end (ears-in h i)
-        (p.0 ∙ ap (placed (set items at e.count) (at + 1)) l ∙ first_put items at e.count front r, p.1 ∙ ap (placed_end (set items at e.count) (at + 1)) l ∙ first_end items at e.count front r)
+        let l : list ≡ (lengthened (take e.len e.flat)).0 = f ∙ rw z in
+        let r : at + suc (length list) ≤ length items = omega (arith, ap length l, lengthened-size (take e.len e.flat), length-take e.len e.flat) in
+        put_as items at out end (ears-in h i ∙ ap (λ (m : List ℕ). e.count ∷ m) (sym l))
+        (p.0 ∙ first_put items at e.count list r, p.1 ∙ first_end items at e.count list r)
 
   pub evidence-short : e.len ≤ path_space → length (evidence_in rows e k) ≤ 1 + path_space
   evidence-short i = go (eqb k 0) (eqb k 1)
@@ -342,8 +309,8 @@ numbers_are f = rw (f.array, f.size)
 pub numbers_first : (v : ℕ) (l : List ℕ) → length l ≤ capacity → {out : List ℕ} {end : ℕ} → Put (set (replicate number_room 0) 0 v) 1 out end l → Filled number_room out end (v ∷ l)
 numbers_first v l h p = filled_put (filled_first number_room v (omega arith)) l (omega arith) p.0 p.1
 
-pub numbers_room : (v : ℕ) (l : List ℕ) → length l ≤ capacity → {out : List ℕ} {end : ℕ} → Put (set (replicate number_room 0) 0 v) 1 out end l → end + 1 + path_space ≤ length out
-numbers_room v l h p = let f = numbers_first v l h p in omega (arith, f.size, filled_length f)
+pub numbers_room : (v : ℕ) (l : List ℕ) → length l ≤ capacity → {out : List ℕ} {end : ℕ} → Put (set (replicate number_room 0) 0 v) 1 out end l → end + 1 + path_space ≤ number_room
+numbers_room v l h p = let f = numbers_first v l h p in omega (arith, f.size)
 
 pub build-filled : (v : ℕ) (l k : List ℕ) → length l ≤ capacity → length k ≤ path_space → {mid out : List ℕ} {at end : ℕ}
     → Put (set (replicate number_room 0) 0 v) 1 mid at l → Put mid at out end k → Filled number_room out end (v ∷ (l ++ k))

@@ -8,7 +8,7 @@ use Rattle.construction.specs.Sets.{single, members}
 use Rattle.construction.specs.Search as searching
 use Rattle.construction.specs.Ears as construction
 use Rattle.construction.specs.Ears.{path_space}
-use Rattle.construction.specs.Start.{Begun}
+use Rattle.construction.specs.Start.{Begun, begun}
 use Rattle.construction.specs.Steps.{State, build, finish}
 use Rattle.construction.specs.Certificate.{pairs_from, tree_numbers, lengthened, side_numbers, chosen, build_numbers}
 use Rattle.detours.specs.Code.{cut_of, cut_in, ears_of}
@@ -44,7 +44,7 @@ cut_certificate_in rows full c =
     cond (ltb (count c.removed.words) 2) (cut_numbers_in rows (ears_of (construction.eared [] 0 construction.no_cut)) c) (cut_numbers_in rows (ears_of (construction.ears rows full)) (cut_of (chosen (construction.ears rows full) (cut_in c))))
 
 abbrev pub start_in : Start → Begun
-start_in s = record { four = s.four; flat = take s.len s.flat; cut_by = cut_in s.cut }
+start_in s = begun s.four (take s.len s.flat)
 
 abbrev pub built_certificate_in : List ℕ → ℕ → VertexSet → VertexSet → State → List ℕ
 built_certificate_in rows n full four st =

@@ -1,16 +1,15 @@
 -- THE MAKER (document 01, with request 2 of document 02): what it answers, and what it leaves in the lent buffer; and how long a certificate is.
-use Rattle.std.specs.Prelude.{ℕ, cond, List, [], ltb, length, get_or}
+use Rattle.std.specs.Prelude.{ℕ, Result, cond, List, [], ltb, length, get_or}
 use Rattle.record.specs.Write.{overwritten}
 use Rattle.record.specs.declared.Answer.{Answer}
 use Rattle.record.specs.declared.Answer.TheVariants.{Accepted, Grade, PlanFault, CertificateFault}
-use Rattle.reading.specs.Code.{whole_plan}
+use Rattle.reading.specs.Code.{whole_plan, value_or}
 use Rattle.graph.specs.declared.GraphTable.{GraphTable}
-use Rattle.search.specs.Arrays.{padded}
 use Rattle.construction.specs.Certificate.{certificate_numbers, certificate_record}
 pub use Rattle.construction.specs.Certificate.{certificate_room}
-use Rattle.certifier.specs.declared.Draft.{Draft}
 use Rattle.certifier.specs.declared.Made.{Made}
-use Rattle.certifier.specs.Code.{number_room}
+use Rattle.certifier.specs.declared.Numbers.{Numbers}
+use Rattle.certifier.specs.Code.{numbers_of}
 
 -- the certificate of a graph, and its kind
 abbrev pub certificate_of : GraphTable → List ℕ
@@ -59,15 +58,6 @@ filled_by buffer bytes = cond (ltb (length buffer) (length bytes)) buffer (overw
 abbrev pub filled_from : List ℕ → List ℕ → List ℕ
 filled_from s buffer = filled_by buffer (record_from s)
 
--- what is decided before a byte is written: the answer with room, and the numbers of the certificate
-abbrev pub draft_of : Answer → List ℕ → Draft
-draft_of answer l = record { answer = answer; items = padded number_room l; count = length l }
-
-unfoldable pub draft_by : Answer → GraphTable → Draft
-draft_by Accepted g = draft_of (Grade (grade_made g)) (certificate_numbers g.rows g.n)
-draft_by (Grade k) g = draft_of (Grade k) []
-draft_by (PlanFault r p) g = draft_of (PlanFault r p) []
-draft_by (CertificateFault r p) g = draft_of (CertificateFault r p) []
-
-abbrev pub draft_from : List ℕ → Draft
-draft_from s = draft_by (whole_plan s).answer (whole_plan s).plan.graph
+-- what is decided before a byte is written: the numbers of an accepted plan's certificate, or the plan's fault
+abbrev pub decided_from : List ℕ → Result Numbers Answer
+decided_from s = value_or (whole_plan s).answer (numbers_of (certificate_numbers (whole_plan s).plan.graph.rows (whole_plan s).plan.graph.n))

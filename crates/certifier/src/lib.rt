@@ -1,42 +1,35 @@
 // The certifier (document 01: the maker): from an accepted plan and a lent buffer, a certificate that the checker accepts; and how long it is.
 #![tactic(auto)]
 
-ghost use Rattle.std.specs.Prelude.{◌≡◌, [], ◌∷◌, ◌++◌, ◌+◌, ◌*◌, ◌≤◌, length, take, drop};
+ghost use Rattle.std.specs.Prelude.{◌≡◌, [], ◌∷◌, ◌++◌, ◌+◌, ◌*◌, ◌≤◌, length, take};
 ghost use Rattle.record.specs.Number.{number_bytes, list_bytes};
 ghost use Rattle.record.specs.Write.{overwritten};
 ghost use Rattle.vertexset.specs.Set.{capacity};
 ghost use Rattle.search.specs.Arrays.{placed, placed_end};
-ghost use Rattle.search.specs.Code.{search_space};
 ghost use Rattle.construction.specs.Sets.{members};
 ghost use Rattle.construction.specs.Ears.{no_cut, path_space, eared};
 ghost use Rattle.construction.specs.Certificate.{lengthened, certificate_numbers};
 ghost use Rattle.detours.specs.Code.{ears_of};
 ghost use Rattle.certifier.specs.Code.{number_room, numbers_of, tree_in, evidence_in, cut_numbers_in, cut_certificate_in, start_certificate_in, Small};
-ghost use Rattle.certifier.specs.Made.{kind_in, length_from, made_from, filled_from, draft_of, draft_from};
+ghost use Rattle.certifier.specs.Made.{kind_in, length_from, made_from, filled_from, decided_from};
 
 use detours::{Cut, Ears};
 use graph::GraphTable;
-use record::{Answer, Number, Written};
+use record::{Answer, Number};
 use search::Reach;
 use starting::Start;
 use vertexset::VertexSet;
 
-// The numbers of a certificate.
+// The numbers of a certificate. An array with its count and no ArrayVec, since search's put_ functions fill a slice from a place on, and
+// an ArrayVec lends no place behind its last number.
 #[derive(Clone, Copy)]
 struct Numbers {
     items: [u16; Numbers::ROOM],
     count: usize,
 }
 
-// What is decided before a byte is written: the answer with room, and the numbers of the certificate; none on refusal.
-#[derive(Clone, Copy)]
-struct Draft {
-    answer: Answer,
-    items: [u16; Numbers::ROOM],
-    count: usize,
-}
-
-// The answer, and the length of the certificate; 0 beside a refusal.
+// The answer, and the length of the certificate; 0 beside a refusal. The C interface and the theorems of crate claims read this struct
+// (certify, certificate_length), so it stays where a Result would say the same.
 #[derive(Clone, Copy)]
 pub struct Made {
     pub answer: Answer,
@@ -48,6 +41,12 @@ impl Numbers {
     const VERTEX_BYTES: usize = 1 + (Number::GROUP < VertexSet::CAPACITY) as usize;
 
     const ROOM: usize = Ears::ROOM + 2 * VertexSet::CAPACITY as usize + 8;
+
+    fn as_slice(&self) -> &[u16]
+        ensures { result.now ≡ take self.now.count self.now.items }
+    {
+        &self.items[0..self.count.min(Numbers::ROOM)]
+    }
 }
 
 impl Made {
@@ -56,16 +55,14 @@ impl Made {
 }
 
 // Each stop becomes the length of the path behind it.
-fn lengthen(flat: &mut [u16], len: usize)
-    requires { (len ≤ length flat.old) × (len ≤ path_space) }
-    ensures { flat.new ≡ (lengthened (take len flat.old)).0 ++ drop len flat.old }
+fn lengthen(list: &mut [u16])
+    requires { length list.old ≤ path_space }
+    ensures { list.new ≡ (lengthened list.old).0 }
 {
     let mut k: u16 = 0;
-    let mut i = len;
-    while 0 < i {
-        i -= 1;
-        if flat[i] == VertexSet::CAPACITY {
-            flat[i] = k;
+    for i in (0..list.len()).rev() {
+        if list[i] == VertexSet::CAPACITY {
+            list[i] = k;
             k = 0;
         } else {
             k += 1;
@@ -74,20 +71,23 @@ fn lengthen(flat: &mut [u16], len: usize)
 }
 
 // The tree that a search from vertex 0 left: vertex 0, and each other vertex with the one it was reached from.
-fn put_tree<'a>(items: &'a mut [u16], at: usize, space: &'a [u16], count: usize) -> usize
-    requires { (count ≤ capacity) × (at + 2 * capacity ≤ length items.old) }
+fn put_tree<'a>(
+    items: &'a mut [u16; Numbers::ROOM],
+    at: usize,
+    space: &'a [u16; Reach::SPACE],
+    count: usize,
+) -> usize
+    requires { (count ≤ capacity) × (at + 2 * capacity ≤ number_room) }
     ensures after { items.new ≡ placed items.old at (tree_in space.now count) }
     ensures value { result ≡ placed_end items.old at (tree_in space.now count) }
 {
     items[at] = 0;
     let mut end = at + 1;
-    let mut i = 1;
-    while i < count {
+    for i in 1..count {
         items[end] = search::entry(space, 0, count, i);
         let place = search::entry(space, Reach::HALF, count, i) as usize;
         items[end + 1] = search::entry(space, 0, count, place);
         end += 2;
-        i += 1;
     }
     end
 }
@@ -95,13 +95,13 @@ fn put_tree<'a>(items: &'a mut [u16], at: usize, space: &'a [u16], count: usize)
 // What stands between the removed vertices and the side: nothing, the tree, or the ears.
 fn put_evidence<'a>(
     rows: &'a [u64; GraphTable::ROW_WORDS],
-    space: &'a mut [u16],
-    items: &'a mut [u16],
+    space: &'a mut [u16; Reach::SPACE],
+    items: &'a mut [u16; Numbers::ROOM],
     at: usize,
     e: Ears,
     k: u16,
 ) -> usize
-    requires { (length space.old ≡ search_space) × ((e.len ≤ path_space) × (at + 1 + path_space ≤ length items.old)) }
+    requires { (e.len ≤ path_space) × (at + 1 + path_space ≤ number_room) }
     ensures after { items.new ≡ placed items.old at (evidence_in rows.now e k) }
     ensures value { result ≡ placed_end items.old at (evidence_in rows.now e k) }
 {
@@ -118,21 +118,21 @@ fn put_evidence<'a>(
         );
         return put_tree(items, at, space, tree.count);
     }
-    let len = e.len;
     let mut flat = e.flat;
-    lengthen(&mut flat, len);
+    let paths = &mut flat[0..e.len];
+    lengthen(paths);
     items[at] = e.count;
-    search::put_all(items, at + 1, &flat[0..len])
+    search::put_all(items, at + 1, paths)
 }
 
 // Kinds 0 to 2.
 fn cut_numbers<'a>(
     rows: &'a [u64; GraphTable::ROW_WORDS],
-    space: &'a mut [u16],
+    space: &'a mut [u16; Reach::SPACE],
     e: Ears,
     c: Cut,
 ) -> Numbers
-    requires { (length space.old ≡ search_space) × (e.len ≤ path_space) }
+    requires { e.len ≤ path_space }
     ensures { result ≡ numbers_of (cut_numbers_in rows.now e c) }
 {
     let mut items = [0u16; Numbers::ROOM];
@@ -161,11 +161,10 @@ fn no_ears() -> Ears
 // The certificate of a cut; where two vertices are removed, ears are asked for.
 fn cut_certificate<'a>(
     rows: &'a [u64; GraphTable::ROW_WORDS],
-    space: &'a mut [u16],
+    space: &'a mut [u16; Reach::SPACE],
     full: VertexSet,
     c: Cut,
 ) -> Numbers
-    requires { length space.old ≡ search_space }
     ensures { result ≡ numbers_of (cut_certificate_in rows.now full c) }
 {
     let removed = c.removed;
@@ -197,12 +196,12 @@ fn build_numbers(four: VertexSet, list: &[u16]) -> Numbers
 #[inline(never)]
 fn build_certificate<'a>(
     rows: &'a [u64; GraphTable::ROW_WORDS],
-    space: &'a mut [u16],
+    space: &'a mut [u16; Reach::SPACE],
     n: u16,
     full: VertexSet,
     s: Start,
 ) -> Numbers
-    requires { (length space.old ≡ search_space) × (s.len ≤ path_space) }
+    requires { s.len ≤ path_space }
     ensures { result ≡ numbers_of (start_certificate_in rows.now n full s) }
 {
     let first = s.flat;
@@ -214,9 +213,9 @@ fn build_certificate<'a>(
         return cut_certificate(rows, space, full, c);
     }
     let mut flat = b.flat;
-    let end = b.len;
-    lengthen(&mut flat, end);
-    build_numbers(four, &flat[0..end])
+    let paths = &mut flat[0..b.len];
+    lengthen(paths);
+    build_numbers(four, paths)
 }
 
 // THE CERTIFICATE, as its numbers. The first search and the tree share a space.
@@ -240,21 +239,17 @@ fn certificate(rows: &[u64; GraphTable::ROW_WORDS], n: u16) -> Numbers
         };
         return cut_certificate(rows, &mut space, full, c);
     }
-    let s = starting::begin(rows);
-    let c = s.cut;
-    if c.is_cut() {
-        return cut_certificate(rows, &mut space, full, c);
+    match starting::begin(rows) {
+        Ok(s) => build_certificate(rows, &mut space, n, full, s),
+        Err(c) => cut_certificate(rows, &mut space, full, c),
     }
-    build_certificate(rows, &mut space, n, full, s)
 }
 
 // The kind of a graph's certificate, which is not written.
 pub fn kind(rows: &[u64; GraphTable::ROW_WORDS], n: u16) -> u16
     ensures { result ≡ kind_in rows.now n }
 {
-    let c = certificate(rows, n);
-    let numbers = c.items;
-    numbers[0]
+    certificate(rows, n).items[0]
 }
 
 // How many bytes these numbers take. The sum has 16 bits as the numbers have, so that the compiler adds eight at once.
@@ -263,10 +258,8 @@ fn bytes_of(list: &[u16]) -> usize
     ensures { result ≡ length (list_bytes number_bytes list.now) }
 {
     let mut bytes: u16 = 0;
-    let mut i = 0;
-    while i < list.len() {
-        bytes += record::number_length(list[i]) as u16;
-        i += 1;
+    for &v in list {
+        bytes += record::number_length(v) as u16;
     }
     bytes as usize
 }
@@ -278,47 +271,18 @@ fn write_numbers<'a>(out: &'a mut [u8], list: &'a [u16])
     ensures { out.new ≡ overwritten out.old 0 (list_bytes number_bytes list.now) }
 {
     let mut at = 0;
-    let mut i = 0;
-    while i < list.len() {
-        let w = record::write_number(out, at, list[i]);
-        let Written::Next(next) = w else {
-            return;
-        };
-        at = next;
-        i += 1;
+    for &v in list {
+        at = record::write_number(out, at, v).unwrap();
     }
 }
 
-fn no_draft(answer: Answer) -> Draft
-    ensures { result ≡ draft_of answer [] }
-{
-    let items = [0u16; Numbers::ROOM];
-    let count = 0;
-    Draft {
-        answer,
-        items,
-        count,
-    }
-}
-
-// The answer where there is room, and the numbers to be written there.
-fn decide(plan: &[u8]) -> Draft
-    ensures { result ≡ draft_from plan.now }
+// The numbers of an accepted plan's certificate; or the plan's fault.
+fn decide(plan: &[u8]) -> Result<Numbers, Answer>
+    ensures { result ≡ decided_from plan.now }
 {
     let mut rows = [0u64; GraphTable::ROW_WORDS];
-    let p = reading::read_plan_rows(plan, &mut rows);
-    let answer = p.answer;
-    let Answer::Accepted = answer else {
-        return no_draft(answer);
-    };
-    let c = certificate(&rows, p.n);
-    let items = c.items;
-    let count = c.count;
-    Draft {
-        answer: Answer::Grade(items[0] as u8),
-        items,
-        count,
-    }
+    let head = reading::read_plan_rows(plan, &mut rows)?;
+    Ok(certificate(&rows, head.n))
 }
 
 // THE MAKER. A refused plan has no numbers, so no buffer is too short for it: its fault comes before 30.
@@ -326,18 +290,25 @@ pub fn certify<'a>(plan: &'a [u8], out: &'a mut [u8]) -> Made
     ensures value { result ≡ made_from plan.now out.old }
     ensures out_after { out.new ≡ filled_from plan.now out.old }
 {
-    let d = decide(plan);
-    let answer = d.answer;
-    let items = d.items;
-    let count = d.count;
-    let length = bytes_of(&items[0..count]);
+    let numbers = match decide(plan) {
+        Ok(numbers) => numbers,
+        Err(fault) => {
+            return Made {
+                answer: fault,
+                length: 0,
+            };
+        }
+    };
+    let list = numbers.as_slice();
+    let length = bytes_of(list);
     if out.len() < length {
         return Made {
             answer: Answer::PlanFault(30, 0),
             length: 0,
         };
     }
-    write_numbers(out, &items[0..count]);
+    write_numbers(out, list);
+    let answer = Answer::Grade(numbers.items[0] as u8);
     Made { answer, length }
 }
 

@@ -2,35 +2,36 @@
 
 use native.Mathlib.Omega.{arith}
 use Rattle.record.specs.Read.{Bytes}
-use Rattle.certifier.proofs.Drafts.{made-fits, lent_room, made-short, made-done}
+use Rattle.certifier.proofs.Drafts.{made_fault, part_low, grade_low, made-short, lent_room, made-done}
 use Rattle.certifier.proofs.certify.Goals as goal
 
-pub slice_bounds-bytes_of-end : goal.slice_bounds-bytes_of-end
-slice_bounds-bytes_of-end c = let a = c.args in
-    let bytes : Bytes a.plan.now = λ i. omega (arith, c.shared_slice_known-1.given i) in
-    (made-fits a.plan.now bytes c.decide-d.ensures).0
+pub returns-in-Err : goal.returns-in-Err
+returns-in-Err c = let r = made_fault c.args.plan.now c.args.out.now c.in-Err.ensures in record { value = r.0; out_after = r.1 }
 
 pub bytes_of-length-requires : goal.bytes_of-length-requires
 bytes_of-length-requires c = let a = c.args in
-    let bytes : Bytes a.plan.now = λ i. omega (arith, c.shared_slice_known-1.given i) in
-    (made-fits a.plan.now bytes c.decide-d.ensures).1
+    let bytes : Bytes a.plan.now = λ i. omega (arith, c.type_inv.plan i) in
+    part_low a.plan.now bytes c.in-Ok.ensures c.as_slice-list.ensures
 
 pub returns-then-out-length : goal.returns-then-out-length
-returns-then-out-length c = let rest = let a = c.args in
-    let bytes : Bytes a.plan.now = λ i. omega (arith, c.shared_slice_known-1.given i) in
-    made-short a.plan.now bytes c.decide-d.ensures c.bytes_of-length.ensures a.out.now c.if-out-length.true in record { value = rest.0; out_after = rest.1 }
-
-pub slice_bounds-write_numbers-end : goal.slice_bounds-write_numbers-end
-slice_bounds-write_numbers-end c = let a = c.args in
-    let bytes : Bytes a.plan.now = λ i. omega (arith, c.shared_slice_known-1.given i) in
-    (made-fits a.plan.now bytes c.decide-d.ensures).0
+returns-then-out-length c = let a = c.args in
+    let bytes : Bytes a.plan.now = λ i. omega (arith, c.type_inv.plan i) in
+    let r = made-short a.plan.now bytes c.in-Ok.ensures c.as_slice-list.ensures c.bytes_of-length.ensures a.out.now c.if-out-length.true in
+    record { value = r.0; out_after = r.1 }
 
 pub write_numbers-requires : goal.write_numbers-requires
-write_numbers-requires c = let rest = let a = c.args in
-    let bytes : Bytes a.plan.now = λ i. omega (arith, c.shared_slice_known-1.given i) in
-    lent_room a.plan.now bytes c.decide-d.ensures c.bytes_of-length.ensures a.out.now c.if-out-length.false in record { list_in_bounds = rest.0; small = rest.1 }
+write_numbers-requires c = let a = c.args in
+    let bytes : Bytes a.plan.now = λ i. omega (arith, c.type_inv.plan i) in
+    let r = lent_room a.plan.now bytes c.in-Ok.ensures c.as_slice-list.ensures c.bytes_of-length.ensures a.out.now c.if-out-length.false in
+    record { list_in_bounds = r.0; small = r.1 }
+
+pub overflow_cast-answer : goal.overflow_cast-answer
+overflow_cast-answer c = let a = c.args in
+    let bytes : Bytes a.plan.now = λ i. omega (arith, c.type_inv.plan i) in
+    omega (arith, grade_low a.plan.now bytes c.in-Ok.ensures c.as_slice-list.ensures)
 
 pub returns : goal.returns
-returns c = let rest = let a = c.args in
-    let bytes : Bytes a.plan.now = λ i. omega (arith, c.shared_slice_known-1.given i) in
-    made-done a.plan.now bytes c.decide-d.ensures c.bytes_of-length.ensures a.out.now c.if-out-length.false c.write_numbers.ensures in record { value = rest.0; out_after = rest.1 }
+returns c = let a = c.args in
+    let bytes : Bytes a.plan.now = λ i. omega (arith, c.type_inv.plan i) in
+    let r = made-done a.plan.now bytes c.in-Ok.ensures c.as_slice-list.ensures c.bytes_of-length.ensures a.out.now c.if-out-length.false c.write_numbers.ensures in
+    record { value = r.0; out_after = r.1 }

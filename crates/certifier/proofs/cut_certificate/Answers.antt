@@ -11,7 +11,7 @@ use Rattle.certifier.proofs.cut_certificate.Goals as goal
 
 pub cut_numbers-requires : goal.cut_numbers-requires
 cut_numbers-requires c = let l : length c.no_ears.result.flat ≡ path_space = search rules in
-    (c.requires, ears-low (eared [] 0 no_cut) c.no_ears.result c.no_ears.ensures l)
+    ears-low (eared [] 0 no_cut) c.no_ears.result c.no_ears.ensures l
 
 pub returns-then-size-lt2 : goal.returns-then-size-lt2
 returns-then-size-lt2 c = let a = c.args in
@@ -19,7 +19,7 @@ returns-then-size-lt2 c = let a = c.args in
 
 pub cut_numbers-requires-then-is_cut : goal.cut_numbers-requires-then-is_cut
 cut_numbers-requires-then-is_cut c = let l : length c.find_ears-e.result.flat ≡ path_space = search rules in
-    (c.requires, ears-low (ears c.args.rows.now c.args.full) c.find_ears-e.result c.find_ears-e.ensures l)
+    ears-low (ears c.args.rows.now c.args.full) c.find_ears-e.result c.find_ears-e.ensures l
 
 pub returns-then-is_cut : goal.returns-then-is_cut
 returns-then-is_cut c = let a = c.args in
@@ -29,7 +29,7 @@ returns-then-is_cut c = let a = c.args in
 
 pub cut_numbers-requires-2 : goal.cut_numbers-requires-2
 cut_numbers-requires-2 c = let l : length c.find_ears-e.result.flat ≡ path_space = search rules in
-    (c.requires, ears-low (ears c.args.rows.now c.args.full) c.find_ears-e.result c.find_ears-e.ensures l)
+    ears-low (ears c.args.rows.now c.args.full) c.find_ears-e.result c.find_ears-e.ensures l
 
 pub returns : goal.returns
 returns c = let a = c.args in

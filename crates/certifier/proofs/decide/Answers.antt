@@ -1,20 +1,13 @@
--- `certifier::decide` meets its contract: an accepted plan has a certificate, and its kind is a byte. Assumes nothing.
+-- `certifier::decide` meets its contract: the plan's fault, or the numbers of its certificate. Assumes nothing.
 
-use native.Mathlib.Omega.{arith}
-use Rattle.record.specs.Read.{Bytes}
-use Rattle.certifier.proofs.Drafts.{draft_refused, draft_grade, draft_done}
+use Rattle.std.proofs.lemmas.Result.{err_from_is_err_and}
+use Rattle.certifier.proofs.Drafts.{decided_fault, decided_numbers}
 use Rattle.certifier.proofs.decide.Goals as goal
 
-pub returns-in_default : goal.returns-in_default
-returns-in_default c = let a = c.args in
-    draft_refused a.plan.now c.read_plan_rows-p.ensures.value c.in_default.not-Accepted c.no_draft.ensures
-
-pub overflow_cast-result : goal.overflow_cast-result
-overflow_cast-result c = let a = c.args in
-    let bytes : Bytes a.plan.now = λ i. omega (arith, c.shared_slice_known-1.given i) in
-    omega (arith, draft_grade a.plan.now bytes c.read_plan_rows-p.ensures.value c.in-Accepted.is c.read_plan_rows-p.ensures.rows_after c.certificate-c.ensures)
+pub returns-in_err-head : goal.returns-in_err-head
+returns-in_err-head c =
+    let p = err_from_is_err_and c.from_residual.result c.from_residual.ensures.1 in
+    rw (p.1, p.2) (decided_fault c.args.plan.now c.in_err-head.ensures.value)
 
 pub returns : goal.returns
-returns c = let a = c.args in
-    let bytes : Bytes a.plan.now = λ i. omega (arith, c.shared_slice_known-1.given i) in
-    draft_done a.plan.now bytes c.read_plan_rows-p.ensures.value c.in-Accepted.is c.read_plan_rows-p.ensures.rows_after c.certificate-c.ensures
+returns c = decided_numbers c.args.plan.now c.in_ok-head.ensures.value c.read_plan_rows.ensures.rows_after c.certificate.ensures

@@ -5,4 +5,4 @@ use Rattle.certifier.proofs.Drafts.{first_number}
 use Rattle.certifier.proofs.kind.Goals as goal
 
 pub returns : goal.returns
-returns c = let a = c.args in first_number (certificate_numbers a.rows.now a.n) c.certificate-c.ensures
+returns c = let a = c.args in first_number (certificate_numbers a.rows.now a.n) c.certificate.ensures
