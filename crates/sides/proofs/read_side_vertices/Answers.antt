@@ -10,9 +10,6 @@ use Rattle.paths.proofs.Told.{told-exit, item-ok}
 use Rattle.sides.proofs.Reading.{side_vertex-low}
 use Rattle.sides.proofs.read_side_vertices.Goals as goal
 
-pub loop-init : goal.loop-init
-loop-init c = let z : c.args.count - 0 ≡ c.args.count = omega arith in rw (z, c.empty-set.ensures)
-
 pub returns-in_err-x : goal.returns-in_err-x
 returns-in_err-x c = let f = told-exit _ c.from_residual.result _ c.in_err-x.ensures c.from_residual.ensures.1 in
     f.3 ∙ turn_stop _ _ _ (omega arith) _ _ _ f.2 ∙ c.loop.invariant
