@@ -11,27 +11,27 @@ use Rattle.record.specs.Read.{Read, Read.Got, Read.Refused, Reader, Bytes, on_re
 use Rattle.record.specs.Number.{number, number_at, as_read}
 use Rattle.record.specs.declared.Number.TheVariants.{Value}
 use Rattle.record.specs.declared.Answer.{Answer}
-use Rattle.record.specs.declared.Answer.TheVariants.{Accepted, Grade, PlanFault, CertificateFault}
-use Rattle.record.proofs.Faults.{NotAccepted, not_accepted}
+use Rattle.record.specs.declared.Answer.TheVariants.{Accepted, Grade, CertificateFault}
+use Rattle.std.specs.Prelude.{Ok, Err}
 use Rattle.record.proofs.Laws.{Spans, Spans.none, Spans.more, on_got, carry, ended-there}
 use Rattle.connectivity.specs.Graph.{Graph, edge_count}
 use Rattle.connectivity.specs.Certificate.{Certificate, kind, grade}
 use Rattle.connectivity.proofs.Soundness.{grade-kind}
 use Rattle.connectivity.specs.Build.{further_count}
 use Rattle.reading.specs.Plan.{Plan, Allowed, plan}
-use Rattle.reading.specs.Code.{graph_of, table_of, plan_read, whole_plan, leading_plan, head_of, rows_left}
-use Rattle.reading.specs.declared.PlanRead.{PlanRead}
+use Rattle.reading.specs.Code.{PlanTold, graph_of, table_of, plan_read, whole_plan, leading_plan, head_of, rows_left}
+use Rattle.reading.proofs.Results.{ok_told}
 use Rattle.reading.specs.declared.PlanHead.{PlanHead}
 use Rattle.reading.proofs.Plans.{plan-law, leading_arrays, whole_arrays}
 use Rattle.reading.proofs.Adjacency.{graph_listed}
 use Rattle.certificates.specs.Records.{body, certificate}
-use Rattle.paths.specs.Items.{end_read, limited}
+use Rattle.paths.specs.Items.{told, end_read, limited}
 use Rattle.graph.specs.Rows.{rows_graph, bare_rows}
 use Rattle.build.specs.State.{build_body}
 use Rattle.refinement.proofs.Kind3.{kind_3}
 use Rattle.checker.specs.Check.{plan_graph, on_certificate, certificate_answer, on_plan, check_of, on_leading, grade_of}
 use Rattle.checker.specs.declared.Graded.{Graded}
-use Rattle.checker.specs.Code.{body_end, on_answer, on_end, on_kind, rows_answer}
+use Rattle.checker.specs.Code.{body_end, on_end, on_kind, rows_answer}
 use Rattle.vertexset.specs.Set.{capacity}
 
 fits_table : (p : Plan) → Allowed p → p.n ≤ capacity
@@ -65,7 +65,7 @@ module _ (g : Graph) where
 
     on_end_lem : (k len : ℕ) (x : Read Certificate) → ((c : Certificate) (next : ℕ) → x ≡ Got c next → grade c ≡ k)
         → on_end len k (end_read x) ≡ on_certificate (on_read x (λ v next. cond (ltb next len) (Refused 7 next) (Got v next)))
-    unfolding end_read
+    unfolding told
     on_end_lem k len (Got c next) same = go (ltb next len)
       where
         go : (b : Bool) → cond b (CertificateFault 7 next) (Grade k) ≡ on_certificate (cond b (Refused 7 next) (Got c next))
@@ -148,68 +148,63 @@ module _ (g : Graph) (d : ℕ) (s : List ℕ) where
     unfolding rows_answer number
     kind-read h f = rw (← e, le-leb k 3 h, f)
 
--- an answer that does not accept stays
-pub other_answer : (len k next : ℕ) (a : Answer) → NotAccepted a → a ≡ on_answer len k next a
-other_answer len k next Accepted i = absurd (not_accepted Accepted i refl)
-other_answer len k next (Grade g) i = refl
-other_answer len k next (PlanFault r p) i = refl
-other_answer len k next (CertificateFault r p) i = refl
-
 -- a plan that was read whole into bare rows, and a certificate beside it
-module _ (s c : List ℕ) (h : PlanHead) (e : h ≡ head_of (whole_plan s)) where
-  pub check-accepted : {rows : List ℕ} → rows ≡ rows_left bare_rows s → Bytes s → h.answer ≡ Accepted → (h.n ≤ capacity) × (rows_answer (rows_graph h.n rows) h.d c ≡ check_of s c)
+module _ (s c : List ℕ) where
+  pub check-accepted : {h : PlanHead} {rows : List ℕ} → Ok h ≡ head_of (whole_plan s) → rows ≡ rows_left bare_rows s → Bytes s → (h.n ≤ capacity) × (rows_answer (rows_graph h.n rows) h.d c ≡ check_of s c)
   unfolding check_of plan_read table_of graph_of
-  check-accepted {rows} left bytes f = go (ended plan s 0) refl e
+  check-accepted {h} {rows} e left bytes = go (ended plan s 0) refl e
     where
-      go : (x : Read Plan) → ended plan s 0 ≡ x → h ≡ head_of (plan_read x) → (h.n ≤ capacity) × (rows_answer (rows_graph h.n rows) h.d c ≡ on_plan x c)
+      go : (x : Read Plan) → ended plan s 0 ≡ x → Ok h ≡ head_of (plan_read x) → (h.n ≤ capacity) × (rows_answer (rows_graph h.n rows) h.d c ≡ on_plan x c)
       go (Got p next) k d =
           let a = (ended-there plan-law {v = p} bytes k).1 in
-          let n : h.n ≡ p.n = ap (λ (y : PlanHead). y.n) d in
-          let q : h.d ≡ edge_count (plan_graph p) = ap (λ (y : PlanHead). y.d) d in
+          let t = (ok_told Accepted d).1 in
+          let n : h.n ≡ p.n = ap (λ (y : PlanHead). y.n) t in
+          let q : h.d ≡ edge_count (plan_graph p) = ap (λ (y : PlanHead). y.d) t in
           let w : whole_plan s ≡ plan_read (Got p next) = ap plan_read k in
-          let g : rows ≡ (graph_of p).rows = left ∙ (whole_arrays s (ap (λ (y : PlanRead). y.answer) w)).1 ∙ ap (λ (y : PlanRead). y.plan.graph.rows) w in
+          let g : rows ≡ (graph_of p).rows = left ∙ (whole_arrays s (ap (λ (y : PlanTold). y.answer) w)).1 ∙ ap (λ (y : PlanTold). y.plan.graph.rows) w in
           (rw n (fits_table p a), rw (n, q, g) (plan-answer p a c))
-      go (Refused q p) k d = let z : h.answer ≡ PlanFault q p = ap (λ (y : PlanHead). y.answer) d in let y : ◌≡◌ {A = ℕ} 0 1 = cc in absurd (omega arith)
+      go (Refused q p) k d = cc
 
-  pub check-refused : NotAccepted h.answer → h.answer ≡ check_of s c
+  pub check-refused : {a : Answer} → Err a ≡ head_of (whole_plan s) → a ≡ check_of s c
   unfolding check_of plan_read
-  check-refused f = go (ended plan s 0) e
+  check-refused {a} e = go (ended plan s 0) e
     where
-      go : (x : Read Plan) → h ≡ head_of (plan_read x) → h.answer ≡ on_plan x c
-      go (Got p next) d = absurd (not_accepted h.answer f (ap (λ (y : PlanHead). y.answer) d))
-      go (Refused q p) d = ap (λ (y : PlanHead). y.answer) d
+      go : (x : Read Plan) → Err a ≡ head_of (plan_read x) → a ≡ on_plan x c
+      go (Got p next) d = cc
+      go (Refused q p) d = cc
 
 -- a plan at the start, and a certificate behind it
-module _ (s : List ℕ) (h : PlanHead) (e : h ≡ head_of (leading_plan s)) where
-  pub grade-accepted : {rows : List ℕ} → rows ≡ rows_left bare_rows s → Bytes s → h.answer ≡ Accepted → (h.next ≤ length s) × (h.n ≤ capacity)
+module _ (s : List ℕ) where
+  pub grade-accepted : {h : PlanHead} {rows : List ℕ} → Ok h ≡ head_of (leading_plan s) → rows ≡ rows_left bare_rows s → Bytes s → (h.next ≤ length s) × (h.n ≤ capacity)
       × (◌≡◌ {A = Graded} (record { answer = rows_answer (rows_graph h.n rows) h.d (drop h.next s); n = h.n; m = h.m }) (grade_of s))
   unfolding grade_of plan_read table_of graph_of
-  grade-accepted {rows} left bytes f = go (plan s 0) refl e
+  grade-accepted {h} {rows} e left bytes = go (plan s 0) refl e
     where
-      go : (x : Read Plan) → plan s 0 ≡ x → h ≡ head_of (plan_read x) → (h.next ≤ length s) × (h.n ≤ capacity)
+      go : (x : Read Plan) → plan s 0 ≡ x → Ok h ≡ head_of (plan_read x) → (h.next ≤ length s) × (h.n ≤ capacity)
           × (◌≡◌ {A = Graded} (record { answer = rows_answer (rows_graph h.n rows) h.d (drop h.next s); n = h.n; m = h.m }) (on_leading x s))
       go (Got p next) k d =
           let b = plan-law.there {v = p} bytes k in
-          let n : h.n ≡ p.n = ap (λ (y : PlanHead). y.n) d in
-          let m : h.m ≡ length p.edges = ap (λ (y : PlanHead). y.m) d in
-          let q : h.d ≡ edge_count (plan_graph p) = ap (λ (y : PlanHead). y.d) d in
-          let t : h.next ≡ next = ap (λ (y : PlanHead). y.next) d in
+          let y = (ok_told Accepted d).1 in
+          let n : h.n ≡ p.n = ap (λ (y : PlanHead). y.n) y in
+          let m : h.m ≡ length p.edges = ap (λ (y : PlanHead). y.m) y in
+          let q : h.d ≡ edge_count (plan_graph p) = ap (λ (y : PlanHead). y.d) y in
+          let t : h.next ≡ next = ap (λ (y : PlanHead). y.next) y in
           let w : leading_plan s ≡ plan_read (Got p next) = ap plan_read k in
-          let g : rows ≡ (graph_of p).rows = left ∙ (leading_arrays s (ap (λ (y : PlanRead). y.answer) w)).1 ∙ ap (λ (y : PlanRead). y.plan.graph.rows) w in (
+          let g : rows ≡ (graph_of p).rows = left ∙ (leading_arrays s (ap (λ (y : PlanTold). y.answer) w)).1 ∙ ap (λ (y : PlanTold). y.plan.graph.rows) w in (
             rw t (spans_within b.0 (omega arith)),
             rw n (fits_table p b.1),
             rw (n, m, q, t, g) (ap (λ (a : Answer). record { answer = a; n = p.n; m = length p.edges }) (plan-answer p b.1 (drop next s))),
           )
-      go (Refused q p) k d = let z : h.answer ≡ PlanFault q p = ap (λ (y : PlanHead). y.answer) d in let y : ◌≡◌ {A = ℕ} 0 1 = cc in absurd (omega arith)
+      go (Refused q p) k d = cc
 
-  pub grade-given : {rows rest : List ℕ} {a : Answer} → rows ≡ rows_left bare_rows s → Bytes s → h.answer ≡ Accepted → rest ≡ drop h.next s
+  pub grade-given : {h : PlanHead} {rows rest : List ℕ} {a : Answer} → Ok h ≡ head_of (leading_plan s) → rows ≡ rows_left bare_rows s → Bytes s → rest ≡ drop h.next s
       → a ≡ rows_answer (rows_graph h.n rows) h.d rest → ◌≡◌ {A = Graded} (record { answer = a; n = h.n; m = h.m }) (grade_of s)
-  grade-given left bytes f d k = rw (k, d) (grade-accepted left bytes f).2
+  grade-given e left bytes d k = rw (k, d) (grade-accepted e left bytes).2
 
-  pub grade-refused : NotAccepted h.answer → ◌≡◌ {A = Graded} (record { answer = h.answer; n = 0; m = 0 }) (grade_of s)
+  pub grade-refused : {a : Answer} → Err a ≡ head_of (leading_plan s) → ◌≡◌ {A = Graded} (record { answer = a; n = 0; m = 0 }) (grade_of s)
   unfolding grade_of plan_read
-  grade-refused f = go (plan s 0) e
+  grade-refused {a} e = go (plan s 0) e
     where
-      go : (x : Read Plan) → h ≡ head_of (plan_read x) → ◌≡◌ {A = Graded} (record { answer = h.answer; n = 0; m = 0 }) (on_leading x s)
-      go (Got p next) d = absurd (not_accepted h.answer f (ap (λ (y : PlanHead). y.answer) d))
-      go (Refused q p) d = ap (λ (y : PlanHead). record { answer = y.answer; n = 0; m = 0 }) d
+      go : (x : Read Plan) → Err a ≡ head_of (plan_read x) → ◌≡◌ {A = Graded} (record { answer = a; n = 0; m = 0 }) (on_leading x s)
+      go (Got p next) d = cc
+      go (Refused q p) d = ap (λ (b : Answer). record { answer = b; n = 0; m = 0 }) (cc)

@@ -3,7 +3,7 @@ use Prim.Native.Nat.{ℕ, ◌≤◌}
 use mathlib.Core.List.{List, [], ◌∷◌}
 use mathlib.Core.Bool.{Bool}
 use mathlib.Core.Path.{◌≡◌, refl, sym, ap, ◌∙◌, fun_ext}
-use Rattle.record.specs.Read.{Read, Read.Got, Read.Refused, Reader, on_read, ◌▸◌, into, many, check, folded}
+use Rattle.record.specs.Read.{Read.Got, Reader, ◌▸◌, many, check, folded}
 use Rattle.record.proofs.Loops.{then_same, many-same, many-kept}
 use Rattle.vertexset.specs.Set.{capacity}
 use Rattle.connectivity.specs.Graph.{Graph, edge_count}
@@ -12,6 +12,7 @@ use Rattle.connectivity.specs.Build.{taken, final, further_count}
 use Rattle.certificates.specs.Tests.{all_below, is_branch}
 use Rattle.certificates.specs.Records.{branch_four, start_paths, start, further_path, body}
 use Rattle.paths.specs.Items.{end_read}
+use Rattle.paths.proofs.Ends.{end_into}
 use Rattle.build.specs.declared.Build.{Build}
 use Rattle.build.specs.State.{build_start, started_build, build_path, path_taken, build_body}
 use Rattle.refinement.proofs.Shows.{Shows}
@@ -49,14 +50,6 @@ body_same g h count s at = then_same (build_start g) (branch_four g.n ▸ λ b. 
     then_same (many (build_path g) path_taken count (started_build x)) (many (further_path g) taken count x.1) _ _ s mid (further_same g h count sh s mid)
     (λ l next k. ap (λ (t : ℕ → Bool). check 28 (all_below g.n t) s next) (fun_ext (further_shows g h count sh s mid k).branch)))
 
-end_into : {A B : Type 0} (f : A → B) (R : Reader A) (s : List ℕ) (at : ℕ) → end_read (into f R s at) ≡ end_read (R s at)
-unfolding into end_read
-end_into {A} f R s at = go (R s at)
-  where
-    go : (x : Read A) → end_read (on_read x (λ a next. Got (f a) next)) ≡ end_read x
-    go (Got a next) = refl
-    go (Refused r p) = refl
-
 -- KIND 3
 pub kind_3 : (g : Graph) → g.n ≤ capacity → (s : List ℕ) (at : ℕ) → end_read (build_body g (further_count (edge_count g) g.n) s at) ≡ end_read (body g 3 s at)
-kind_3 g h s at = ap end_read (body_same g h (further_count (edge_count g) g.n) s at) ∙ sym (end_into _ (links_body g (further_count (edge_count g) g.n)) s at)
+kind_3 g h s at = ap end_read (body_same g h (further_count (edge_count g) g.n) s at) ∙ end_into _ (links_body g (further_count (edge_count g) g.n)) s at

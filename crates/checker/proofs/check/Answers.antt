@@ -6,17 +6,16 @@ use Rattle.record.specs.Read.{Bytes}
 use Rattle.checker.proofs.Answers.{check-accepted, check-refused}
 use Rattle.checker.proofs.check.Goals as goal
 
-pub returns-in_default : goal.returns-in_default
-returns-in_default c = let a = c.args in
-    check-refused a.plan.now a.certificate.now c.read_plan_rows-read.result c.read_plan_rows-read.ensures.value c.in_default.not-Accepted
+pub returns-in-Err : goal.returns-in-Err
+returns-in-Err c = let a = c.args in
+    check-refused a.plan.now a.certificate.now c.in-Err.ensures.value
 
 pub check_certificate-requires : goal.check_certificate-requires
 check_certificate-requires c = let a = c.args in
-    let b : Bytes a.plan.now = λ i. omega (arith, c.shared_slice_known-1.given i) in
-    (check-accepted a.plan.now a.certificate.now c.read_plan_rows-read.result c.read_plan_rows-read.ensures.value c.read_plan_rows-read.ensures.rows_after b c.in-Accepted.is).0
+    let b : Bytes a.plan.now = λ i. omega (arith, c.type_inv.plan i) in
+    (check-accepted a.plan.now a.certificate.now c.in-Ok.ensures.value c.in-Ok.ensures.rows_after b).0
 
-pub returns : goal.returns
-returns c = let a = c.args in
-    let b : Bytes a.plan.now = λ i. omega (arith, c.shared_slice_known-1.given i) in
-    c.check_certificate.ensures
-    ∙ (check-accepted a.plan.now a.certificate.now c.read_plan_rows-read.result c.read_plan_rows-read.ensures.value c.read_plan_rows-read.ensures.rows_after b c.in-Accepted.is).1
+pub returns-in-Ok : goal.returns-in-Ok
+returns-in-Ok c = let a = c.args in
+    let b : Bytes a.plan.now = λ i. omega (arith, c.type_inv.plan i) in
+    c.check_certificate.ensures ∙ (check-accepted a.plan.now a.certificate.now c.in-Ok.ensures.value c.in-Ok.ensures.rows_after b).1
