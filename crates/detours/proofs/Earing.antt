@@ -10,11 +10,10 @@ use Rattle.std.specs.Prelude.{Ok, Err}
 use Rattle.arrayvec.specs.ArrayVec.{ArrayVec}
 use Rattle.vertexset.specs.Set.{empty_set, count, capacity}
 use Rattle.vertexset.specs.declared.VertexSet.{VertexSet}
-use Rattle.graph.specs.Rows.{row_of}
 use Rattle.search.specs.Arrays.{placed, placed_end}
 use Rattle.search.specs.Code.{path_room}
 use Rattle.search.proofs.Placed.{padded-none}
-use Rattle.construction.specs.Sets.{stop, minus, single, set_with_all, least, empty}
+use Rattle.construction.specs.Sets.{stop, minus, single, set_with_all, empty}
 use Rattle.construction.specs.Search.{explore}
 use Rattle.construction.specs.Ears as construction
 use Rattle.construction.specs.Ears.{no_cut, is_cut, failed, answered, near_all, near, way_out, back_from, detour, cycle, path_space, add_path, Eared, eared, ears_on, ears}
@@ -25,7 +24,7 @@ use Rattle.detours.specs.Code.{cut_of, cut_in, found_of, ears_of, Kept, FlatShow
 use Rattle.detours.specs.declared.Cut.{Cut}
 use Rattle.detours.specs.declared.Ears.{Ears}
 use Rattle.detours.proofs.Routes.{answered-one}
-use Rattle.detours.proofs.Kept.{kept_length, kept_size, add_kept, add_kept_end, add_kept_short, flat_shows_take, flat_shows_kept}
+use Rattle.detours.proofs.Kept.{kept_size, add_kept, add_kept_end, add_kept_short, flat_shows_take, flat_shows_kept}
 use Rattle.detours.proofs.Answered.{Found, ok_test, ok_path, err_test, err_cut}
 
 -- ---- paths are short
@@ -43,15 +42,6 @@ back-short rows set e = go (ltb e.0 capacity)
 pub detour-short : (rows : List ℕ) (n set : VertexSet) → length (detour rows n set).path ≤ path_room
 unfolding detour
 detour-short rows n set = back-short rows set (way_out rows n set)
-
-around-short : (rows : List ℕ) (row : VertexSet) (b : Bool)
-    → length (cond {A = construction.Found} b (failed row (single 0)) (answered (explore rows (single (least row)) (minus row (single (least row))) (single 0)) (single 0) (0 ∷ []))).path ≤ path_room
-around-short rows row true = none-short row (single 0)
-around-short rows row false = answered-one (explore rows (single (least row)) (minus row (single (least row))) (single 0)) (single 0) 0
-
-pub cycle-short : (rows : List ℕ) → length (cycle rows).path ≤ path_room
-unfolding cycle
-cycle-short rows = around-short rows (row_of rows 0) (ltb (count (row_of rows 0).words) 2)
 
 -- ---- what the code's struct holds
 
@@ -129,9 +119,6 @@ unfolding ears_on
 ears-turn rows full f flat k set = refl
 
 module _ {rows : List ℕ} {full : VertexSet} {whole : Eared} {flat : List ℕ} {len : ℕ} {set n : VertexSet} {count counter : ℕ} (g : Earing rows full whole flat len set n count counter) where
-  pub earing_length : length flat ≡ path_space
-  earing_length = kept_length flat len g.kept
-
   shown : {c : Cut} (d : construction.Cut) → c ≡ cut_of d → eared (take len flat) count d ≡ whole → ears_at flat len count c ≡ ears_of whole
   shown d e w = (λ i. record { flat = g.kept.0 i; len = sym (kept_size flat len g.kept) i; count = count; cut = e i }) ∙ ap ears_of w
 

@@ -225,8 +225,8 @@ pub fn add_path<'a>(flat: &'a mut [u16], len: usize, path: &'a [u16]) -> usize
 pub fn mark<'a>(table: &'a mut [u64; GraphTable::ROW_WORDS], list: &'a [u16])
     ensures { table.new ≡ marked table.old list.now }
 {
-    for i in 1..list.len() {
-        graph::join(table, list[i - 1], list[i]);
+    for link in list.windows(2) {
+        graph::join(table, link[0], link[1]);
     }
 }
 

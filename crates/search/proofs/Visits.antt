@@ -223,9 +223,6 @@ module _ (space : List ℕ) (size : length space ≡ search_space) (l : List ℕ
   pub count_low : count ≤ capacity
   count_low = omega (arith, count-is)
 
-  pub start-size : length start ≡ search_space
-  start-size = ap length start_is ∙ both_length (first space) (second space) (first_size space size) (second_size space size) l zeros zeros-size low
-
   all-visits : (rows : List ℕ) (goals shut : VertexSet) → visits_in rows goals count start shut ≡ visit rows goals (length l) capacity l zeros shut 0
   all-visits rows goals shut =
       ap (λ (n : ℕ). visits_in rows goals n start shut) count-is ∙ ap (λ (a : List ℕ). visits_in rows goals (length l) a shut) start_is

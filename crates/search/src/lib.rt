@@ -1,7 +1,7 @@
 // One search serves the certifier: from seeds to the nearest goal, with vertices removed; a path, or the closed set that was reached.
 #![tactic(auto)]
 
-ghost use Rattle.std.specs.Prelude.{◌≡◌, ◌≤◌, get_or, replicate, take, drop};
+ghost use Rattle.std.specs.Prelude.{◌≡◌, ◌≤◌, ◌+◌, leb, get_or, replicate, take, drop};
 ghost use Rattle.construction.specs.Sets.{members};
 ghost use Rattle.construction.specs.Search.{explore};
 ghost use Rattle.search.specs.Arrays.{placed, placed_end};
@@ -38,15 +38,19 @@ pub const PATH_ROOM: usize = VertexSet::CAPACITY as usize + 2;
 // A list of vertices that lies in the value itself: no heap.
 pub type VertexList = ArrayVec<u16, PATH_ROOM>;
 
+// Whether k numbers have room from a place on, in an array of this length.
+fn has_room(len: usize, at: usize, k: usize) -> bool
+    ensures { result ≡ leb (at + k) len }
+{
+    at <= len && k <= len - at
+}
+
 // The numbers of a list, put from a place on; the place behind them. Nothing is put where they have no room.
 pub fn put_all<'a>(items: &'a mut [u16], at: usize, list: &'a [u16]) -> usize
     ensures after { items.new ≡ placed items.old at list.now }
     ensures value { result ≡ placed_end items.old at list.now }
 {
-    if items.len() < at {
-        return at;
-    }
-    if items.len() - at < list.len() {
+    if !has_room(items.len(), at, list.len()) {
         return at;
     }
     let end = at + list.len();
@@ -59,10 +63,7 @@ pub fn put_members(items: &mut [u16], at: usize, set: VertexSet) -> usize
     ensures after { items.new ≡ placed items.old at (members set) }
     ensures value { result ≡ placed_end items.old at (members set) }
 {
-    if items.len() < at {
-        return at;
-    }
-    if items.len() - at < set.size() as usize {
+    if !has_room(items.len(), at, set.size() as usize) {
         return at;
     }
     let mut i = at;
@@ -83,10 +84,7 @@ pub fn put_copies(items: &mut [u16], at: usize, times: usize, v: u16) -> usize
     ensures after { items.new ≡ placed items.old at (replicate times v) }
     ensures value { result ≡ placed_end items.old at (replicate times v) }
 {
-    if items.len() < at {
-        return at;
-    }
-    if items.len() - at < times {
+    if !has_room(items.len(), at, times) {
         return at;
     }
     let end = at + times;
@@ -103,10 +101,7 @@ fn put_reached(space: &mut [u16; Reach::SPACE], at: usize, set: VertexSet, from:
     if k == 0 {
         return at;
     }
-    if Reach::HALF < at {
-        return at;
-    }
-    if Reach::HALF - at < k {
+    if !has_room(Reach::HALF, at, k) {
         return at;
     }
     put_members(space, at, set);

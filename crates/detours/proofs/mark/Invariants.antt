@@ -1,8 +1,7 @@
-use Prim.Native.Nat.{◌-◌}
 use mathlib.Core.Path.{◌≡◌}
-use lib.ListN.{drop}
+use Rattle.std.specs.Slice.Iter.{windows_rest, windows_size}
 use Rattle.construction.specs.Start.{marked}
 use Rattle.detours.proofs.mark.Given as goal
 
-abbrev pub invariant-loop-i : goal.invariant-loop-i
-invariant-loop-i l = marked l.table (drop (l.i - 1) l.list) ≡ marked l.initial.table l.list
+abbrev pub invariant-loop-link : goal.invariant-loop-link
+invariant-loop-link l = (windows_size l.link-iterator ≡ 2) × (marked l.table (windows_rest l.link-iterator) ≡ marked l.initial.table l.list)

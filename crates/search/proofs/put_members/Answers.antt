@@ -1,35 +1,34 @@
 -- `search::put_members` meets its contract: what the walk has ahead of it is still to be put. Assumes nothing.
 
-use mathlib.Core.Path.{◌≡◌, sym, ◌∙◌}
+use Prim.Native.Nat.{ℕ, ◌+◌, ◌<◌, ◌≤◌}
+use mathlib.Core.Path.{◌≡◌, sym, ap, ◌∙◌}
 use native.Mathlib.Omega.{arith}
+use lib.Dec.{leb}
 use lib.ListN.{length, get_or}
 use mir.Val.{Fits}
 use mir.Syntax.{w64}
 use borrow.Author.Rules.{rules}
-use Rattle.vertexset.specs.Set.{Words, word_count}
+use borrow.Author.Tests.{leb-true, leb-false}
+use Rattle.vertexset.specs.Set.{Words, word_count, count}
 use Rattle.vertexset.proofs.Walks.{walks_begin, walks_on, walks_less}
 use Rattle.search.proofs.Filling.{fill_length}
 use Rattle.search.proofs.Members.{listed, members-none, members-begin, members-place, members-turn, members-passes, members-done}
 use Rattle.search.proofs.put_members.Goals as goal
 
-pub returns-then-items-at : goal.returns-then-items-at
-returns-then-items-at c = let rest = let a = c.args in
+pub returns-then-not-has_room : goal.returns-then-not-has_room
+returns-then-not-has_room c = let rest = let a = c.args in
     let l : length a.set.words ≡ word_count = search rules in
     let w : Words a.set.words = λ i. let f : Fits w64 (get_or a.set.words i 0) = search rules in f.fits in
-    members-none a.set l w a.items.now a.at (omega arith) in record { after = rest.0; value = rest.1 }
-
-pub returns-then-items-at-2 : goal.returns-then-items-at-2
-returns-then-items-at-2 c = let rest = let a = c.args in
-    let l : length a.set.words ≡ word_count = search rules in
-    let w : Words a.set.words = λ i. let f : Fits w64 (get_or a.set.words i 0) = search rules in f.fits in
-    members-none a.set l w a.items.now a.at (omega (arith, c.size.ensures)) in record { after = rest.0; value = rest.1 }
+    let h : length a.items.now < a.at + count a.set.words = leb-false _ _ (ap (λ (k : ℕ). leb (a.at + k) (length a.items.now)) (sym c.size.ensures) ∙ sym c.has_room.ensures ∙ c.if-not-has_room.true) in
+    members-none a.set l w a.items.now a.at h in record { after = rest.0; value = rest.1 }
 
 pub loop-set-init : goal.loop-set-init
 loop-set-init c = let a = c.args in
     let l : length a.set.words ≡ word_count = search rules in
     let w : Words a.set.words = λ i. let f : Fits w64 (get_or a.set.words i 0) = search rules in f.fits in
     let e = c.walk_from-walk.ensures in
-    (walks_begin a.set.words l w 0 e, members-begin a.set l w a.items.now a.at (omega (arith, c.size.ensures)) e)
+    let h : a.at + count a.set.words ≤ length a.items.now = leb-true _ _ (ap (λ (k : ℕ). leb (a.at + k) (length a.items.now)) (sym c.size.ensures) ∙ sym c.has_room.ensures ∙ c.if-not-has_room.false) in
+    (walks_begin a.set.words l w 0 e, members-begin a.set l w a.items.now a.at h e)
 
 pub bounds-items-i : goal.bounds-items-i
 bounds-items-i c = let a = c.args in
