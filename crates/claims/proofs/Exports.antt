@@ -6,6 +6,7 @@ use mathlib.Core.Bool.{Bool, true, false, cond, ◌||◌, and-false}
 use mathlib.Core.Path.{◌≡◌, refl, sym, ap, ◌∙◌, subst}
 use mathlib.Core.Logic.{⊎_elim}
 use native.Mathlib.Nat.{pow-suc}
+use Rattle.std.specs.Prelude.{Option, Some, None}
 use native.Mathlib.Omega.{arith}
 use lib.Dec.{leb, ltb, eqb}
 use lib.ListN.{length, get_or, take, drop, length-take, length-drop, get_or-eq_default}
@@ -32,8 +33,6 @@ use Rattle.sessions.specs.declared.Opened.{Opened}
 use Rattle.sessions.specs.declared.Stepped.{Stepped}
 use Rattle.sessions.specs.Session.{opening, start_step, path_step, back_step, close_step, on_start, on_path, is_due, refused_step}
 use Rattle.sessions.proofs.Calls.{back_either}
-use Rattle.script.specs.declared.Part.{Part}
-use Rattle.script.specs.declared.Part.TheVariants.{Within, Cut}
 use Rattle.script.specs.Script.{part_at}
 use Rattle.script.specs.Replay.{word, answer_word, word_bytes, answer_bytes, part_of, is_lone, replay_of}
 use Rattle.script.proofs.Answers.{word-length}
@@ -194,14 +193,14 @@ calls_each Q zero s part at = tt
 calls_each Q (suc k) s part at =
     go (leb (length s) at) (is_lone (get_or s at 0)) (eqb (get_or s at 0) 99) (eqb (get_or s at 0) 115 || eqb (get_or s at 0) 112) (eqb (get_or s at 0) 115) (part_at s (at + 1)) (calls_each Q k s part)
   where
-    go : (b c f d t : Bool) (p : Part) → ((e : ℕ) → Each Q (calls_from k s e)) → Each Q
+    go : (b c f d t : Bool) (p : Option (ℕ × ℕ)) → ((e : ℕ) → Each Q (calls_from k s e)) → Each Q
         (cond b [] (cond c (cond f close back ∷ calls_from k s (at + 1)) (cond d (on_part_calls p (λ a e. cond t (start (part_of s a e)) (path (part_of s a e)) ∷ calls_from k s e)) [])))
     go true c f d t p rest = tt
     go false true true d t p rest = rest (at + 1)
     go false true false d t p rest = rest (at + 1)
-    go false false f true true (Within a e) rest = (part a e, rest e)
-    go false false f true false (Within a e) rest = (part a e, rest e)
-    go false false f true t Cut rest = tt
+    go false false f true true (Some p) rest = (part p.0 p.1, rest p.1)
+    go false false f true false (Some p) rest = (part p.0 p.1, rest p.1)
+    go false false f true t None rest = tt
     go false false f false t p rest = tt
 
 each-bytes : (calls : List Call) → Each Bytes calls → CallBytes calls
@@ -298,7 +297,7 @@ nth_word (a ∷ l) behind (suc i) h =
     (ap (drop (8 * i)) (drop_at (answer_bytes a) (list_bytes answer_bytes l ++ behind) 8 (word-length 8 (answer_word a)))) in
     rw d (nth_word l behind i (omega arith))
 
-told-word : (s buffer : List ℕ) (a e : ℕ) → part_at s 0 ≡ Within a e → (i : ℕ) → i < (replay_of s buffer).count
+told-word : (s buffer : List ℕ) (a e : ℕ) → part_at s 0 ≡ Some (a, e) → (i : ℕ) → i < (replay_of s buffer).count
     → word_at (replay_of s buffer).buffer i ≡ word_of (answer_bytes (get_or (script_answers s a e) i Accepted))
 told-word s buffer a e w i h =
     let t = scripts_replay s buffer a e w in

@@ -5,6 +5,7 @@ use Prim.Native.Nat.{ℕ, zero, suc, ◌+◌, ◌*◌, ◌-◌, ◌/◌, ◌%◌
 use mathlib.Core.List.{List, [], ◌∷◌, ◌++◌, append_assoc}
 use mathlib.Core.Bool.{Bool, true, false, cond, ◌||◌}
 use mathlib.Core.Path.{◌≡◌, refl, sym, ap, ◌∙◌}
+use Rattle.std.specs.Prelude.{Option, Some, None}
 use native.Mathlib.Omega.{arith}
 use lib.ListN.{length, get_or, take, drop, length-append}
 use lib.Seq.{append_snoc, get_or_at, get_or-append-add, take_at, drop_at, take-nil, take_all}
@@ -18,8 +19,6 @@ use Rattle.record.proofs.Lists.{bytes_cons, bytes_append}
 use Rattle.record.proofs.Write.{overwritten-none, overwritten-length, overwritten-more}
 use Rattle.sessions.specs.declared.Session.{Session}
 use Rattle.sessions.specs.Session.{opening, start_step, path_step, back_step, close_step}
-use Rattle.script.specs.declared.Part.{Part}
-use Rattle.script.specs.declared.Part.TheVariants.{Within, Cut}
 use Rattle.script.specs.Script.{size_at, part_at}
 use Rattle.script.specs.Replay.{answer_word, answer_bytes, Reply, reply, has_room_for, with_answer, part_of, step_of, is_lone, lone_of, on_part, replay_on, opened, replay_of}
 use Rattle.script.proofs.Answers.{word-length}
@@ -41,7 +40,7 @@ module _ (front part behind : List ℕ) (at : ℕ) (h : length front ≡ at) whe
       let b : get_or joined (at + 1) 0 ≡ length part / 256 = rw (← h) (get_or-append-add front (part_bytes part ++ behind) 1 0) in
       rw (a, b) (omega arith)
 
-  part_at_lem : part_at joined at ≡ Within (at + 2) (at + 2 + length part)
+  part_at_lem : part_at joined at ≡ Some (at + 2, at + 2 + length part)
   unfolding part_at
   part_at_lem = rw (size, le-leb (at + 2) (length joined) (omega (arith, long)), le-leb (at + 2 + length part) (length joined) (omega (arith, long)))
 
@@ -59,7 +58,7 @@ module _ (front part behind : List ℕ) (at : ℕ) (h : length front ≡ at) whe
 pub record PartCall (s : List ℕ) (at call : ℕ) (part : List ℕ) : Type 0 where
   pub inside : leb (length s) at ≡ false
   pub byte : get_or s at 0 ≡ call
-  pub within : part_at s (at + 1) ≡ Within (at + 3) (at + 3 + length part)
+  pub within : part_at s (at + 1) ≡ Some (at + 3, at + 3 + length part)
   pub handed : part_of s (at + 3) (at + 3 + length part) ≡ part
 
 pub record LoneCall (s : List ℕ) (at call : ℕ) : Type 0 where
@@ -231,7 +230,7 @@ turn_tells : (k : ℕ) (s : List ℕ) → Replays k s → Replays (suc k) s
 unfolding replay_on calls_from
 turn_tells k s rest session at buffer count room h = go (leb (length s) at) (is_lone (get_or s at 0)) (eqb (get_or s at 0) 115 || eqb (get_or s at 0) 112) (part_at s (at + 1))
   where
-    go : (b c d : Bool) (p : Part) → TellsOn
+    go : (b c d : Bool) (p : Option (ℕ × ℕ)) → TellsOn
         (cond b (reply buffer count 0) (cond c
         (cond (has_room_for buffer count)
         (replay_on k s (lone_of (get_or s at 0) session).session (at + 1) (with_answer buffer count (lone_of (get_or s at 0) session).answer) (count + 1)) (reply buffer count 3))
@@ -243,8 +242,8 @@ turn_tells k s rest session at buffer count room h = go (leb (length s) at) (is_
         (cond d (on_part_calls p (λ a e. call_of (get_or s at 0) (part_of s a e) ∷ calls_from k s e)) []))))
     go true c d p = tells_none buffer count room 0 (omega arith)
     go false true d p = rw (lone_called (get_or s at 0) session) (one_more buffer count room h _ _ _ (λ left e. rest _ (at + 1) _ (count + 1) left e))
-    go false false true Cut = tells_none buffer count room 1 (omega arith)
-    go false false true (Within a e) = rw (step-called (get_or s at 0) session (part_of s a e)) (one_more buffer count room h _ _ _ (λ left f. rest _ e _ (count + 1) left f))
+    go false false true None = tells_none buffer count room 1 (omega arith)
+    go false false true (Some p) = rw (step-called (get_or s at 0) session (part_of s p.0 p.1)) (one_more buffer count room h _ _ _ (λ left f. rest _ p.1 _ (count + 1) left f))
     go false false false p = tells_none buffer count room 2 (omega arith)
 
 replay_tells : (k : ℕ) (s : List ℕ) → Replays k s
@@ -269,9 +268,9 @@ pub record Bounded (buffer : List ℕ) (r : Reply) : Type 0 where
 pub replay_bounded : (s buffer : List ℕ) → Bounded buffer (replay_of s buffer)
 replay_bounded s buffer = go (part_at s 0)
   where
-    go : (p : Part) → Bounded buffer (on_part p (reply buffer 0 1) (opened s buffer))
-    go Cut = record { count = omega arith; status = omega arith }
-    go (Within a e) = let t = opened-tells s buffer a e in record { count = omega (arith, t.count-then); status = t.ended }
+    go : (p : Option (ℕ × ℕ)) → Bounded buffer (on_part p (reply buffer 0 1) (opened s buffer))
+    go None = record { count = omega arith; status = omega arith }
+    go (Some p) = let t = opened-tells s buffer p.0 p.1 in record { count = omega (arith, t.count-then); status = t.ended }
 
 -- as many answers as calls
 answers-many : (s : Session) (calls : List Call) → length (answers_of s calls) ≡ length calls

@@ -1,6 +1,6 @@
 -- THE DEMANDS, each as a statement beside its words; docs/PROOFS.md tells in which file of proofs/ each is proved. P, Q are plan records, C is a certificate record,
 -- k a grade. That every call ends and that none has a condition to be met beforehand is what the kit proves of each public function.
-use Rattle.std.specs.Prelude.{ℕ, suc, ◌+◌, ◌*◌, ◌/◌, ◌%◌, ◌^◌, ◌≤◌, ◌<◌, List, ◌∷◌, ◌++◌, ◌≡◌, ◌↔◌, length, take, drop, get_or}
+use Rattle.std.specs.Prelude.{ℕ, suc, ◌+◌, ◌*◌, ◌/◌, ◌%◌, ◌^◌, ◌≤◌, ◌<◌, List, ◌∷◌, ◌++◌, ◌≡◌, ◌↔◌, Some, None, length, take, drop, get_or}
 use Rattle.record.specs.Read.{Read.Refused, Bytes}
 use Rattle.record.specs.Number.{number_bytes, list_bytes}
 use Rattle.record.specs.Write.{overwritten}
@@ -20,7 +20,6 @@ use Rattle.checker.specs.Check.{plan_graph, check_of, grade_of}
 use Rattle.construction.specs.Ears.{path_space}
 use Rattle.construction.specs.Construction.{certificate}
 use Rattle.certifier.specs.Made.{certificate_room, made, length_from, made_from, filled_from}
-use Rattle.script.specs.declared.Part.TheVariants.{Within, Cut}
 use Rattle.script.specs.Script.{part_at}
 use Rattle.script.specs.Replay.{answer_word, answer_bytes, part_of, reply, replay_of}
 use Rattle.fikzarn.specs.Words.{plan_rewritten, made_word, replay_word}
@@ -196,7 +195,7 @@ WordsDecode = (a : Answer) → Fits a → decoded (answer_word a) ≡ a
 
 -- every plan record and list of calls has a script, from which they are read back;
 pub record ScriptOf (P : List ℕ) (calls : List Call) : Type 0 where
-  pub plan-at : part_at (script_bytes P calls) 0 ≡ Within 2 (2 + length P)
+  pub plan-at : part_at (script_bytes P calls) 0 ≡ Some (2, 2 + length P)
   pub plan : part_of (script_bytes P calls) 2 (2 + length P) ≡ P
   pub bytes : Bytes P → CallBytes calls → Bytes (script_bytes P calls)
   pub calls_behind : calls_from (length (script_bytes P calls)) (script_bytes P calls) (2 + length P) ≡ calls
@@ -206,7 +205,7 @@ ScriptsEncode = (P : List ℕ) (calls : List Call) → length P < 65536 → Shor
 
 -- a replay tells the answers of the script's calls, from the opening on;
 abbrev pub ScriptsReplay : Type 0
-ScriptsReplay = (s buffer : List ℕ) (a e : ℕ) → part_at s 0 ≡ Within a e → Tells s buffer (script_answers s a e)
+ScriptsReplay = (s buffer : List ℕ) (a e : ℕ) → part_at s 0 ≡ Some (a, e) → Tells s buffer (script_answers s a e)
 
 -- where the script is a plan record's and a list of calls' and the buffer has room for every answer, the whole reply is this;
 abbrev pub ScriptReplies : Type 0
@@ -216,7 +215,7 @@ ScriptReplies =
 
 -- a script whose plan record is cut is answered nothing;
 abbrev pub ScriptCut : Type 0
-ScriptCut = (s buffer : List ℕ) → part_at s 0 ≡ Cut → replay_of s buffer ≡ reply buffer 0 1
+ScriptCut = (s buffer : List ℕ) → part_at s 0 ≡ None → replay_of s buffer ≡ reply buffer 0 1
 
 -- what the exported functions answer is read from their words, where no record has 2 to the 48 bytes: the answer, the certificate's
 -- length, each answer of a script, and how a replay ended with how many answers;
@@ -227,7 +226,7 @@ pub record WordsAreAnswers : Type 0 where
   pub length_of : (P buffer : List ℕ) → Bytes P → (k : ℕ) → (made_from P buffer).answer ≡ Grade k → made_word (made_from P buffer) / 65536 ≡ (made_from P buffer).length
   pub of_length : (P : List ℕ) → Bytes P → length P < 2 ^ 48 → decoded (made_word (length_from P)) ≡ (length_from P).answer
   pub length_asked : (P : List ℕ) → Bytes P → (k : ℕ) → (length_from P).answer ≡ Grade k → made_word (length_from P) / 65536 ≡ (length_from P).length
-  pub of_session : (s buffer : List ℕ) (a e : ℕ) → part_at s 0 ≡ Within a e → length s < 2 ^ 48 → (i : ℕ) → i < (replay_of s buffer).count
+  pub of_session : (s buffer : List ℕ) (a e : ℕ) → part_at s 0 ≡ Some (a, e) → length s < 2 ^ 48 → (i : ℕ) → i < (replay_of s buffer).count
       → decoded (word_at (replay_of s buffer).buffer i) ≡ get_or (script_answers s a e) i Accepted
   pub status_of : (s buffer : List ℕ) → replay_word (replay_of s buffer) % 256 ≡ (replay_of s buffer).status
   pub count_of : (s buffer : List ℕ) → length buffer < 2 ^ 48 → replay_word (replay_of s buffer) / 65536 ≡ (replay_of s buffer).count
@@ -237,7 +236,7 @@ pub record GradesInWords : Type 0 where
   pub of_check : (P C : List ℕ) → Bytes P → Bytes C → (k : ℕ) → decoded (answer_word (check_of P C)) ≡ Grade k → HasFigure P k
   pub of_certify : (P buffer : List ℕ) → Bytes P → (k : ℕ) → decoded (made_word (made_from P buffer)) ≡ Grade k → HasFigure P k
   pub of_length : (P : List ℕ) → Bytes P → (k : ℕ) → decoded (made_word (length_from P)) ≡ Grade k → HasFigure P k
-  pub of_session : (s buffer : List ℕ) → Bytes s → (a e : ℕ) → part_at s 0 ≡ Within a e → (i k : ℕ) → i < (replay_of s buffer).count
+  pub of_session : (s buffer : List ℕ) → Bytes s → (a e : ℕ) → part_at s 0 ≡ Some (a, e) → (i k : ℕ) → i < (replay_of s buffer).count
       → decoded (word_at (replay_of s buffer).buffer i) ≡ Grade k → HasFigure (part_of s a e) k
 
 -- THE PROGRAMS. The session program prints a line for each call of its script, the opening's first: those of the session of documents 01 and 02.

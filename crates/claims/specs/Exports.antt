@@ -1,13 +1,11 @@
 -- WHAT CALLERS IN OTHER LANGUAGES GET: answers as words, and scripts of session calls.
-use Rattle.std.specs.Prelude.{ℕ, zero, suc, ◌+◌, ◌*◌, ◌/◌, ◌%◌, ◌<◌, ◌^◌, min, List, [], ◌∷◌, ◌++◌, cond, ◌||◌, ◌≡◌, length, get_or, take, drop, leb, eqb}
+use Rattle.std.specs.Prelude.{ℕ, zero, suc, ◌+◌, ◌*◌, ◌/◌, ◌%◌, ◌<◌, ◌^◌, min, List, [], ◌∷◌, ◌++◌, cond, ◌||◌, ◌≡◌, Option, Some, None, length, get_or, take, drop, leb, eqb}
 use Rattle.record.specs.Number.{list_bytes}
 use Rattle.record.specs.Write.{overwritten}
 use Rattle.record.specs.declared.Answer.{Answer}
 use Rattle.record.specs.declared.Answer.TheVariants.{Accepted, Grade, PlanFault, CertificateFault}
 use Rattle.sessions.specs.declared.Session.{Session}
 use Rattle.sessions.specs.Session.{opening}
-use Rattle.script.specs.declared.Part.{Part}
-use Rattle.script.specs.declared.Part.TheVariants.{Within, Cut}
 use Rattle.script.specs.Script.{part_at}
 use Rattle.script.specs.Replay.{answer_bytes, part_of, is_lone, replay_of}
 use Rattle.claims.specs.Calls.{Call, Call.start, Call.path, Call.back, Call.close, called}
@@ -65,9 +63,9 @@ call_of call part = cond (eqb call 115) (start part) (path part)
 abbrev pub lone_call : ℕ → Call
 lone_call call = cond (eqb call 99) close back
 
-abbrev pub on_part_calls : Part → (ℕ → ℕ → List Call) → List Call
-on_part_calls Cut f = []
-on_part_calls (Within a e) f = f a e
+abbrev pub on_part_calls : Option (ℕ × ℕ) → (ℕ → ℕ → List Call) → List Call
+on_part_calls None f = []
+on_part_calls (Some p) f = f p.0 p.1
 
 unfoldable pub calls_from : ℕ → List ℕ → ℕ → List Call
 calls_from zero s at = []

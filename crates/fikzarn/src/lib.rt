@@ -21,17 +21,13 @@ use record::Answer;
 pub extern "C" fn fikzarn_plan(input: &[u8], out: &mut [u8]) -> u64
     ensures { (result ≡ answer_word (whole_plan input.now).answer) × (out.new ≡ plan_rewritten input.now out.old) }
 {
-    let read = reading::read_plan(input);
-    let answer = read.answer;
-    let found = read.plan;
-    match answer {
-        Answer::Accepted => {
-            writing::write_plan(found, out);
-            script::answer_word(answer)
+    match reading::read_plan(input) {
+        Ok(read) => {
+            // the same answer whether it has room or not
+            let _ = writing::write_plan(read.plan, out);
+            script::answer_word(Answer::Accepted)
         }
-        Answer::Grade(_) => script::answer_word(answer),
-        Answer::PlanFault(_, _) => script::answer_word(answer),
-        Answer::CertificateFault(_, _) => script::answer_word(answer),
+        Err(refusal) => script::answer_word(refusal),
     }
 }
 
@@ -40,21 +36,16 @@ pub extern "C" fn fikzarn_plan(input: &[u8], out: &mut [u8]) -> u64
 pub extern "C" fn fikzarn_check(plan: &[u8], certificate: &[u8]) -> u64
     ensures { result ≡ answer_word (check_of plan.now certificate.now) }
 {
-    let answer = checker::check(plan, certificate);
-    script::answer_word(answer)
+    script::answer_word(checker::check(plan, certificate))
 }
 
 // What the maker gave as one word: a grade has the certificate's length in the place.
 fn made_word(made: Made) -> u64
     ensures { result ≡ made_word made }
 {
-    let answer = made.answer;
-    let length = made.length;
-    match answer {
-        Answer::Grade(k) => 1 + 256 * k as u64 + 65536 * (length as u64 % 281474976710656),
-        Answer::Accepted => script::answer_word(answer),
-        Answer::PlanFault(_, _) => script::answer_word(answer),
-        Answer::CertificateFault(_, _) => script::answer_word(answer),
+    match made.answer {
+        Answer::Grade(k) => 1 + 256 * k as u64 + 65536 * (made.length as u64 % 281474976710656),
+        _ => script::answer_word(made.answer),
     }
 }
 
@@ -64,8 +55,7 @@ pub extern "C" fn fikzarn_certify(plan: &[u8], out: &mut [u8]) -> u64
     ensures value { result ≡ made_word (made_from plan.now out.old) }
     ensures out_after { out.new ≡ filled_from plan.now out.old }
 {
-    let made = certifier::certify(plan, out);
-    made_word(made)
+    made_word(certifier::certify(plan, out))
 }
 
 // The word that fikzarn_certify answers where the certificate has room.
@@ -73,8 +63,7 @@ pub extern "C" fn fikzarn_certify(plan: &[u8], out: &mut [u8]) -> u64
 pub extern "C" fn fikzarn_certificate_length(plan: &[u8]) -> u64
     ensures { result ≡ made_word (length_from plan.now) }
 {
-    let made = certifier::certificate_length(plan);
-    made_word(made)
+    made_word(certifier::certificate_length(plan))
 }
 
 // Replays a session script: the answers' words at the start of out, eight bytes each, the lowest first; every other byte stays.
@@ -85,7 +74,7 @@ pub extern "C" fn fikzarn_session(script: &[u8], out: &mut [u8]) -> u64
     ensures out_after { out.new ≡ (replay_of script.now out.old).buffer }
 {
     let replayed = script::replay(script, out);
-    replayed.status as u64 + 65536 * (replayed.count as u64 % 281474976710656)
+    replayed.status.number() as u64 + 65536 * (replayed.count as u64 % 281474976710656)
 }
 
 // How many plans of 4, 5 or 6 boxes, no two cables alike, have that grade; 0 for any other size or grade.
@@ -100,17 +89,14 @@ pub extern "C" fn fikzarn_count(size: u64, grade: u64) -> u64
 fn mended_word(m: Mended) -> u64
     ensures { result ≡ mended_word m }
 {
-    let answer = m.answer;
     let list = m.list as u64 % 65536;
     let mended = m.mended as u64 % 65536;
     let certificate = m.certificate as u64 % 65536;
-    match answer {
+    match m.answer {
         Answer::Grade(k) => {
             1 + 256 * k as u64 + 65536 * (list + 65536 * mended + 4294967296 * certificate)
         }
-        Answer::Accepted => script::answer_word(answer),
-        Answer::PlanFault(_, _) => script::answer_word(answer),
-        Answer::CertificateFault(_, _) => script::answer_word(answer),
+        _ => script::answer_word(m.answer),
     }
 }
 
@@ -128,8 +114,7 @@ pub extern "C" fn fikzarn_mend(
     ensures mended_after { mended.new ≡ (mend_from plan.now list.old mended.old certificate.old).mended }
     ensures certificate_after { certificate.new ≡ (mend_from plan.now list.old mended.old certificate.old).certificate }
 {
-    let m = mending::mend(plan, list, mended, certificate);
-    mended_word(m)
+    mended_word(mending::mend(plan, list, mended, certificate))
 }
 
 // The edition of the format.

@@ -1,53 +1,42 @@
 -- Writing an answer byte by byte. Assumes nothing.
-use Prim.Native.Nat.{ℕ, zero, suc, ◌+◌, ◌-◌, ◌*◌, ◌%◌, ◌/◌, ◌<◌, ◌≤◌}
-use mathlib.Core.List.{List}
+use Prim.Native.Nat.{ℕ, zero, suc, ◌+◌, ◌*◌, ◌%◌, ◌/◌, ◌^◌, ◌<◌, ◌≤◌}
+use mathlib.Core.List.{List, ◌∷◌}
 use mathlib.Core.Bool.{Bool, true, false}
 use mathlib.Core.Path.{◌≡◌, refl, sym, ap, ◌∙◌}
-use native.Mathlib.Numerals.{add-one}
+use native.Mathlib.Nat.{div-div-eq-div-mul, pow-suc}
 use native.Mathlib.Omega.{arith}
-use lib.ListN.{length, set, length-set}
-use lib.Seq.{sets, sets-eq}
+use lib.ListN.{length}
+use lib.Seq.{take_all}
+use borrow.Rule.Slice.PartMut.{put_mid}
+use Rattle.std.proofs.lemmas.Slice.{put_mid-paste}
+use Rattle.std.specs.Int.{w64, to_le_bytes, bytes_low_first}
 use borrow.Author.Tests.{le-leb, lt-leb, leb-true}
 use Rattle.record.specs.Write.{overwritten}
 use Rattle.record.specs.declared.Answer.{Answer}
 use Rattle.record.proofs.Write.{overwritten-length}
 use Rattle.script.specs.Replay.{answer_word, word_bytes, answer_bytes, has_room_for, with_answer, answered}
 
--- after i bytes: what is left of the word, written behind them, gives the whole
-pub record Putting (first : List ℕ) (at word : ℕ) (out : List ℕ) (w i : ℕ) : Type 0 where
-  pub few : i ≤ 8
-  pub long : length out ≡ length first
-  pub left : sets out (at + i) (word_bytes (8 - i) w) ≡ sets first at (word_bytes 8 word)
-
 pub word-length : (k w : ℕ) → length (word_bytes k w) ≡ k
 unfolding word_bytes
 word-length zero w = refl
 word-length (suc k) w = ap suc (word-length k (w / 256))
 
-pub put_start : (first : List ℕ) (at word : ℕ) → Putting first at word first word 0
-put_start first at word = record { few = omega arith; long = refl; left = let z : at + 0 ≡ at = omega arith in rw z }
-
-one_put : (out : List ℕ) (at k w : ℕ) → sets (set out at (w % 256)) (at + 1) (word_bytes k (w / 256)) ≡ sets out at (word_bytes (suc k) w)
+-- the bytes of a word as the library's method gives them, those from byte i on
+low_first : (k i n w : ℕ) → w ≡ n / 256 ^ i → bytes_low_first i k n ≡ word_bytes k w
 unfolding word_bytes
-one_put out at k w = rw (add-one at)
+low_first zero i n w e = refl
+low_first (suc k) zero n w e =
+    let z : w ≡ n = omega (arith, e) in
+    rw z (ap (λ l. n % 256 ∷ l) (low_first k 1 n (n / 256) refl))
+low_first (suc k) (suc i) n w e =
+    rw e (ap (λ l. n / 256 ^ suc i % 256 ∷ l) (low_first k (suc (suc i)) n (n / 256 ^ suc i / 256) (div-div-eq-div-mul n (256 ^ suc i) 256 ∙ ap (λ m. n / m) (sym (pow-suc 256 (suc i))))))
 
-module _ {first : List ℕ} {at word : ℕ} {out : List ℕ} {w i : ℕ} (p : Putting first at word out w i) where
-  pub put_next : i < 8 → Putting first at word (set out (at + i) (w % 256)) (w / 256) (i + 1)
-  put_next h =
-      let z : at + (i + 1) ≡ at + i + 1 = omega (arith, h) in
-      let k : suc (8 - (i + 1)) ≡ 8 - i = omega (arith, h) in
-      record {
-        few = omega (arith, h);
-        long = length-set out (at + i) (w % 256) ∙ p.long;
-        left = rw z (one_put out (at + i) (8 - (i + 1)) w ∙ ap (λ (n : ℕ). sets out (at + i) (word_bytes n w)) k ∙ p.left);
-      }
+-- a part of the buffer that is now these bytes
+pub put_part : (buffer : List ℕ) (at k : ℕ) {bytes new : List ℕ} → new ≡ bytes → k ≡ length bytes → put_mid at k buffer new ≡ overwritten buffer at bytes
+put_part buffer at k {bytes} e f = put_mid-paste at k buffer _ bytes (length bytes) e (sym f) refl ∙ rw (take_all (length bytes) bytes (omega arith))
 
-  pub put_end : 8 ≤ i → at + 8 ≤ length first → out ≡ overwritten first at (word_bytes 8 word)
-  unfolding word_bytes
-  put_end h r =
-      let z : 8 - i ≡ 0 = omega (arith, h) in
-      sym (ap (λ (n : ℕ). sets out (at + i) (word_bytes n w)) z) ∙ p.left
-      ∙ sets-eq (word_bytes 8 word) first at (let l = word-length 8 word in omega arith)
+pub word_put : (buffer : List ℕ) (at k w : ℕ) {new : List ℕ} → new ≡ to_le_bytes w64 w → k ≡ 8 → put_mid at k buffer new ≡ overwritten buffer at (word_bytes 8 w)
+word_put buffer at k w e f = put_part buffer at k (e ∙ low_first 8 0 w w (omega arith)) (f ∙ sym (word-length 8 w))
 
 -- an answer with room for it, and one without
 module _ (buffer : List ℕ) (count : ℕ) (a : Answer) where

@@ -1,14 +1,14 @@
 -- A script replayed: the answers of its calls, the opening's first, each as a word of eight bytes.
-use Rattle.std.specs.Prelude.{ℕ, zero, suc, ◌+◌, ◌*◌, ◌-◌, ◌/◌, ◌%◌, List, [], ◌∷◌, Bool, cond, ◌||◌, length, get_or, take, drop, leb, eqb}
+use Rattle.std.specs.Prelude.{ℕ, zero, suc, ◌+◌, ◌*◌, ◌-◌, ◌/◌, ◌%◌, List, [], ◌∷◌, Bool, cond, ◌||◌, Option, Some, None, length, get_or, take, drop, leb, eqb}
 use Rattle.record.specs.Write.{overwritten}
 use Rattle.record.specs.declared.Answer.{Answer}
 use Rattle.record.specs.declared.Answer.TheVariants.{Accepted, Grade, PlanFault, CertificateFault}
 use Rattle.sessions.specs.declared.Session.{Session}
 use Rattle.sessions.specs.declared.Stepped.{Stepped}
 use Rattle.sessions.specs.Session.{opening, start_step, path_step, back_step, close_step}
-use Rattle.script.specs.declared.Part.{Part}
-use Rattle.script.specs.declared.Part.TheVariants.{Within, Cut}
 use Rattle.script.specs.declared.Replayed.{Replayed}
+use Rattle.script.specs.declared.Status.{Status}
+use Rattle.script.specs.declared.Status.TheVariants.{Whole, InsideCall, UnknownCall, NoRoom}
 use Rattle.script.specs.Script.{part_at}
 
 -- an answer as one word: the case in the lowest byte, the papers' number or the grade in the next, the place in the six above
@@ -64,9 +64,9 @@ abbrev pub lone_of : ℕ → Session → Stepped
 lone_of call session = cond (eqb call 99) (close_step session) (back_step session)
 
 -- a part, or that the script is cut short
-abbrev pub on_part : {A : Type 0} → Part → A → (ℕ → ℕ → A) → A
-on_part Cut short f = short
-on_part (Within start end) short f = f start end
+abbrev pub on_part : {A : Type 0} → Option (ℕ × ℕ) → A → (ℕ → ℕ → A) → A
+on_part None short f = short
+on_part (Some p) short f = f p.0 p.1
 
 -- the calls from a place on, at most k more: 115 is `s`, 112 is `p`
 unfoldable pub replay_on : ℕ → List ℕ → Session → ℕ → List ℕ → ℕ → Reply
@@ -96,5 +96,18 @@ opened s buffer start end =
 abbrev pub replay_of : List ℕ → List ℕ → Reply
 replay_of s buffer = on_part (part_at s 0) (reply buffer 0 1) (opened s buffer)
 
+-- how a script ended, as the code has it; a reply has no other number
+abbrev pub status_of : ℕ → Status
+status_of zero = Whole
+status_of (suc zero) = InsideCall
+status_of (suc (suc zero)) = UnknownCall
+status_of (suc (suc (suc n))) = NoRoom
+
+abbrev pub status_number : Status → ℕ
+status_number Whole = 0
+status_number InsideCall = 1
+status_number UnknownCall = 2
+status_number NoRoom = 3
+
 abbrev pub replayed_of : Reply → Replayed
-replayed_of r = record { count = r.count; status = r.status }
+replayed_of r = record { count = r.count; status = status_of r.status }

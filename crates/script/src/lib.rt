@@ -1,44 +1,53 @@
 // Session scripts: where their parts stand, and a replay into a buffer of answers.
 #![tactic(auto)]
 
-ghost use Rattle.std.specs.Prelude.{◌≡◌, ◌<◌, length};
+ghost use Rattle.std.specs.Prelude.{◌≡◌, ◌<◌, ◌≤◌, length, IfSome};
 ghost use Rattle.script.specs.Script.{part_at};
-ghost use Rattle.script.specs.Replay.{word, answer_word, has_room_for, answered, step_of, lone_of, replay_on, replay_of, replayed_of};
+ghost use Rattle.script.specs.Replay.{word, answer_word, has_room_for, answered, step_of, lone_of, replay_on, replay_of, replayed_of, status_number};
 
 use record::Answer;
 use sessions::{Session, Stepped};
 
-// Where a part begins and ends; or that the script ends before it does.
-#[derive(Clone, Copy)]
-pub enum Part {
-    Within(usize, usize),
-    Cut,
+// How a script ended.
+#[derive(Clone, Copy, PartialEq, Eq)]
+pub enum Status {
+    // at its end
+    Whole,
+    InsideCall,
+    UnknownCall,
+    // without room for the next answer
+    NoRoom,
 }
 
-// How many answers were written, and how the script ended: 0 at its end, 1 inside a call, 2 at an unknown call, 3 without room for
-// the next answer.
+impl Status {
+    // The format's number.
+    pub fn number(self) -> u8
+        ensures { result ≡ status_number self }
+    {
+        self as u8
+    }
+}
+
+// How many answers were written, and how the script ended.
 #[derive(Clone, Copy)]
 pub struct Replayed {
     pub count: usize,
-    pub status: u8,
+    pub status: Status,
 }
 
-pub fn part_at(s: &[u8], at: usize) -> Part
-    ensures { result ≡ part_at s.now at }
+// Where a part begins and ends; None where the script ends before it does.
+pub fn part_at(s: &[u8], at: usize) -> Option<(usize, usize)>
+    ensures value { result ≡ part_at s.now at }
+    ensures within { IfSome result (λ p. (p.0 ≤ p.1) × (p.1 ≤ length s.now) × (at < p.1)) }
 {
-    if s.len() <= at {
-        return Part::Cut;
-    }
-    let high = at + 1;
-    if s.len() <= high {
-        return Part::Cut;
-    }
-    let start = high + 1;
-    let size = s[at] as usize + 256 * s[high] as usize;
+    let low = *s.get(at)?;
+    let high = *s.get(at + 1)?;
+    let start = at + 2;
+    let size = low as usize + 256 * high as usize;
     if s.len() - start < size {
-        return Part::Cut;
+        return None;
     }
-    Part::Within(start, start + size)
+    Some((start, start + size))
 }
 
 fn word_of(kind: u64, number: u8, place: usize) -> u64
@@ -68,13 +77,8 @@ fn put_answer(out: &mut [u8], count: usize, a: Answer) -> bool
     if out.len() / 8 <= count {
         return false;
     }
-    let mut w = answer_word(a);
-    let mut i = 0;
-    while i < 8 {
-        out[8 * count + i] = (w % 256) as u8;
-        w = w / 256;
-        i += 1;
-    }
+    let at = 8 * count;
+    out[at..at + 8].copy_from_slice(&answer_word(a).to_le_bytes());
     true
 }
 
@@ -111,42 +115,45 @@ fn replay_on<'a>(s: &'a [u8], out: &'a mut [u8], first: Session, from: usize) ->
     };
     let mut at = from;
     let mut count = 1;
+    // a while, since each call says itself where the next one stands
     while at < s.len() {
         let call = s[at];
-        let lone = (call == b'c') | (call == b'b');
-        if lone {
-            now = step_alone(now.session, call);
-            let answer = now.answer;
-            let put = put_answer(out, count, answer);
-            if !put {
-                return Replayed { count, status: 3 };
+        match call {
+            b'c' | b'b' => {
+                now = step_alone(now.session, call);
+                at += 1;
             }
-            count += 1;
-            at += 1;
-            continue;
+            b's' | b'p' => {
+                let Some((start, end)) = part_at(s, at + 1) else {
+                    return Replayed {
+                        count,
+                        status: Status::InsideCall,
+                    };
+                };
+                if call == b's' {
+                    now = now.session.start(&s[start..end]);
+                } else {
+                    now = now.session.path(&s[start..end]);
+                }
+                at = end;
+            }
+            _ => return Replayed {
+                count,
+                status: Status::UnknownCall,
+            },
         }
-        let known = (call == b's') | (call == b'p');
-        if !known {
-            return Replayed { count, status: 2 };
-        }
-        let part = part_at(s, at + 1);
-        let Part::Within(start, end) = part else {
-            return Replayed { count, status: 1 };
-        };
-        if call == b's' {
-            now = now.session.start(&s[start..end]);
-        } else {
-            now = now.session.path(&s[start..end]);
-        }
-        let answer = now.answer;
-        let put = put_answer(out, count, answer);
-        if !put {
-            return Replayed { count, status: 3 };
+        if !put_answer(out, count, now.answer) {
+            return Replayed {
+                count,
+                status: Status::NoRoom,
+            };
         }
         count += 1;
-        at = end;
     }
-    Replayed { count, status: 0 }
+    Replayed {
+        count,
+        status: Status::Whole,
+    }
 }
 
 // Replays a script: the answers of its calls at the start of the buffer, the opening's first; every other byte keeps its value.
@@ -154,22 +161,18 @@ pub fn replay<'a>(s: &'a [u8], out: &'a mut [u8]) -> Replayed
     ensures value { result ≡ replayed_of (replay_of s.now out.old) }
     ensures out_after { out.new ≡ (replay_of s.now out.old).buffer }
 {
-    let part = part_at(s, 0);
-    let Part::Within(start, end) = part else {
+    let Some((start, end)) = part_at(s, 0) else {
         return Replayed {
             count: 0,
-            status: 1,
+            status: Status::InsideCall,
         };
     };
     let opened = sessions::open(&s[start..end]);
-    let answer = opened.answer;
-    let session = opened.session;
-    let put = put_answer(out, 0, answer);
-    if !put {
+    if !put_answer(out, 0, opened.answer) {
         return Replayed {
             count: 0,
-            status: 3,
+            status: Status::NoRoom,
         };
     }
-    replay_on(s, out, session, end)
+    replay_on(s, out, opened.session, end)
 }

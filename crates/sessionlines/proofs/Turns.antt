@@ -3,6 +3,7 @@ use Prim.Native.Nat.{ℕ, zero, suc, ◌+◌, ◌<◌, ◌≤◌}
 use mathlib.Core.List.{List, [], ◌++◌}
 use mathlib.Core.Bool.{Bool, true, false, cond, ◌||◌}
 use mathlib.Core.Path.{◌≡◌, refl, sym, ap, subst, ◌∙◌}
+use Rattle.std.specs.Prelude.{Option, Some, None}
 use native.Mathlib.Omega.{arith}
 use lib.Dec.{leb, eqb}
 use lib.ListN.{length, get_or}
@@ -11,8 +12,6 @@ use Rattle.sessions.specs.declared.Session.{Session}
 use Rattle.sessions.specs.declared.Opened.{Opened}
 use Rattle.sessions.specs.declared.Stepped.{Stepped}
 use Rattle.sessions.specs.Session.{no_session, opening}
-use Rattle.script.specs.declared.Part.{Part}
-use Rattle.script.specs.declared.Part.TheVariants.{Within, Cut}
 use Rattle.script.specs.Script.{part_at}
 use Rattle.script.specs.Replay.{on_part, part_of, step_of, is_lone, lone_of}
 use Rattle.script.proofs.Parts.{part_within}
@@ -42,12 +41,12 @@ module _ (s : List ℕ) where
   unfolding open_turn
   open_long h e = rw (lt-ltb script_limit (length s) h, e)
 
-  module _ (h : length s ≤ script_limit) {x : Part} (e : x ≡ part_at s 0) where
-    pub open_cut : x ≡ Cut → {n : Session} → n ≡ no_session → printed cut_short n (length s) ≡ open_turn s
+  module _ (h : length s ≤ script_limit) {x : Option (ℕ × ℕ)} (e : x ≡ part_at s 0) where
+    pub open_cut : x ≡ None → {n : Session} → n ≡ no_session → printed cut_short n (length s) ≡ open_turn s
     unfolding open_turn
     open_cut f g = rw (le-ltb script_limit (length s) h, ← e, f, g)
 
-    pub open_part : {start end : ℕ} → x ≡ Within start end → {o : Opened} → o ≡ opening (part_of s start end) → printed (answer_line o.answer) o.session end ≡ open_turn s
+    pub open_part : {start end : ℕ} → x ≡ Some (start, end) → {o : Opened} → o ≡ opening (part_of s start end) → printed (answer_line o.answer) o.session end ≡ open_turn s
     unfolding open_turn
     open_part f g = rw (le-ltb script_limit (length s) h, ← e, f, g)
 
@@ -62,28 +61,27 @@ module _ (s : List ℕ) (session : Session) (at : ℕ) where
     unfolding call_turn
     call_lone c e = rw (lt-leb (length s) at h, c, e)
 
-    module _ (c : is_lone (get_or s at 0) ≡ false) where
-      pub call_unknown : eqb (get_or s at 0) 115 || eqb (get_or s at 0) 112 ≡ false → printed unknown_call session (length s) ≡ call_turn s session at
+    pub call_unknown : (is_lone (get_or s at 0) ≡ false) × (eqb (get_or s at 0) 115 || eqb (get_or s at 0) 112 ≡ false) → printed unknown_call session (length s) ≡ call_turn s session at
+    unfolding call_turn
+    call_unknown c = rw (lt-leb (length s) at h, c.0, c.1)
+
+    module _ (c : (is_lone (get_or s at 0) ≡ false) × (eqb (get_or s at 0) 115 || eqb (get_or s at 0) 112 ≡ true)) {x : Option (ℕ × ℕ)} (e : x ≡ part_at s (at + 1)) where
+      pub call_cut : x ≡ None → printed cut_short session (length s) ≡ call_turn s session at
       unfolding call_turn
-      call_unknown d = rw (lt-leb (length s) at h, c, d)
+      call_cut f = rw (lt-leb (length s) at h, c.0, c.1, ← e, f)
 
-      module _ (d : eqb (get_or s at 0) 115 || eqb (get_or s at 0) 112 ≡ true) {x : Part} (e : x ≡ part_at s (at + 1)) where
-        pub call_cut : x ≡ Cut → printed cut_short session (length s) ≡ call_turn s session at
-        unfolding call_turn
-        call_cut f = rw (lt-leb (length s) at h, c, d, ← e, f)
-
-        pub call_part : {start end : ℕ} → x ≡ Within start end → step_turn (step_of (get_or s at 0) session (part_of s start end)) start end ≡ call_turn s session at
-        unfolding call_turn
-        call_part f = rw (lt-leb (length s) at h, c, d, ← e, f)
+      pub call_part : {start end : ℕ} → x ≡ Some (start, end) → step_turn (step_of (get_or s at 0) session (part_of s start end)) start end ≡ call_turn s session at
+      unfolding call_turn
+      call_part f = rw (lt-leb (length s) at h, c.0, c.1, ← e, f)
 
     pub call_on : at < (call_turn s session at).at
     unfolding call_turn
     call_on = rw (lt-leb (length s) at h) (go (is_lone (get_or s at 0)) (eqb (get_or s at 0) 115 || eqb (get_or s at 0) 112))
       where
-        parted : (x : Part) → x ≡ part_at s (at + 1)
+        parted : (x : Option (ℕ × ℕ)) → x ≡ part_at s (at + 1)
             → at < (on_part x (printed cut_short session (length s)) (λ start end. step_turn (step_of (get_or s at 0) session (part_of s start end)) start end)).at
-        parted Cut e = h
-        parted (Within start end) e = let w = part_within s (at + 1) e refl in omega arith
+        parted None e = h
+        parted (Some p) e = let w = part_within s (at + 1) e refl in omega arith
 
         go : (b d : Bool) → at < (cond b (printed (answer_line (lone_of (get_or s at 0) session).answer) (lone_of (get_or s at 0) session).session (at + 1))
             (cond d (on_part (part_at s (at + 1)) (printed cut_short session (length s)) (λ start end. step_turn (step_of (get_or s at 0) session (part_of s start end)) start end))

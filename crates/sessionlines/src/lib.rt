@@ -7,7 +7,6 @@ ghost use Rattle.lines.specs.Lines.{decimal, newline, place_after, written, long
 ghost use Rattle.sessionlines.specs.Lines.{answer_line, step_line, printed, step_turn, open_turn, call_turn, turn_in};
 
 use record::Answer;
-use script::Part;
 use sessions::Session;
 
 // the longest script, in bytes
@@ -42,8 +41,9 @@ fn put_answer(out: &mut [u8], answer: Answer) -> usize
     match answer {
         Answer::Accepted => lines::put_bytes(out, 0, b"accepted\n"),
         Answer::Grade(k) => put_number(out, b"grade ", k as u64),
-        Answer::PlanFault(_, _) => lines::put_refusal(out, 0, answer),
-        Answer::CertificateFault(_, _) => lines::put_refusal(out, 0, answer),
+        Answer::PlanFault(_, _) | Answer::CertificateFault(_, _) => {
+            lines::put_refusal(out, 0, answer)
+        }
     }
 }
 
@@ -54,19 +54,8 @@ fn put_step(out: &mut [u8], unread: usize, answer: Answer) -> usize
 {
     match answer {
         Answer::Accepted => put_number(out, b"accepted ", unread as u64),
-        Answer::Grade(_) => put_answer(out, answer),
-        Answer::PlanFault(_, _) => put_answer(out, answer),
-        Answer::CertificateFault(_, _) => put_answer(out, answer),
+        _ => put_answer(out, answer),
     }
-}
-
-fn unread(size: usize, read: usize) -> usize
-    ensures { result ≡ size - read }
-{
-    if size < read {
-        return 0;
-    }
-    size - read
 }
 
 // A turn whose line is known.
@@ -95,12 +84,10 @@ fn step<'a>(
     ensures end_len_bound { length (step_turn (step_of call session part.now) start end).bytes ≤ longest }
 {
     let stepped = script::step(session, call, part);
-    let answer = stepped.answer;
-    let left = unread(end - start, stepped.read);
-    let len = put_step(out, left, answer);
-    let next = stepped.session;
+    let left = (end - start).saturating_sub(stepped.read);
+    let len = put_step(out, left, stepped.answer);
     Turn {
-        session: next,
+        session: stepped.session,
         at: end,
         len,
     }
@@ -116,16 +103,13 @@ pub fn open<'a>(script: &'a [u8], out: &'a mut [u8]) -> Turn
     if LIMIT < script.len() {
         return say(b"input too long\n", Session::none(), script.len(), out);
     }
-    let part = script::part_at(script, 0);
-    let Part::Within(start, end) = part else {
+    let Some((start, end)) = script::part_at(script, 0) else {
         return say(b"script cut short\n", Session::none(), script.len(), out);
     };
     let opened = sessions::open(&script[start..end]);
-    let answer = opened.answer;
-    let len = put_answer(out, answer);
-    let session = opened.session;
+    let len = put_answer(out, opened.answer);
     Turn {
-        session,
+        session: opened.session,
         at: end,
         len,
     }
@@ -147,25 +131,22 @@ pub fn call<'a>(script: &'a [u8], turn: Turn, out: &'a mut [u8]) -> Turn
         };
     }
     let byte = script[at];
-    let lone = (byte == b'c') | (byte == b'b');
-    if lone {
-        let alone = script::step_alone(session, byte);
-        let answer = alone.answer;
-        let len = put_answer(out, answer);
-        let next = alone.session;
-        return Turn {
-            session: next,
-            at: at + 1,
-            len,
-        };
+    match byte {
+        b'c' | b'b' => {
+            let alone = script::step_alone(session, byte);
+            let len = put_answer(out, alone.answer);
+            Turn {
+                session: alone.session,
+                at: at + 1,
+                len,
+            }
+        }
+        b's' | b'p' => {
+            let Some((start, end)) = script::part_at(script, at + 1) else {
+                return say(b"script cut short\n", session, script.len(), out);
+            };
+            step(session, byte, &script[start..end], start, end, out)
+        }
+        _ => say(b"unknown call\n", session, script.len(), out),
     }
-    let known = (byte == b's') | (byte == b'p');
-    if !known {
-        return say(b"unknown call\n", session, script.len(), out);
-    }
-    let part = script::part_at(script, at + 1);
-    let Part::Within(start, end) = part else {
-        return say(b"script cut short\n", session, script.len(), out);
-    };
-    step(session, byte, &script[start..end], start, end, out)
 }

@@ -5,4 +5,4 @@ use Rattle.fikzarn.specs.Words.{made_word}
 use Rattle.fikzarn.proofs.fikzarn_certificate_length.Goals as goal
 
 pub returns : goal.returns
-returns c = c.made_word.ensures ∙ ap made_word c.certificate_length-made.ensures
+returns c = c.made_word.ensures ∙ ap made_word c.certificate_length.ensures

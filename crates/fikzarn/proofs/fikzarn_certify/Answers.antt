@@ -5,5 +5,5 @@ use Rattle.fikzarn.specs.Words.{made_word}
 use Rattle.fikzarn.proofs.fikzarn_certify.Goals as goal
 
 pub returns : goal.returns
-returns c = let e = c.certify-made.ensures in
+returns c = let e = c.certify.ensures in
     record { value = c.made_word.ensures ∙ ap made_word e.value; out_after = e.out_after }

@@ -5,4 +5,4 @@ use Rattle.script.specs.Replay.{answer_word}
 use Rattle.fikzarn.proofs.fikzarn_check.Goals as goal
 
 pub returns : goal.returns
-returns c = c.answer_word.ensures ∙ ap answer_word c.check-answer.ensures
+returns c = c.answer_word.ensures ∙ ap answer_word c.check.ensures

@@ -6,5 +6,5 @@ use Rattle.fikzarn.proofs.fikzarn_mend.Goals as goal
 
 pub returns : goal.returns
 returns c =
-    let e = c.mend-m.ensures in
+    let e = c.mend.ensures in
     record { value = c.mended_word.ensures ∙ ap mended_word e.value; list_after = e.list_after; mended_after = e.mended_after; certificate_after = e.certificate_after }
