@@ -1,66 +1,67 @@
 -- What a call leaves of a session, from what was read. Assumes nothing.
 use Prim.Native.Nat.{ℕ, ◌+◌, ◌-◌, ◌<◌, ◌≤◌}
-use mathlib.Core.List.{List, []}
+use mathlib.Core.List.{List}
 use mathlib.Core.Bool.{Bool, true, false, cond, ◌&&◌, and-false}
 use mathlib.Core.Path.{◌≡◌, refl, sym, ap, ◌∙◌}
 use mathlib.Core.Logic.{◌≢◌}
 use native.Mathlib.Omega.{arith}
 use lib.Dec.{ltb, leb}
-use lib.ListN.{length, take, drop, set, replicate, length-drop, drop_of_length-le}
-use lib.Seq.{take_all}
-use borrow.Author.Tests.{lt-ltb, le-ltb, le-leb, ltb-true, leb-true, eq-eqb, ne_eqb}
+use lib.ListN.{set}
+use borrow.Author.Tests.{lt-ltb, le-ltb, le-leb, ltb-true, leb-true}
 use Rattle.connectivity.proofs.Lists.{and-true}
-use Rattle.record.proofs.Faults.{NotAccepted, not_accepted}
+use Rattle.std.specs.Prelude.{Ok, Err}
 use Rattle.record.specs.Read.{Read, Read.Got, Read.Refused, ended}
-use Rattle.record.specs.declared.Answer.TheVariants.{Accepted, Grade, PlanFault, CertificateFault}
-use Rattle.vertexset.specs.Set.{has, empty_set}
+use Rattle.record.specs.declared.Answer.{Answer}
+use Rattle.record.specs.declared.Answer.TheVariants.{Accepted, PlanFault}
 use Rattle.reading.specs.Plan.{Plan, plan}
-use Rattle.reading.specs.Code.{graph_of, table_of, plan_read}
+use Rattle.reading.specs.Code.{graph_of, table_of, plan_read, whole_plan, plan_result}
 use Rattle.reading.specs.declared.PlanRead.{PlanRead}
-use Rattle.certificates.specs.Tests.{all_below}
+use Rattle.connectivity.specs.Path.{Path}
 use Rattle.graph.specs.Rows.{rows_graph, bare_rows}
-use Rattle.paths.specs.Items.{limited, end_read}
-use Rattle.paths.specs.declared.Item.{Item}
-use Rattle.paths.proofs.Told.{end_told, end_fault}
+use Rattle.paths.specs.Items.{told, limited}
+use Rattle.paths.proofs.Told.{told-err}
 use Rattle.build.specs.declared.Build.{Build}
 use Rattle.build.specs.declared.Taken.{Taken}
+use Rattle.build.specs.declared.Traced.{Traced}
 use Rattle.sessions.specs.declared.Session.{Session}
 use Rattle.sessions.specs.declared.Opened.{Opened}
 use Rattle.sessions.specs.declared.Stepped.{Stepped}
 use Rattle.build.specs.declared.Trace.{Trace}
-use Rattle.build.specs.State.{bare_build, bare_pointers, build_start, build_path, path_taken, no_trace, taken_back}
-use Rattle.build.specs.Code.{start_left, build_in, trace_read, on_path_read, Leaves}
-use Rattle.sessions.specs.Session.{no_session, opened_on, on_opening, opening, refused_step, unread_step, on_start, start_step, path_count, trace_room, on_path, due_step, is_due, path_step, last_trace, without_path, has_path, back_to, back_step, closing}
-use Rattle.build.proofs.Starts.{started_told}
+use Rattle.build.specs.State.{bare_pointers, build_start, path_taken, trace_of, no_trace, taken_back}
+use Rattle.build.specs.Code.{start_left, build_in, traced, on_path_read, further_read}
+use Rattle.sessions.specs.Session.{no_session, opened_on, on_opening, opening, refused_step, unread_step, on_start, start_step, path_count, trace_room, on_path, due_step, is_due, path_step, last_trace, without_path, has_path, back_to, back_step}
+use Rattle.build.proofs.Inner.{same_build}
+use Rattle.build.proofs.Turns.{left_bad, left_got}
+use Rattle.build.proofs.Starts.{hand, started_told}
 
 -- opening
-module _ (s : List ℕ) {x : PlanRead} (e : x ≡ plan_read (ended plan s 0)) where
-  pub open_refused : {session : Session} → NotAccepted x.answer → session ≡ no_session → ◌≡◌ {A = Opened} (record { answer = x.answer; session = session }) (opening s)
+module _ (s : List ℕ) where
+  pub open_refused : {d : Answer} {session : Session} → Err d ≡ plan_result (whole_plan s) → session ≡ no_session → ◌≡◌ {A = Opened} (record { answer = d; session = session }) (opening s)
   unfolding plan_read opening
-  open_refused {session} k f = go (ended plan s 0) e
+  open_refused {d} {session} e f = go (ended plan s 0) e
     where
-      go : (y : Read Plan) → x ≡ plan_read y → record { answer = x.answer; session = session } ≡ on_opening y
-      go (Got p next) d = absurd (not_accepted x.answer k (ap (λ (z : PlanRead). z.answer) d))
-      go (Refused r p) d = let a : x.answer ≡ PlanFault r p = ap (λ (z : PlanRead). z.answer) d in rw (a, f)
+      go : (y : Read Plan) → Err d ≡ plan_result (plan_read y) → record { answer = d; session = session } ≡ on_opening y
+      go (Got p next) e = cc
+      go (Refused r p) e = let a : d ≡ PlanFault r p = cc in rw (a, f)
 
-  opened : x.answer ≡ Accepted → (p : Plan) × ((x.plan.graph ≡ graph_of p) × (opening s ≡ cond (ltb (graph_of p).d ((graph_of p).n + 2)) (record { answer = PlanFault 29 0; session = no_session }) (record { answer = Accepted; session = opened_on (graph_of p) })))
-  unfolding plan_read opening table_of graph_of
-  opened f = go (ended plan s 0) e
-    where
-      go : (y : Read Plan) → x ≡ plan_read y → (p : Plan) × ((x.plan.graph ≡ graph_of p) × (on_opening y ≡ cond (ltb (graph_of p).d ((graph_of p).n + 2)) (record { answer = PlanFault 29 0; session = no_session }) (record { answer = Accepted; session = opened_on (graph_of p) })))
-      go (Got p next) d = (p, (ap (λ (z : PlanRead). z.plan.graph) d, refl))
-      go (Refused r p) d = let a : x.answer ≡ PlanFault r p = ap (λ (z : PlanRead). z.answer) d in let z : ◌≡◌ {A = ℕ} 0 1 = cc in absurd (omega arith)
+  module _ {x : PlanRead} (e : Ok x ≡ plan_result (whole_plan s)) where
+    opened : (p : Plan) × ((x.plan.graph ≡ graph_of p) × (opening s ≡ cond (ltb (graph_of p).d ((graph_of p).n + 2)) (record { answer = PlanFault 29 0; session = no_session }) (record { answer = Accepted; session = opened_on (graph_of p) })))
+    unfolding plan_read opening table_of graph_of
+    opened = go (ended plan s 0) e
+      where
+        go : (y : Read Plan) → Ok x ≡ plan_result (plan_read y) → (p : Plan) × ((x.plan.graph ≡ graph_of p) × (on_opening y ≡ cond (ltb (graph_of p).d ((graph_of p).n + 2)) (record { answer = PlanFault 29 0; session = no_session }) (record { answer = Accepted; session = opened_on (graph_of p) })))
+        go (Got p next) e = let k : x ≡ record { plan = table_of p; next = next } = cc in (p, (ap (λ (z : PlanRead). z.plan.graph) k, refl))
+        go (Refused r p) e = cc
 
-  pub open_few : {session : Session} → x.answer ≡ Accepted → x.plan.graph.d < x.plan.graph.n + 2 → session ≡ no_session → ◌≡◌ {A = Opened} (record { answer = PlanFault 29 0; session = session }) (opening s)
-  open_few f h g =
-      let t = opened f in
-      rw (t.1.1, ← t.1.0, lt-ltb x.plan.graph.d (x.plan.graph.n + 2) h, g)
+    pub open_few : {session : Session} → x.plan.graph.d < x.plan.graph.n + 2 → session ≡ no_session → ◌≡◌ {A = Opened} (record { answer = PlanFault 29 0; session = session }) (opening s)
+    open_few h g =
+        let t = opened in
+        rw (t.1.1, ← t.1.0, lt-ltb x.plan.graph.d (x.plan.graph.n + 2) h, g)
 
-  pub open_accepted : {b : Build} {t : Trace} → x.answer ≡ Accepted → x.plan.graph.n + 2 ≤ x.plan.graph.d → b ≡ bare_build empty_set → t ≡ no_trace
-      → ◌≡◌ {A = Opened} (record { answer = x.answer; session = record { graph = x.plan.graph; ready = true; started = false; taken = 0; build = b; traces = replicate trace_room t } }) (opening s)
-  open_accepted f h g k =
-      let t = opened f in
-      rw (f, t.1.1, ← t.1.0, le-ltb x.plan.graph.d (x.plan.graph.n + 2) h, g, k)
+    pub open_accepted : {session : Session} → x.plan.graph.n + 2 ≤ x.plan.graph.d → session ≡ opened_on x.plan.graph → ◌≡◌ {A = Opened} (record { answer = Accepted; session = session }) (opening s)
+    open_accepted h g =
+        let t = opened in
+        rw (t.1.1, ← t.1.0, le-ltb x.plan.graph.d (x.plan.graph.n + 2) h, g)
 
 -- a start
 module _ (s : Session) (part : List ℕ) where
@@ -68,21 +69,24 @@ module _ (s : Session) (part : List ℕ) where
   unfolding start_step
   start-closed e = rw e
 
-  module _ (e : s.ready ≡ true) {x : Taken} {pointers linked : List ℕ} (f : x.end ≡ end_read (limited s.graph.n (build_start (rows_graph s.graph.n s.graph.rows)) part 0))
-      (h : build_in x.sets pointers linked ≡ start_left bare_pointers bare_rows (rows_graph s.graph.n s.graph.rows) part 0) where
-    start-open : start_step s part ≡ on_start s (limited s.graph.n (build_start (rows_graph s.graph.n s.graph.rows)) part 0)
+  module _ (e : s.ready ≡ true) where
+    abbrev reading : Read ((ℕ × (ℕ × (ℕ × ℕ))) × List Path)
+    reading = limited s.graph.n (build_start (rows_graph s.graph.n s.graph.rows)) part 0
+
+    start-open : start_step s part ≡ on_start s reading
     unfolding start_step
     start-open = rw e
 
-    pub start-refused : NotAccepted x.end.answer → unread_step s x.end.answer ≡ start_step s part
-    start-refused d =
-        let t = end_fault (limited s.graph.n (build_start (rows_graph s.graph.n s.graph.rows)) part 0) d f in
-        ap (λ (y : Item). unread_step s y.answer) t.3 ∙ sym (start-open ∙ ap (on_start s) t.2)
+    pub start-refused : {d : Answer} → Err d ≡ told (hand s.graph.n s.graph.rows part 0 bare_pointers bare_rows) reading → unread_step s d ≡ start_step s part
+    start-refused f =
+        let t = told-err (hand s.graph.n s.graph.rows part 0 bare_pointers bare_rows) reading f in
+        ap (unread_step s) t.3 ∙ sym (start-open ∙ ap (on_start s) t.2)
 
-    pub start-accepted : x.end.answer ≡ Accepted
-        → ◌≡◌ {A = Stepped} (record { session = record { graph = s.graph; ready = false; started = true; taken = 0; build = build_in x.sets pointers linked; traces = s.traces }; answer = Accepted; read = x.end.next }) (start_step s part)
-    start-accepted d =
-        let t = started_told s.graph.n s.graph.rows part 0 f h d in
+    pub start-accepted : {x : Taken} {pointers linked : List ℕ} → Ok x ≡ told (hand s.graph.n s.graph.rows part 0 bare_pointers bare_rows) reading
+        → pointers ≡ (start_left bare_pointers bare_rows (rows_graph s.graph.n s.graph.rows) part 0).pointers → linked ≡ (start_left bare_pointers bare_rows (rows_graph s.graph.n s.graph.rows) part 0).linked
+        → ◌≡◌ {A = Stepped} (record { session = record { graph = s.graph; ready = false; started = true; taken = 0; build = build_in x.sets pointers linked; traces = s.traces }; answer = Accepted; read = x.next }) (start_step s part)
+    start-accepted f g h =
+        let t = started_told s.graph.n s.graph.rows part 0 f g h in
         rw t.1.1 (sym (start-open ∙ ap (on_start s) t.1.0))
 
 -- the session with a path more, whose build and trace are known
@@ -106,21 +110,23 @@ module _ (s : Session) (part : List ℕ) where
       let r = and-true s.started (ltb s.taken (path_count s) && ltb s.taken trace_room) e in
       ltb-true s.taken trace_room (and-true (ltb s.taken (path_count s)) (ltb s.taken trace_room) r.1).1
 
-  module _ {r : Taken} {pointers linked : List ℕ}
-      (f : Leaves s.graph.n (build_path (rows_graph s.graph.n s.graph.rows)) path_taken s.build part 0 r pointers linked) where
-    pub due-refused : NotAccepted r.end.answer → unread_step s r.end.answer ≡ due_step s part
-    due-refused d =
-        let t = end_fault (limited s.graph.n (build_path (rows_graph s.graph.n s.graph.rows) s.build) part 0) d f.end in
-        ap (λ (y : Item). unread_step s y.answer) t.3 ∙ sym (ap (on_path s) t.2)
+  abbrev further : Read Path
+  further = further_read s.graph.n s.graph.rows s.build part 0
 
-    pub due-accepted : {b : Build} {z : Trace} → r.end.answer ≡ Accepted → b ≡ build_in r.sets pointers linked
-        → z ≡ trace_read s.build (limited s.graph.n (build_path (rows_graph s.graph.n s.graph.rows) s.build) part 0)
-        → with_build s b z r.end.next ≡ due_step s part
-    unfolding on_path_read trace_read
-    due-accepted {b} {z} d k g =
-        let t = end_told (limited s.graph.n (build_path (rows_graph s.graph.n s.graph.rows) s.build) part 0) d f.end in
-        ap (λ (y : Build). with_build s y z r.end.next) (k ∙ f.build ∙ ap (on_path_read path_taken s.build) t.1)
-        ∙ ap (λ (y : Trace). with_build s (path_taken s.build t.0) y r.end.next) (g ∙ ap (trace_read s.build) t.1) ∙ sym (ap (on_path s) t.1)
+  -- what the tables hold after it, by what was read
+  module _ {pointers linked : List ℕ} (f : pointers ≡ (on_path_read path_taken s.build further).pointers) (g : linked ≡ (on_path_read path_taken s.build further).linked) where
+    pub due-refused : {d : Answer} → Err d ≡ told (traced s.build) further
+        → ◌≡◌ {A = Stepped} (unread_step (record { graph = s.graph; ready = s.ready; started = s.started; taken = s.taken; build = build_in s.build.sets pointers linked; traces = s.traces }) d) (due_step s part)
+    due-refused e =
+        let t = left_bad path_taken s.build f g (traced s.build) e in
+        rw (t.4, t.5, t.3) (sym (ap (on_path s) t.2))
+
+    pub due-accepted : {x : Traced} → Ok x ≡ told (traced s.build) further → with_build s (build_in x.taken.sets pointers linked) x.trace x.taken.next ≡ due_step s part
+    due-accepted {x} e =
+        let t = left_got path_taken s.build f g (traced s.build) e in
+        ap (λ (y : Traced). with_build s (build_in y.taken.sets pointers linked) y.trace y.taken.next) t.3
+        ∙ ap (λ (b : Build). with_build s b (trace_of s.build t.0) t.1) (same_build {sets = (path_taken s.build t.0).sets} refl t.4 t.5)
+        ∙ sym (ap (on_path s) t.2)
 
 -- taking back
 module _ (s : Session) where
@@ -161,25 +167,3 @@ module _ (s : Session) where
 
   pub back-good : {t : Session} → s.started ≡ true → s.taken ≢ 0 → s.taken ≤ trace_room → t ≡ without_path s → back_to t ≡ back_step s
   back-good e n h = back-there (rw (e, lt-ltb 0 s.taken (omega (arith, n)), le-leb s.taken trace_room h))
-
--- closing
-module _ (s : Session) where
-  pub closing-early : s.started ≡ false → CertificateFault 31 0 ≡ closing s
-  closing-early e = rw e
-
-  pub closing-few : s.taken ≢ path_count s → CertificateFault 31 0 ≡ closing s
-  closing-few h = rw (ne_eqb s.taken (path_count s) h, and-false)
-
-  module _ (e : s.started ≡ true) (h : s.taken ≡ path_count s) where
-    pub closing-good : all_below s.graph.n (has s.build.sets.branch.words) ≡ true → Grade 3 ≡ closing s
-    closing-good f = rw (e, eq-eqb s.taken (path_count s) h, f)
-
-    pub closing-open : all_below s.graph.n (has s.build.sets.branch.words) ≡ false → CertificateFault 28 0 ≡ closing s
-    closing-open f = rw (e, eq-eqb s.taken (path_count s) h, f)
-
--- the part of a slice from a place on, as the code takes it
-pub part_rest : (l : List ℕ) (at : ℕ) → take (length l - at) (drop at l) ≡ drop at l
-part_rest l at = take_all (length l - at) (drop at l) (omega (arith, length-drop at l))
-
-pub no_rest : (l : List ℕ) (at : ℕ) → length l < at → [] ≡ drop at l
-no_rest l at h = sym (drop_of_length-le l {i = at} (omega arith))

@@ -13,7 +13,7 @@ use vertexset::VertexSet;
 #[derive(Clone, Copy)]
 pub struct Session {
     pub graph: GraphTable,
-    // opened, and no start accepted yet
+    // opened, and no start accepted yet; with `started` three states by two flags, as the definitions name them (no_session, opened_on, on_start)
     pub ready: bool,
     pub started: bool,
     pub taken: u16,
@@ -22,13 +22,15 @@ pub struct Session {
     pub traces: [Trace; Session::PATHS],
 }
 
+// A plan that was refused gives a session never opened, so the answer stands beside it.
 #[derive(Clone, Copy)]
 pub struct Opened {
     pub answer: Answer,
     pub session: Session,
 }
 
-// The session after a call, its answer, and how many bytes of the part were read.
+// The session after a call, its answer, and how many bytes of the part were read. A refused call hands its session back too, so the answer stands
+// beside it.
 #[derive(Clone, Copy)]
 pub struct Stepped {
     pub session: Session,
@@ -79,125 +81,105 @@ impl Session {
         }
     }
 
-    // Four branch vertices and six paths; 31 before reading where a start was accepted already or the session never opened.
-    pub fn start(self, part: &[u8]) -> Stepped
+    // Four branch vertices and six paths; 31 before reading where a start was accepted already or the session never opened. They enter tables of
+    // their own, since those before a fault stay in them.
+    pub fn start(mut self, part: &[u8]) -> Stepped
         ensures { result ≡ start_step self part.now }
     {
-        let ready = self.ready;
-        if !ready {
+        if !self.ready {
             return self.refused(31, 0);
         }
-        let graph = self.graph;
         let mut pointers = [0u16; Link::POINTERS];
         let mut linked = [0u64; GraphTable::ROW_WORDS];
-        let x = build::read_start(part, &graph.rows, graph.n, 0, &mut pointers, &mut linked);
-        let end = x.end;
-        let answer = end.answer;
-        let Answer::Accepted = answer else {
-            return self.unread(answer);
+        let x = match build::read_start(
+            part,
+            &self.graph.rows,
+            self.graph.n,
+            0,
+            &mut pointers,
+            &mut linked,
+        ) {
+            Ok(x) => x,
+            Err(answer) => return self.unread(answer),
         };
-        let sets = x.sets;
-        let build = Build {
-            sets,
+        self.ready = false;
+        self.started = true;
+        self.taken = 0;
+        self.build = Build {
+            sets: x.sets,
             pointers,
             linked,
         };
-        let traces = self.traces;
-        let session = Session {
-            graph,
-            ready: false,
-            started: true,
-            taken: 0,
-            build,
-            traces,
-        };
         Stepped {
-            session,
+            session: self,
             answer: Answer::Accepted,
-            read: end.next,
+            read: x.next,
         }
     }
 
     // A path is due, and its trace has room (in every session that calls gave it has).
-    fn is_due(self) -> bool
-        ensures { result ≡ is_due self }
+    fn is_due(&self) -> bool
+        ensures { result ≡ is_due self.now }
     {
-        let graph = self.graph;
-        let count = build::further_count(graph.d, graph.n);
-        self.started & ((self.taken < count) & ((self.taken as usize) < Session::PATHS))
+        let count = build::further_count(self.graph.d, self.graph.n);
+        self.started && self.taken < count && (self.taken as usize) < Session::PATHS
     }
 
     // One further path; 31 before reading where none is due. Each call of a function with a session, and each return, may copy it, so this is one
-    // function; and the larger of the two tables is lent inside its copy of the build, which spares a copy (the kit lends one field of a struct at a time).
+    // function; the tables of the build are lent where they stand, since a path that is refused leaves them as they were.
     pub fn path(mut self, part: &[u8]) -> Stepped
         ensures { result ≡ path_step self part.now }
     {
-        let due = self.is_due();
-        if !due {
+        if !self.is_due() {
             return self.refused(31, 0);
         }
-        let graph = self.graph;
-        let mut b = self.build;
-        let sets = b.sets;
-        let mut pointers = b.pointers;
-        let y = build::take_path(
+        let n = self.graph.n;
+        let sets = self.build.sets;
+        let it = &mut self;
+        let x = match build::take_path(
             part,
-            &graph.rows,
-            graph.n,
+            &it.graph.rows,
+            n,
             0,
             sets,
-            &mut pointers,
-            &mut b.linked,
-        );
-        let x = y.taken;
-        let end = x.end;
-        let answer = end.answer;
-        let Answer::Accepted = answer else {
-            return self.unread(answer);
+            &mut it.build.pointers,
+            &mut it.build.linked,
+        ) {
+            Ok(x) => x,
+            Err(answer) => return self.unread(answer),
         };
-        let i = self.taken as usize;
-        let trace = y.trace;
-        self.traces[i] = trace;
+        self.traces[self.taken as usize] = x.trace;
         self.taken += 1;
-        let grown = x.sets;
-        b.sets = grown;
-        b.pointers = pointers;
-        self.build = b;
+        self.build.sets = x.taken.sets;
         Stepped {
             session: self,
             answer: Answer::Accepted,
-            read: end.next,
+            read: x.taken.next,
         }
     }
 
     // A path is there to take back; that it is within the room only matters in a session that no calls gave.
-    fn has_path(self) -> bool
-        ensures { result ≡ has_path self }
+    fn has_path(&self) -> bool
+        ensures { result ≡ has_path self.now }
     {
-        self.started & ((0 < self.taken) & (self.taken as usize <= Session::PATHS))
+        self.started && 0 < self.taken && self.taken as usize <= Session::PATHS
     }
 
     // Takes back the path that was accepted last; 31 where there is none. Nothing is read.
     pub fn back(mut self) -> Stepped
         ensures { result ≡ back_step self }
     {
-        let there = self.has_path();
-        if !there {
+        if !self.has_path() {
             return self.refused(31, 0);
         }
         let left = self.taken - 1;
-        self.taken = left;
         let i = left as usize;
-        let b = self.build;
-        let mut pointers = b.pointers;
-        let mut linked = b.linked;
-        let sets = build::take_back(b.sets, &mut pointers, &mut linked, self.traces[i]);
-        let build = Build {
-            sets,
-            pointers,
-            linked,
-        };
-        self.build = build;
+        let sets = self.build.sets;
+        let trace = self.traces[i];
+        let it = &mut self;
+        let grown = build::take_back(sets, &mut it.build.pointers, &mut it.build.linked, trace);
+        self.taken = left;
+        self.build.sets = grown;
         self.traces[i] = Trace::none();
         Stepped {
             session: self,
@@ -206,20 +188,16 @@ impl Session {
         }
     }
 
-    fn closing(self) -> Answer
-        ensures { result ≡ closing self }
+    fn closing(&self) -> Answer
+        ensures { result ≡ closing self.now }
     {
-        let started = self.started;
-        if !started {
+        if !self.started {
             return Answer::CertificateFault(31, 0);
         }
-        let graph = self.graph;
-        if self.taken != build::further_count(graph.d, graph.n) {
+        if self.taken != build::further_count(self.graph.d, self.graph.n) {
             return Answer::CertificateFault(31, 0);
         }
-        let build = self.build;
-        let sets = build.sets;
-        if paths::all_below(sets.branch, graph.n) {
+        if paths::all_below(self.build.sets.branch, self.graph.n) {
             return Answer::Grade(3);
         }
         Answer::CertificateFault(28, 0)
@@ -242,30 +220,22 @@ impl Session {
 pub fn open(plan: &[u8]) -> Opened
     ensures { result ≡ opening plan.now }
 {
-    let x = reading::read_plan(plan);
-    let answer = x.answer;
-    let Answer::Accepted = answer else {
-        let session = Session::none();
-        return Opened { answer, session };
+    let x = match reading::read_plan(plan) {
+        Ok(x) => x,
+        Err(answer) => {
+            let session = Session::none();
+            return Opened { answer, session };
+        }
     };
+    let mut session = Session::none();
     let graph = x.plan.graph;
     if (graph.d as usize) < graph.n as usize + 2 {
-        let session = Session::none();
-        return Opened {
-            answer: Answer::PlanFault(29, 0),
-            session,
-        };
+        let answer = Answer::PlanFault(29, 0);
+        return Opened { answer, session };
     }
-    let build = Build::bare(VertexSet::empty());
-    let trace = Trace::none();
-    let session = Session {
-        graph,
-        ready: true,
-        started: false,
-        taken: 0,
-        build,
-        traces: [trace; Session::PATHS],
-    };
+    session.graph = graph;
+    session.ready = true;
+    let answer = Answer::Accepted;
     Opened { answer, session }
 }
 
@@ -273,11 +243,7 @@ pub fn open(plan: &[u8]) -> Opened
 fn rest<'a>(part: &'a [u8], at: usize) -> &'a [u8]
     ensures { result.now ≡ drop at part.now }
 {
-    if at <= part.len() {
-        &part[at..]
-    } else {
-        &part[..0]
-    }
+    part.get(at..).unwrap_or(&[])
 }
 
 // What a start leaves unread of the caller's record.
