@@ -12,7 +12,6 @@ use Rattle.vertexset.specs.Set.{empty_set, count, capacity}
 use Rattle.vertexset.specs.declared.VertexSet.{VertexSet}
 use Rattle.search.specs.Arrays.{placed, placed_end}
 use Rattle.search.specs.Code.{path_room}
-use Rattle.search.proofs.Placed.{padded-none}
 use Rattle.construction.specs.Sets.{stop, minus, single, set_with_all, empty}
 use Rattle.construction.specs.Search.{explore}
 use Rattle.construction.specs.Ears as construction
@@ -20,11 +19,12 @@ use Rattle.construction.specs.Ears.{no_cut, is_cut, failed, answered, near_all, 
 use Rattle.construction.proofs.Basics.{Sized}
 use Rattle.construction.proofs.SetLaws.{sized_empty, sized_all}
 use Rattle.construction.proofs.Near.{near-grows, near-set}
-use Rattle.detours.specs.Code.{cut_of, cut_in, found_of, ears_of, Kept, FlatShows}
+use Rattle.detours.specs.Code.{cut_of, cut_in, found_of, ears_of, Kept}
 use Rattle.detours.specs.declared.Cut.{Cut}
 use Rattle.detours.specs.declared.Ears.{Ears}
 use Rattle.detours.proofs.Routes.{answered-one}
-use Rattle.detours.proofs.Kept.{kept_size, add_kept, add_kept_end, add_kept_short, flat_shows_take, flat_shows_kept}
+use Rattle.detours.proofs.Kept.{kept_size}
+use Rattle.detours.proofs.Filled.{Flat, filled_take, filled_added, filled_none, flat_kept, kept_flat}
 use Rattle.detours.proofs.Answered.{Found, ok_test, ok_path, err_test, err_cut}
 
 -- ---- paths are short
@@ -60,13 +60,6 @@ module _ {A : Type 0} (end : construction.Cut → A) (more : List ℕ → A) (g 
   pub stage_on : {p : ArrayVec ℕ} → Ok p ≡ found_of g → more p.items ≡ stage end more g
   stage_on e = rw (ok_test g e) (ap more (ok_path g e))
 
--- ---- a path more
-
-module _ (flat : List ℕ) (len : ℕ) (path : List ℕ) (k : Kept flat len) {out : List ℕ} {next : ℕ}
-    (o : out ≡ placed flat len (stop ∷ path)) (n : next ≡ placed_end flat len (stop ∷ path)) where
-  more_shows : FlatShows out next (add_path (take len flat) path)
-  more_shows = record { array = o ∙ add_kept flat len path k; short = add_kept_short flat len path k; size = n ∙ add_kept_end flat len path k }
-
 -- ---- the first ear
 
 -- it, and the ears behind it
@@ -95,14 +88,14 @@ pub first_ear_lem : (rows : List ℕ) (full : VertexSet) (path : List ℕ) {flat
     → flat ≡ placed (replicate path_space 0) 0 (stop ∷ path) → len ≡ placed_end (replicate path_space 0) 0 (stop ∷ path)
     → none ≡ empty_set → set ≡ set_with_all none path → none2 ≡ empty_set → n ≡ near_all rows none2 path → Earing rows full (ears_from rows full path) flat len set n 1 0
 first_ear_lem rows full path {flat} {len} {n = n} o k z s y m =
-    let f : FlatShows flat len (add_path [] path) = more_shows (replicate path_space 0) 0 path (sym (padded-none path_space), omega arith) o k in
+    let f : Flat flat len (add_path [] path) = filled_added (filled_none path_space) (stop ∷ path) o k in
     let v : _ ≡ set_with_all empty_set path = s ∙ ap (λ (x : VertexSet). set_with_all x path) z in
     record {
-      kept = flat_shows_kept flat len _ f;
+      kept = flat_kept f;
       sized = subst Sized (sym v) (sized_all empty_set path sized_empty);
       same_near = m ∙ ap (λ (x : VertexSet). near_all rows x path) y ∙ sym (near-set rows path) ∙ ap (near rows) (sym v);
       turns = refl;
-      rest = λ i. ears_on rows full capacity (flat_shows_take flat len _ f i) 1 (v i);
+      rest = λ i. ears_on rows full capacity (filled_take f i) 1 (v i);
     }
 
 -- by the two tests of a turn
@@ -155,12 +148,12 @@ module _ {rows : List ℕ} {full : VertexSet} {whole : Eared} {flat : List ℕ} 
           → flat2 ≡ placed flat len (stop ∷ l) → len2 ≡ placed_end flat len (stop ∷ l) → set2 ≡ set_with_all set l → n2 ≡ near_all rows n l
           → Earing rows full whole flat2 len2 set2 n2 (count + 1) (counter + 1)
       earing_on e {l} p {flat2} {len2} m k a z =
-          let s : FlatShows flat2 len2 (add_path (take len flat) l) = more_shows flat len l g.kept m k in
+          let s : Flat flat2 len2 (add_path (take len flat) l) = filled_added (kept_flat flat len g.kept) (stop ∷ l) m k in
           record {
-            kept = flat_shows_kept flat2 len2 _ s;
+            kept = flat_kept s;
             sized = subst Sized (sym a) (sized_all set l g.sized);
             same_near = z ∙ ap (λ (x : VertexSet). near_all rows x l) g.same_near ∙ sym (near-grows rows set l g.sized) ∙ ap (near rows) (sym a);
             turns = omega (arith, g.turns);
-            rest = (λ i. ears_on rows full left (flat_shows_take flat2 len2 _ s i) (count + 1) (a i))
+            rest = (λ i. ears_on rows full left (filled_take s i) (count + 1) (a i))
                 ∙ ap more p ∙ stage_on (eared (take len flat) count) more (detour rows (near rows set) set) (way e) ∙ rw u at next;
           }

@@ -28,13 +28,6 @@ module _ (items l : List ℕ) (e : items ≡ flat_of l) (h : length l ≤ path_s
   pub flat_kept : Kept items (length l)
   flat_kept = (e ∙ ap flat_of (sym flat_take), h)
 
-module _ (items : List ℕ) (len : ℕ) (flat : List ℕ) (s : FlatShows items len flat) where
-  pub flat_shows_take : take len items ≡ flat
-  flat_shows_take = rw s.size (flat_take items flat s.array s.short)
-
-  pub flat_shows_kept : Kept items len
-  flat_shows_kept = rw s.size (flat_kept items flat s.array s.short)
-
 pub kept_shows : (items : List ℕ) (len : ℕ) → Kept items len → FlatShows items len (take len items)
 kept_shows items len k = record { array = k.0; short = taken-short items len k; size = sym (kept_size items len k) }
 

@@ -26,7 +26,8 @@ pub struct Cut {
 pub type Found = Result<VertexList, Cut>;
 
 // Ears one after the other in an array, a stop before each, and how many; and the cut that ended them, if one did: what find_ears and
-// the certifier's `cut_certificate_in` promise tells the ears beside the cut, so this is no Result.
+// the certifier's `cut_certificate_in` promise tells the ears beside the cut, so this is no Result. find_ears promises the array whole,
+// with zeros behind the ears (`flat_of`), so the length stands beside it.
 #[derive(Clone, Copy)]
 pub struct Ears {
     pub flat: [u16; Ears::ROOM],
