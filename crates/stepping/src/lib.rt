@@ -1,12 +1,12 @@
 // The steps of a build: further paths until every vertex is a branch vertex, or a cut; then the edges that no path has.
 #![tactic(auto)]
 
-ghost use Rattle.std.specs.Prelude.{◌≡◌, false, ◌++◌, ◌+◌, ◌-◌, ◌≤◌, ◌<◌, None, IfSome, length, position, take, drop};
+ghost use Rattle.std.specs.Prelude.{◌≡◌, false, ◌+◌, ◌≤◌, ◌<◌, None, IfSome, length, position, take, drop};
 ghost use Rattle.std.specs.List.{prefix_len};
 ghost use Rattle.vertexset.specs.Set.{has};
 ghost use Rattle.graph.specs.Limits.{max_edges};
 ghost use Rattle.search.specs.Code.{path_of, path_room};
-ghost use Rattle.construction.specs.Sets.{minus, set_of, members_from, reversed, place_of};
+ghost use Rattle.construction.specs.Sets.{minus, set_of, members_from, place_of};
 ghost use Rattle.construction.specs.Steps.{state, extended, segment, off_link, up_to, link_step, turned, pair_place, beside_place, reroute, out_step, step, steps, add_edges, finish};
 ghost use Rattle.detours.specs.Code.{found_of, Kept, FlatShows};
 ghost use Rattle.stepping.specs.Code.{has_pair, put_between, put_between_end, state_in, Holds, Shows, built_in, Spans, AtWork, Works, Left};
@@ -412,14 +412,13 @@ fn all_steps<'a>(
     s.progress
 }
 
-// (c) The edges from u to the members of a set above it, each as a path.
+// (c) The edges from u to the members of a set above it, each as a path. The walk takes one step for each member and word, and stays a walk.
 fn add_edges(flat: &mut [u16], from: usize, u: u16, set: VertexSet) -> usize
     requires { Kept flat.old from × (u + 1 < 65536) }
     ensures { FlatShows flat.new result (add_edges u (members_from (u + 1) set) (take from flat.old)) }
 {
     let mut len = from;
     let mut edge = [u, 0];
-    // a walk through a set takes one step for each member and word
     let mut walk = set.walk_from(u + 1);
     while walk.going() {
         let here = walk;
