@@ -118,6 +118,10 @@ unfoldable pub edge_read : Read (ℕ × ℕ) → Result ((ℕ × ℕ) × ℕ) An
 edge_read (Got e next) = Ok (e, next)
 edge_read (Refused r p) = Err (PlanFault r p)
 
+-- an edge as one number, in the same order where its higher vertex is below 65,536
+abbrev pub key_of : ℕ × ℕ → ℕ
+key_of e = e.0 * 65536 + e.1
+
 -- an edge counts where it differs from the one before it
 abbrev pub counted_pair : ℕ × ℕ → ℕ → ℕ × ℕ → ℕ
 counted_pair before d e = cond (is_pair before e.0 e.1) d (d + 1)
