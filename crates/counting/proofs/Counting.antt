@@ -22,11 +22,10 @@ Left n number = drop number (plans_of n)
 
 pub record Counting (n number : ℕ) (of : List ℕ) : Type 0 where
   pub size : length of ≡ 4
-  pub within : number ≤ length (sets_of (pairs_of n))
   pub each : (k : ℕ) → k < 4 → get_or of k 0 + length (with_connectivity k (Left n number)) ≡ length (with_connectivity k (plans_of n))
 
 pub count-start : (n : ℕ) → Counting n 0 (replicate 4 0)
-count-start n = record { size = refl; within = omega arith; each = λ k h. omega (arith, zeros-at 4 k) }
+count-start n = record { size = refl; each = λ k h. omega (arith, zeros-at 4 k) }
 
 module _ {n number : ℕ} {of : List ℕ} (c : Counting n number of) (low : number < length (sets_of (pairs_of n))) where
   abbrev its_plan : Plan
@@ -51,7 +50,7 @@ module _ {n number : ℕ} {of : List ℕ} (c : Counting n number of) (low : numb
     count_room h = omega (arith, c.each f count_low, later f (eq-eqb _ f (sym e)), with-most f (plans_of n), length-map (sets_of (pairs_of n)) (plan_with n))
 
     pub count_next : Counting n (number + 1) (set of f (get_or of f 0 + 1))
-    count_next = record { size = length-set of f (get_or of f 0 + 1) ∙ c.size; within = omega arith; each = λ k h. go k h (eqb k f) refl }
+    count_next = record { size = length-set of f (get_or of f 0 + 1) ∙ c.size; each = λ k h. go k h (eqb k f) refl }
       where
         go : (k : ℕ) → k < 4 → (b : Bool) → eqb k f ≡ b → get_or (set of f (get_or of f 0 + 1)) k 0 + length (with_connectivity k (Left n (number + 1))) ≡ length (with_connectivity k (plans_of n))
         go k h true t =

@@ -65,11 +65,8 @@ pub record Drawing (n : ℕ) (done : List ℕ) (rows : List ℕ) (sets rest u v 
   pub count : sets ≡ length (sets_of (pairs_from n u v))
   pub low : rest < sets
   pub drawn : folded joined rows (get_or (sets_of (pairs_from n u v)) rest []) ≡ done
-  pub behind : u < v
-  pub within : u ≤ n
-  pub beside : v ≤ n + 1
 
-module _ (n : ℕ) {rows : List ℕ} {sets number : ℕ} (least : min_size ≤ n) (count : sets ≡ length (sets_of (pairs_of n))) (low : number < length (sets_of (pairs_of n))) where
+module _ (n : ℕ) {rows : List ℕ} {sets number : ℕ} (count : sets ≡ length (sets_of (pairs_of n))) (low : number < length (sets_of (pairs_of n))) where
   pub draw_start : Drawing n (folded joined rows (get_or (sets_of (pairs_of n)) number [])) rows sets number 0 1
   draw_start =
       let s = pairs_start n in
@@ -77,9 +74,6 @@ module _ (n : ℕ) {rows : List ℕ} {sets number : ℕ} (least : min_size ≤ n
         count = count ∙ ap (λ (l : List (ℕ × ℕ)). length (sets_of l)) (sym s);
         low = omega arith;
         drawn = ap (λ (l : List (ℕ × ℕ)). folded joined rows (get_or (sets_of l) number [])) s;
-        behind = omega arith;
-        within = omega arith;
-        beside = omega arith;
       }
 
 module _ {n : ℕ} {done rows : List ℕ} {sets rest u v : ℕ} (d : Drawing n done rows sets rest u v) where
@@ -90,9 +84,6 @@ module _ {n : ℕ} {done rows : List ℕ} {sets rest u v : ℕ} (d : Drawing n d
         count = d.count ∙ ap (λ (l : List (ℕ × ℕ)). length (sets_of l)) s;
         low = d.low;
         drawn = ap (λ (l : List (ℕ × ℕ)). folded joined rows (get_or (sets_of l) rest [])) (sym s) ∙ d.drawn;
-        behind = omega arith;
-        within = omega arith;
-        beside = omega arith;
       }
 
   module _ (h : v < n) where
@@ -110,20 +101,14 @@ module _ {n : ℕ} {done rows : List ℕ} {sets rest u v : ℕ} (d : Drawing n d
       count = halved;
       low = l;
       drawn = ap (folded joined rows) (sym (set_without (u, v) (pairs_from n u (v + 1)) rest (omega (arith, halved)))) ∙ still;
-      behind = omega (arith, d.behind);
-      within = d.within;
-      beside = omega arith;
     }
 
-    pub draw_with : u < n → n ≤ max_size → sets / 2 ≤ rest → {rows' : List ℕ} → rows' ≡ joined_rows rows u v → Drawing n done rows' (sets / 2) (rest - sets / 2) u (v + 1)
+    pub draw_with : u < v → n ≤ max_size → sets / 2 ≤ rest → {rows' : List ℕ} → rows' ≡ joined_rows rows u v → Drawing n done rows' (sets / 2) (rest - sets / 2) u (v + 1)
     unfolding folded
     draw_with k m l {rows'} r = record {
       count = halved;
       low = omega (arith, half, d.low);
       drawn = now_joined;
-      behind = omega (arith, d.behind);
-      within = d.within;
-      beside = omega arith;
     }
       where
         both : joined_rows rows u v ≡ joined rows (u, v)
@@ -139,13 +124,13 @@ module _ {n : ℕ} {done rows : List ℕ} {sets rest u v : ℕ} (d : Drawing n d
         now_joined =
             (λ i. folded joined ((r ∙ both) i) (get_or (sets_of (pairs_from n u (v + 1))) (place i) [])) ∙ ap (folded joined rows) (sym found) ∙ still
 
-  pub draw_end : n ≤ u → rows ≡ done
+  pub draw_end : n ≤ u → u < v → rows ≡ done
   unfolding folded sets_of
-  draw_end h = ap (folded joined rows) (sym none_left) ∙ d.drawn
+  draw_end h b = ap (folded joined rows) (sym none_left) ∙ d.drawn
     where
       none_left : get_or (sets_of (pairs_from n u v)) rest [] ≡ []
       none_left =
-          let e = pairs_end n u v h d.behind in
+          let e = pairs_end n u v h b in
           let c : length (sets_of (pairs_from n u v)) ≡ 1 = ap (λ (l : List (ℕ × ℕ)). length (sets_of l)) e in
           let z : rest ≡ 0 = omega (arith, d.low, d.count) in
           (λ i. get_or (sets_of (e i)) (z i) [])

@@ -1,9 +1,9 @@
 -- Every set of pairs is listed, and each once. Assumes nothing.
-use Prim.Native.Nat.{ℕ, ◌+◌, ◌-◌, ◌^◌, ◌≤◌, ◌<◌}
+use Prim.Native.Nat.{ℕ, ◌+◌, ◌^◌, ◌≤◌}
 use mathlib.Core.Path.{◌≡◌, refl, ap, ◌∙◌}
 use mathlib.Core.Logic.{◌⊎◌, inl, inr, ⊎_elim, ⊎_map}
 use mathlib.Core.List.{List, [], ◌∷◌, map}
-use native.Mathlib.Nat.{pow-suc, one-le-pow}
+use native.Mathlib.Nat.{pow-suc}
 use native.Mathlib.Omega.{arith}
 use lib.ListN.{length, length-append, length-map}
 use Rattle.connectivity.specs.Lists.{In, NoDup}
@@ -40,13 +40,6 @@ pub sets_count : (ps : List (ℕ × ℕ)) → length (sets_of ps) ≡ 2 ^ length
 unfolding sets_of
 sets_count [] = refl
 sets_count (e ∷ es) = omega (arith, sets_twice e es, sets_count es, pow-suc 2 (length es))
-
-module _ (ps : List (ℕ × ℕ)) {sets : ℕ} (e : sets ≡ length (sets_of ps)) where
-  pub sets_some : 1 ≤ sets
-  sets_some = omega (arith, sets_count ps, one-le-pow (length ps) 2 (omega arith))
-
-  pub up_to-last : {number : ℕ} → number ≤ sets - 1 → number < length (sets_of ps)
-  up_to-last h = omega (arith, sets_some)
 
 -- a set is one of the sets without the first pair, or one of them with it
 split : (e : ℕ × ℕ) (es s : List (ℕ × ℕ)) → In s (sets_of (e ∷ es)) → In s (sets_of es) ⊎ ((t : List (ℕ × ℕ)) × In t (sets_of es) × (s ≡ e ∷ t))

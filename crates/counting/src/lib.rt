@@ -2,8 +2,6 @@
 #![tactic(auto)]
 
 ghost use Rattle.std.specs.Prelude.{◌≡◌, [], ◌≤◌, ◌<◌, length, get_or};
-ghost use Rattle.record.specs.Read.{folded};
-ghost use Rattle.graph.specs.Rows.{joined};
 ghost use Rattle.counting.specs.Counts.{pairs_of, sets_of, plan_with, connectivity_of, min_size, max_size, count_of, counts_of};
 
 use graph::GraphTable;
@@ -30,40 +28,25 @@ fn set_count(n: u16) -> u16
     1u16 << (n * (n - 1) / 2)
 }
 
-// Joins the pairs of the set with this number. The sets without the next pair are the first half of those that are left, in the order of sets_of.
-fn draw(rows: &mut [u64; GraphTable::ROW_WORDS], n: u16, number: u16)
-    requires { (min_size ≤ n) × (n ≤ max_size) × (number < length (sets_of (pairs_of n))) }
-    ensures { rows.new ≡ folded joined rows.old (get_or (sets_of (pairs_of n)) number []) }
-{
-    let mut sets = set_count(n);
-    let mut rest = number;
-    let mut u = 0u16;
-    let mut v = 1u16;
-    while u < n {
-        let lower = u;
-        let higher = v;
-        if n <= v {
-            u += 1;
-            v = u + 1;
-            continue;
-        }
-        v += 1;
-        sets /= 2;
-        if rest < sets {
-            continue;
-        }
-        rest -= sets;
-        graph::join(rows, lower, higher);
-    }
-}
-
-// The connectivity of the plan with this number, by the certifier's own decision.
+// The connectivity of the plan with this number, by the certifier's own decision. The sets without the next pair are the first half of those that are left, in
+// the order of sets_of.
 fn connectivity_of(n: u16, number: u16) -> u16
     requires { (min_size ≤ n) × (n ≤ max_size) × (number < length (sets_of (pairs_of n))) }
     ensures { result ≡ connectivity_of (plan_with n (get_or (sets_of (pairs_of n)) number [])) }
 {
     let mut rows = [0u64; GraphTable::ROW_WORDS];
-    draw(&mut rows, n, number);
+    let mut sets = set_count(n);
+    let mut rest = number;
+    for u in 0..n {
+        for v in u + 1..n {
+            sets /= 2;
+            if rest < sets {
+                continue;
+            }
+            rest -= sets;
+            graph::join(&mut rows, u, v);
+        }
+    }
     certifier::kind(&rows, n)
 }
 
@@ -72,19 +55,12 @@ pub fn count_all(size: u64) -> Counts
     ensures { result ≡ counts_of size }
 {
     let mut of = [0u16; Counts::GRADES];
-    if size < Counts::MIN_SIZE {
-        return Counts { of };
-    }
-    if Counts::MAX_SIZE < size {
+    if size < Counts::MIN_SIZE || Counts::MAX_SIZE < size {
         return Counts { of };
     }
     let n = size as u16;
-    let last = set_count(n) - 1;
-    let mut number = 0u16;
-    while number <= last {
-        let k = connectivity_of(n, number) as usize;
-        of[k] += 1;
-        number += 1;
+    for number in 0..set_count(n) {
+        of[connectivity_of(n, number) as usize] += 1;
     }
     Counts { of }
 }
@@ -96,7 +72,5 @@ pub fn count(size: u64, grade: u64) -> u64
     if (Counts::GRADES as u64) <= grade {
         return 0;
     }
-    let c = count_all(size);
-    let of = c.of;
-    of[grade as usize] as u64
+    count_all(size).of[grade as usize] as u64
 }

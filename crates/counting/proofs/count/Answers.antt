@@ -8,4 +8,4 @@ pub returns-then-grade : goal.returns-then-grade
 returns-then-grade c = sym (no_grade _ _ c.if-grade.true)
 
 pub returns : goal.returns
-returns c = one_count _ _ c.if-grade.false c.count_all-c.ensures
+returns c = one_count _ _ c.if-grade.false c.count_all.ensures

@@ -1,9 +1,5 @@
-use Prim.Native.Nat.{◌+◌, ◌-◌}
 use Rattle.counting.proofs.Counting.{Counting}
 use Rattle.counting.proofs.count_all.Given as goal
 
 abbrev pub invariant-loop-number : goal.invariant-loop-number
 invariant-loop-number l = Counting l.n l.number l.of
-
-abbrev pub decreases-loop-number : goal.decreases-loop-number
-decreases-loop-number l = l.last + 1 - l.number
