@@ -11,22 +11,18 @@ use counting::Counts;
 // The text has room in so many bytes.
 pub const ROOM: usize = 3 * lines::LONGEST;
 
-// The line of a size, by way of a buffer of its own: the lent one changes only where the whole line has room.
 fn put_line(out: &mut [u8], at: usize, size: u64) -> usize
     requires { size ≤ max_size }
     ensures value { result ≡ place_after out.old at (count_line size) }
     ensures out_after { out.new ≡ written out.old at (count_line size) }
 {
-    let counts = counting::count_all(size);
-    let of = counts.of;
+    let of = counting::count_all(size).of;
     let mut line = [0u8; lines::LONGEST];
-    let a = lines::put_decimal(&mut line, 0, size);
-    let b = lines::put_numbered(&mut line, a, b" ", of[0] as u64);
-    let c = lines::put_numbered(&mut line, b, b" ", of[1] as u64);
-    let d = lines::put_numbered(&mut line, c, b" ", of[2] as u64);
-    let e = lines::put_numbered(&mut line, d, b" ", of[3] as u64);
-    let end = lines::put_bytes(&mut line, e, b"\n");
-    lines::put_bytes(out, at, &line[..end])
+    let mut end = lines::put_decimal(&mut line, 0, size);
+    for count in of {
+        end = lines::put_numbered(&mut line, end, b" ", count.into());
+    }
+    lines::put_both(out, at, &line[..end], b"\n")
 }
 
 // Writes the lines at the start of the buffer and answers their length; where they have no room, nothing is written, and the answer is 0.

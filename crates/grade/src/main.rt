@@ -6,20 +6,16 @@ ghost use Rattle.std.specs.Io.KnownBytes.{Appends};
 ghost use Rattle.streams.specs.Front.{AppendsFront};
 ghost use Rattle.gradeline.specs.Line.{grade_line};
 
+use gradeline::GradeLine;
 use std::io::{self, Read, Write};
-use streams::{read_full, write_full};
 
-// One byte more than the limit tells that the input is too long. A read or a write that fails ends the program with its error;
-// what is on standard output then is a front of the answer.
+// A read or a write that fails ends the program with its error; what is on standard output then is a front of the answer.
+#[tactic(auto, unfolding(gradeline::specs::Line::grade_line))]
 fn run<R: Read, W: Write>(reader: &mut R, writer: &mut W) -> io::Result<()>
     ensures ok { OnOk result (IfSome (R.remaining reader.old) (λ xs. Appends (W.contents writer.old) (W.contents writer.new) (grade_line xs))) }
     ensures err { OnErr result (IfSome (R.remaining reader.old) (λ xs. AppendsFront (W.contents writer.old) (W.contents writer.new) (grade_line xs))) }
 {
-    let mut bytes = [0u8; lines::LIMIT + 1];
-    let n = read_full(reader, &mut bytes)?;
-    let mut out = [0u8; lines::LONGEST];
-    let len = gradeline::line(&bytes[..n], &mut out);
-    write_full(writer, &out[..len])
+    streams::answer::<GradeLine, _, _, _>(reader, writer)
 }
 
 fn main(rt: HostRuntime) -> io::Result<()> {

@@ -1,14 +1,14 @@
--- The digits that the kit's `io::decimal` writes are the number in decimal, and how many they are. Assumes nothing.
-use Prim.Native.Nat.{ℕ, zero, suc, ◌+◌, ◌-◌, ◌/◌, ◌%◌, ◌^◌, ◌≤◌, ◌<◌}
+-- The digits that std writes are the number in decimal, and how many they are. Assumes nothing.
+use Prim.Native.Nat.{ℕ, zero, suc, ◌+◌, ◌/◌, ◌%◌, ◌^◌, ◌≤◌, ◌<◌}
 use mathlib.Core.List.{List, [], ◌∷◌, ◌++◌}
 use mathlib.Core.Bool.{Bool, true, false}
 use mathlib.Core.Path.{◌≡◌, refl, sym, ap, ◌∙◌}
-use native.Mathlib.Nat.{one-le-pow}
 use native.Mathlib.Omega.{arith}
 use lib.ListN.{length, length-append}
 use lib.Dec.{ltb}
 use borrow.Author.Tests.{lt-ltb, le-ltb, ltb-true, ltb-false}
-use Rattle.io.specs.Digits.{last_digits, IsDigitCount}
+use Rattle.std.specs.Fmt.{decimal as printed}
+use Rattle.std.proofs.lemmas.Fmt.{decimal_digit, decimal_step}
 use Rattle.lines.specs.Lines.{digits_in, decimal}
 
 one_digit : (j n : ℕ) → n < 10 → digits_in (suc j) n ≡ (48 + n) ∷ []
@@ -20,23 +20,17 @@ unfolding digits_in
 more_digits j n h = rw (le-ltb n 10 h)
 
 -- enough digits are allowed for
-fewest_digits : (j k n : ℕ) → n < j → IsDigitCount 10 1 n k → last_digits 10 k n ≡ digits_in j n
-fewest_digits zero k n h f = absurd (omega arith)
-fewest_digits (suc j) zero n h f = absurd (omega (arith, f.0))
-fewest_digits (suc j) (suc zero) n h f =
-    let b : n < 10 = f.1 in
-    let m : n % 10 ≡ n = omega arith in
-    rw m (rw (lt-ltb n 10 b) (sym (one_digit j n b)))
-fewest_digits (suc j) (suc (suc k)) n h f =
-    let l : 10 ^ suc k ≤ n = let z : suc (suc k) - 1 ≡ suc k = omega arith in rw z at (f.2 (omega arith)) in
-    let p : 1 ≤ 10 ^ k = one-le-pow k 10 (omega arith) in
-    let b : 10 ≤ n = omega (arith, l) in
-    let d : n % 10 < 10 = omega arith in
-    let e : last_digits 10 (suc k) (n / 10) ≡ digits_in j (n / 10) = fewest_digits j (suc k) (n / 10) (omega arith) (omega arith, omega (arith, f.1), λ q. let z : suc k - 1 ≡ k = omega arith in rw z (omega (arith, l))) in
-    rw (lt-ltb (n % 10) 10 d) (ap (λ (r : List ℕ). r ++ ((48 + n % 10) ∷ [])) e ∙ sym (more_digits j n b))
+same_digits : (j n : ℕ) → n < j → n < 2 ^ 64 → printed n ≡ digits_in j n
+same_digits zero n h f = absurd (omega arith)
+same_digits (suc j) n h f = go (ltb n 10) refl (λ c. same_digits j (n / 10) (omega arith) (omega arith))
+  where
+    go : (t : Bool) → ltb n 10 ≡ t → (10 ≤ n → printed (n / 10) ≡ digits_in j (n / 10)) → printed n ≡ digits_in (suc j) n
+    go true e s = let c = ltb-true _ _ e in decimal_digit n c ∙ sym (one_digit j n c)
+    go false e s = let c = ltb-false _ _ e in decimal_step n c f ∙ ap (λ (r : List ℕ). r ++ ((48 + n % 10) ∷ [])) (s c) ∙ sym (more_digits j n c)
 
-pub decimal-digits : (k n : ℕ) → IsDigitCount 10 1 n k → last_digits 10 k n ≡ decimal n
-decimal-digits k n f = fewest_digits (suc n) k n (omega arith) f
+-- what std prints for a number is the number in decimal
+pub decimal-printed : (n : ℕ) → n < 2 ^ 64 → printed n ≡ decimal n
+decimal-printed n f = same_digits (suc n) n (omega arith) f
 
 short_in : (k j n : ℕ) → n < j → n < 10 ^ suc k → length (digits_in j n) ≤ suc k
 short_in k zero n h b = absurd (omega arith)

@@ -1,3 +1,4 @@
 pub mod Digits
 pub mod Put
 pub mod Lengths
+pub mod Parts

@@ -1,13 +1,12 @@
 -- Bytes put into a buffer, one after the other. Assumes nothing.
-use Prim.Native.Nat.{ℕ, ◌+◌, ◌≤◌}
+use Prim.Native.Nat.{ℕ, ◌+◌, ◌≤◌, ◌<◌}
 use mathlib.Core.List.{List, [], ◌++◌, append_assoc}
 use mathlib.Core.Bool.{Bool, true, false}
 use mathlib.Core.Path.{◌≡◌, refl, sym, ap, ◌∙◌}
 use native.Mathlib.Omega.{arith}
 use lib.ListN.{length, take, drop, length-append}
 use lib.Seq.{length-take-le, take_at}
-use borrow.Author.Tests.{le-leb, leb-true}
-use Rattle.io.specs.Counts.{IsPrefixLen}
+use borrow.Author.Tests.{le-leb, lt-leb, leb-true}
 use Rattle.record.specs.Write.{overwritten, has_room}
 use Rattle.record.proofs.Write.{overwritten-none, overwritten-length, both_room, both_put}
 use Rattle.lines.specs.Lines.{place_after, written, longest}
@@ -17,6 +16,9 @@ abbrev pub Put : List ℕ → ℕ → List ℕ → ℕ → List ℕ → Type 0
 Put buffer at bytes next out = (next ≡ place_after buffer at bytes) × (out ≡ written buffer at bytes)
 
 module _ (buffer : List ℕ) (at : ℕ) (bytes : List ℕ) where
+  pub unput : length buffer < at + length bytes → Put buffer at bytes at buffer
+  unput h = let e : has_room buffer at bytes ≡ false = lt-leb (at + length bytes) (length buffer) h in (rw e, rw e)
+
   module _ (h : at + length bytes ≤ length buffer) where
     room : has_room buffer at bytes ≡ true
     room = le-leb (at + length bytes) (length buffer) h
@@ -36,7 +38,7 @@ module _ (buffer : List ℕ) (at : ℕ) (bytes : List ℕ) {next : ℕ} {out : L
   pub put_length : length out ≡ length buffer
   put_length = (sized (has_room buffer at bytes) refl).0
 
-  pub put_counts : at ≤ length buffer → IsPrefixLen next out
+  pub put_counts : at ≤ length buffer → (next ≤ length out) × (next ≡ length (take next out))
   put_counts h =
       let l : next ≤ length out = omega (arith, put_length, (sized (has_room buffer at bytes) refl).1 h) in
       (l, sym (length-take-le next out l))

@@ -1,9 +1,10 @@
 // The line of a refusal, and what lines are made of: bytes, decimal numbers and a plan's size, written into a lent buffer.
 #![tactic(auto)]
 
-ghost use Rattle.std.specs.Prelude.{◌≡◌, ℕ, ◌^◌, ◌<◌, List, ◌++◌, ◌≤◌, length};
+ghost use Rattle.std.specs.Prelude.{◌≡◌, ℕ, ◌^◌, ◌<◌, List, ◌++◌, ◌≤◌, length, flat_map};
 ghost use Rattle.lines.specs.Lines.{decimal, fault_line, refusal_line, size_text, too_long_line, limited, place_after, written, longest};
 
+use itoa::Buffer;
 use record::Answer;
 
 // the longest input of a program that reads a plan, in bytes
@@ -25,28 +26,40 @@ pub fn put_bytes<'a>(out: &'a mut [u8], at: usize, bytes: &'a [u8]) -> usize
     end
 }
 
-// Both, one behind the other, or neither.
+// All the parts, one behind the other, or none.
+pub fn put_all(out: &mut [u8], at: usize, parts: &[&[u8]]) -> usize
+    ensures value { result ≡ place_after out.old at (flat_map (λ part. part.now) parts.now) }
+    ensures out_after { out.new ≡ written out.old at (flat_map (λ part. part.now) parts.now) }
+{
+    if out.len() < at {
+        return at;
+    }
+    let mut room = out.len() - at;
+    for part in parts {
+        if room < part.len() {
+            return at;
+        }
+        room -= part.len();
+    }
+    let mut next = at;
+    for part in parts {
+        next = put_bytes(out, next, part);
+    }
+    next
+}
+
 pub fn put_both<'a>(out: &'a mut [u8], at: usize, first: &'a [u8], second: &'a [u8]) -> usize
     ensures value { result ≡ place_after out.old at (first.now ++ second.now) }
     ensures out_after { out.new ≡ written out.old at (first.now ++ second.now) }
 {
-    if out.len() < first.len()
-        || out.len() - first.len() < second.len()
-        || out.len() - first.len() - second.len() < at
-    {
-        return at;
-    }
-    let next = put_bytes(out, at, first);
-    put_bytes(out, next, second)
+    put_all(out, at, &[first, second])
 }
 
 pub fn put_decimal(out: &mut [u8], at: usize, n: u64) -> usize
     ensures value { result ≡ place_after out.old at (decimal n) }
     ensures out_after { out.new ≡ written out.old at (decimal n) }
 {
-    let mut digits = [0u8; 20];
-    let k = io::decimal(n, &mut digits);
-    put_bytes(out, at, &digits[..k])
+    put_bytes(out, at, Buffer::new().format(n).as_bytes())
 }
 
 // A label and a number.
@@ -54,20 +67,25 @@ pub fn put_numbered<'a>(out: &'a mut [u8], at: usize, label: &'a [u8], n: u64) -
     ensures value { result ≡ place_after out.old at (label.now ++ decimal n) }
     ensures out_after { out.new ≡ written out.old at (label.now ++ decimal n) }
 {
-    let mut digits = [0u8; 20];
-    let k = put_decimal(&mut digits, 0, n);
-    put_both(out, at, label, &digits[..k])
+    put_all(out, at, &[label, Buffer::new().format(n).as_bytes()])
 }
 
-// A plan's numbers of boxes and cables, by way of a text of its own: the buffer changes only where the whole has room.
+// A plan's numbers of boxes and cables.
 pub fn put_size(out: &mut [u8], at: usize, n: u16, m: u16) -> usize
     ensures value { result ≡ place_after out.old at (size_text n m) }
     ensures out_after { out.new ≡ written out.old at (size_text n m) }
 {
-    let mut text = [0u8; LONGEST];
-    let a = put_numbered(&mut text, 0, b"boxes ", n as u64);
-    let end = put_numbered(&mut text, a, b" cables ", m as u64);
-    put_bytes(out, at, &text[..end])
+    let (mut boxes, mut cables) = (Buffer::new(), Buffer::new());
+    put_all(
+        out,
+        at,
+        &[
+            b"boxes ",
+            boxes.format(n).as_bytes(),
+            b" cables ",
+            cables.format(m).as_bytes(),
+        ],
+    )
 }
 
 fn put_fault<'a>(out: &'a mut [u8], at: usize, who: &'a [u8], number: u8, place: usize) -> usize
@@ -76,12 +94,19 @@ fn put_fault<'a>(out: &'a mut [u8], at: usize, who: &'a [u8], number: u8, place:
     ensures out_after { out.new ≡ written out.old at (fault_line who.now number place) }
     ensures place_len_bound { length (fault_line who.now number place) ≤ longest }
 {
-    let mut line = [0u8; LONGEST];
-    let a = put_bytes(&mut line, 0, who);
-    let b = put_numbered(&mut line, a, b" refused ", number as u64);
-    let c = put_numbered(&mut line, b, b" at ", place as u64);
-    let end = put_bytes(&mut line, c, b"\n");
-    put_bytes(out, at, &line[..end])
+    let (mut numbers, mut places) = (Buffer::new(), Buffer::new());
+    put_all(
+        out,
+        at,
+        &[
+            who,
+            b" refused ",
+            numbers.format(number).as_bytes(),
+            b" at ",
+            places.format(place).as_bytes(),
+            b"\n",
+        ],
+    )
 }
 
 // The line of a refusal, which is never longer than LONGEST; an answer that refuses nothing has none.

@@ -6,20 +6,16 @@ ghost use Rattle.std.specs.Io.KnownBytes.{Appends};
 ghost use Rattle.streams.specs.Front.{AppendsFront};
 ghost use Rattle.mendbytes.specs.Bytes.{mend_bytes};
 
+use mendbytes::MendBytes;
 use std::io::{self, Read, Write};
-use streams::{read_full, write_full};
 
-// One byte more than the limit tells that the input is too long. A read or a write that fails ends the program with its error;
-// what is on standard output then is a front of the answer.
+// A read or a write that fails ends the program with its error; what is on standard output then is a front of the answer.
+#[tactic(auto, unfolding(mendbytes::specs::Bytes::mend_bytes))]
 fn run<R: Read, W: Write>(reader: &mut R, writer: &mut W) -> io::Result<()>
     ensures ok { OnOk result (IfSome (R.remaining reader.old) (λ xs. Appends (W.contents writer.old) (W.contents writer.new) (mend_bytes xs))) }
     ensures err { OnErr result (IfSome (R.remaining reader.old) (λ xs. AppendsFront (W.contents writer.old) (W.contents writer.new) (mend_bytes xs))) }
 {
-    let mut bytes = [0u8; lines::LIMIT + 1];
-    let n = read_full(reader, &mut bytes)?;
-    let mut out = [0u8; mendbytes::ROOM];
-    let len = mendbytes::bytes(&bytes[..n], &mut out);
-    write_full(writer, &out[..len])
+    streams::answer::<MendBytes, _, _, _>(reader, writer)
 }
 
 fn main(rt: HostRuntime) -> io::Result<()> {

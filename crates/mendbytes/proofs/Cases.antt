@@ -89,15 +89,14 @@ module _ (s : List ℕ) where
         let a : (x.list ++ x.mended) ++ x.certificate ≡ Three x = append_assoc x.list x.mended x.certificate in
         subst (λ (text : List ℕ). Begins text k third) a (begins {buffer = buffer} t (omega (arith, ap length a, three_fit b)))
 
-    module _ (h : length s ≤ input_limit) where
-      pub graded_bytes : {g : ℕ} → m.answer ≡ Grade g → Three (records_from s) ≡ mend_bytes s
-      graded_bytes f = told-bytes h (sym holds.answer ∙ f)
+    pub graded_bytes : {g : ℕ} → m.answer ≡ Grade g → Three (records_from s) ≡ printed (records_from s).answer (records_from s)
+    graded_bytes f = rw (sym holds.answer ∙ f) refl
 
-      pub refused-bytes : ((g : ℕ) → m.answer ≡ Grade g → ⊥) → refusal_line m.answer ≡ mend_bytes s
-      refused-bytes t = go m.answer t ∙ told-bytes h (sym holds.answer)
-        where
-          go : (a : Answer) → ((g : ℕ) → a ≡ Grade g → ⊥) → refusal_line a ≡ printed a (records_from s)
-          go Accepted t = refl
-          go (Grade g) t = absurd (t g refl)
-          go (PlanFault r q) t = refl
-          go (CertificateFault r q) t = refl
+    pub refused-bytes : ((g : ℕ) → m.answer ≡ Grade g → ⊥) → refusal_line m.answer ≡ printed (records_from s).answer (records_from s)
+    refused-bytes t = go m.answer t ∙ ap (λ (a : Answer). printed a (records_from s)) holds.answer
+      where
+        go : (a : Answer) → ((g : ℕ) → a ≡ Grade g → ⊥) → refusal_line a ≡ printed a (records_from s)
+        go Accepted t = refl
+        go (Grade g) t = absurd (t g refl)
+        go (PlanFault r q) t = refl
+        go (CertificateFault r q) t = refl

@@ -1,48 +1,31 @@
 -- `countlines::put_line` meets its contract. Assumes nothing.
-use Prim.Native.Nat.{ℕ, ◌≤◌}
-use mathlib.Core.List.{List, ◌++◌}
-use mathlib.Core.Path.{◌≡◌}
-use lib.ListN.{replicate, get_or}
+use Rattle.std.proofs.Common.{◌++◌, length, ap, ◌∙◌, arith}
 use Rattle.counting.specs.declared.Counts.{Counts}
-use Rattle.counting.specs.Counts.{max_size, counts_of}
 use Rattle.lines.specs.Lines.{decimal, newline}
-use Rattle.lines.proofs.Put.{Put, Puts.none, Puts.more, Begins, more_both}
-use Rattle.countlines.specs.Text.{blank, count_line}
-use Rattle.countlines.proofs.Lines.{counted-line, line_short, begins_as}
+use Rattle.countlines.specs.Text.{blank}
+use Rattle.lines.proofs.Put.{put_as}
+use Rattle.countlines.proofs.Lines.{told-line, told_first, told_more, told_begins}
 use Rattle.countlines.proofs.put_line.Goals as goal
 
--- the line in a buffer of its own
-line : (n : ℕ) (k : Counts) {a b c d e end : ℕ} {o p q r s last : List ℕ} → n ≤ max_size → k ≡ counts_of n
-    → Put (replicate 48 0) 0 (decimal n) a o → Put o a (blank ++ decimal (get_or k.of 0 0)) b p → Put p b (blank ++ decimal (get_or k.of 1 0)) c q
-    → Put q c (blank ++ decimal (get_or k.of 2 0)) d r → Put r d (blank ++ decimal (get_or k.of 3 0)) e s → Put s e newline end last → Begins (count_line n) end last
-line n k h is z y x w v u =
-    let l0 = more none (decimal n) z in
-    let l1 = more_both l0 blank (decimal (get_or k.of 0 0)) y in
-    let l2 = more_both l1 blank (decimal (get_or k.of 1 0)) x in
-    let l3 = more_both l2 blank (decimal (get_or k.of 2 0)) w in
-    let l4 = more_both l3 blank (decimal (get_or k.of 3 0)) v in
-    begins_as {buffer = replicate 48 0} (counted-line n is) (line_short n h) (more l4 newline u)
+pub loop-count-init : goal.loop-count-init
+loop-count-init c = let p = c.put_decimal-end.ensures in told_first c.args.size c.count_all.result.of (p.value, p.out_after)
+
+pub loop-count-preserved : goal.loop-count-preserved
+loop-count-preserved c =
+    let p = c.put_numbered-end.ensures in
+    let v = c.loop-count in
+    let q = put_as v.line v.end (ap (λ k. blank ++ decimal k) c.into.ensures) (p.value, p.out_after) in
+    told_more c.args.size c.count_all.result.of v.count-index (omega (arith, c.loop-count-test.true, ap (λ (x : Counts). length x.of) c.count_all.ensures)) v.invariant q
 
 pub slice_bounds-line-end : goal.slice_bounds-line-end
-slice_bounds-line-end c =
-    let z = c.put_decimal-a.ensures in
-    let y = c.put_numbered-b.ensures in
-    let x = c.put_numbered-c.ensures in
-    let w = c.put_numbered-d.ensures in
-    let v = c.put_numbered-e.ensures in
-    let u = c.put_bytes-end.ensures in
-    (line c.args.size c.count_all-counts.result c.requires c.count_all-counts.ensures (z.value, z.out_after) (y.value, y.out_after) (x.value, x.out_after)
-    (w.value, w.out_after) (v.value, v.out_after) (u.value, u.out_after)).within
+slice_bounds-line-end c = (told_begins c.args.size c.loop-count.count-index c.requires c.count_all.ensures (omega (arith, c.loop-count-test.false, ap (λ (x : Counts). length x.of) c.count_all.ensures)) c.loop-count.invariant).within
+
+pub slice_bounds-put_both-end : goal.slice_bounds-put_both-end
+slice_bounds-put_both-end c = (told_begins c.args.size c.loop-count.count-index c.requires c.count_all.ensures (omega (arith, c.loop-count-test.false, ap (λ (x : Counts). length x.of) c.count_all.ensures)) c.loop-count.invariant).long
 
 pub returns : goal.returns
 returns c =
-    let z = c.put_decimal-a.ensures in
-    let y = c.put_numbered-b.ensures in
-    let x = c.put_numbered-c.ensures in
-    let w = c.put_numbered-d.ensures in
-    let v = c.put_numbered-e.ensures in
-    let u = c.put_bytes-end.ensures in
-    let b =
-    line c.args.size c.count_all-counts.result c.requires c.count_all-counts.ensures (z.value, z.out_after) (y.value, y.out_after) (x.value, x.out_after)
-    (w.value, w.out_after) (v.value, v.out_after) (u.value, u.out_after) in
-    record { value = rw b.front at c.put_bytes.ensures.value; out_after = rw b.front at c.put_bytes.ensures.out_after }
+    let b = told_begins c.args.size c.loop-count.count-index c.requires c.count_all.ensures (omega (arith, c.loop-count-test.false, ap (λ (x : Counts). length x.of) c.count_all.ensures)) c.loop-count.invariant in
+    let p = c.put_both.ensures in
+    let q = put_as c.args.out.now c.args.at (ap (λ l. l ++ newline) b.front ∙ told-line c.args.size c.count_all.ensures) (p.value, p.out_after) in
+    record { value = q.0; out_after = q.1 }

@@ -1,38 +1,34 @@
 -- `gradeline::put_grade` meets its contract. Assumes nothing.
-use Prim.Native.Nat.{ℕ, ◌<◌}
-use mathlib.Core.List.{List, ◌++◌}
-use lib.ListN.{replicate}
-use native.Mathlib.Omega.{arith}
+use Rattle.std.proofs.Common.{◌≡◌, ℕ, ◌<◌, List, [], ◌++◌, arith, ◌∙◌, append_assoc}
 use Rattle.record.specs.declared.Answer.TheVariants.{Grade}
 use Rattle.lines.specs.Lines.{decimal, grade_text, newline, size_text}
-use Rattle.lines.proofs.Put.{Put, Puts.none, Puts.more, Begins, more_both, begins}
+use Rattle.lines.proofs.Digits.{decimal-printed}
+use Rattle.lines.proofs.Lengths.{size_begins}
+use Rattle.lines.proofs.Put.{put_as}
 use Rattle.gradeline.specs.Line.{graded_line}
 use Rattle.gradeline.proofs.Cases.{graded_short}
 use Rattle.gradeline.proofs.put_grade.Goals as goal
 
--- the line in a buffer of its own
-text : (n m k : ℕ) {a b end : ℕ} {first second last : List ℕ} → n < 65536 → m < 65536 → k < 256 → Put (replicate 48 0) 0 (size_text n m) a first
-    → Put first a (grade_text ++ decimal k) b second → Put second b newline end last → Begins (graded_line (Grade k) n m) end last
-text n m k h i j p q r =
-    begins {buffer = replicate 48 0} (more (more_both (more none (size_text n m) p) grade_text (decimal k) q) newline r) (graded_short n m k h i j)
+in_turn : (a b c d : List ℕ) → a ++ (b ++ (c ++ d)) ≡ a ++ b ++ c ++ d
+in_turn a b c d = simp append_assoc
 
-pub slice_bounds-line-end : goal.slice_bounds-line-end
-slice_bounds-line-end c =
-    let p = c.put_size-a.ensures in
-    let q = c.put_numbered-b.ensures in
-    let r = c.put_bytes-end.ensures in
-    let a = c.args in
-    (text a.n a.m a.grade (omega (arith, c.ranges)) (omega (arith, c.ranges)) (omega (arith, c.ranges)) (p.value, p.out_after) (q.value, q.out_after) (r.value, r.out_after)).within
+parts : (n m k : ℕ) {xs ys : List ℕ} → xs ≡ size_text n m → ys ≡ decimal k → xs ++ (grade_text ++ (ys ++ (newline ++ []))) ≡ graded_line (Grade k) n m
+parts n m k d e = rw (d, e) (in_turn (size_text n m) grade_text (decimal k) newline)
+
+pub slice_bounds-put_all-end : goal.slice_bounds-put_all-end
+slice_bounds-put_all-end c =
+    let p = c.put_size-end.ensures in
+    (size_begins c.args.n c.args.m (omega (arith, c.ranges.n.fits)) (omega (arith, c.ranges.m.fits)) (p.value, p.out_after)).long
 
 pub returns : goal.returns
 returns c =
-    let p = c.put_size-a.ensures in
-    let q = c.put_numbered-b.ensures in
-    let r = c.put_bytes-end.ensures in
     let a = c.args in
-    let b = text a.n a.m a.grade (omega (arith, c.ranges)) (omega (arith, c.ranges)) (omega (arith, c.ranges)) (p.value, p.out_after) (q.value, q.out_after) (r.value, r.out_after) in
-    record {
-      value = rw b.front at c.put_bytes.ensures.value;
-      out_after = rw b.front at c.put_bytes.ensures.out_after;
-      m_len_bound = graded_short a.n a.m a.grade (omega (arith, c.ranges)) (omega (arith, c.ranges)) (omega (arith, c.ranges));
-    }
+    let p = c.put_size-end.ensures in
+    let q = c.put_all.ensures in
+    let n : a.n < 65536 = omega (arith, c.ranges.n.fits) in
+    let m : a.m < 65536 = omega (arith, c.ranges.m.fits) in
+    let k : a.grade < 256 = omega (arith, c.ranges.grade.fits) in
+    let b = size_begins a.n a.m n m (p.value, p.out_after) in
+    let e = c.as_bytes.ensures.value ∙ c.format.ensures.text ∙ decimal-printed a.grade (omega (arith, k)) in
+    let t = put_as a.out.now 0 (parts a.n a.m a.grade b.front e) (q.value, q.out_after) in
+    record { value = t.0; out_after = t.1; m_len_bound = graded_short a.n a.m a.grade n m k }

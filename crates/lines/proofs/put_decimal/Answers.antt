@@ -1,10 +1,11 @@
 -- `lines::put_decimal` meets its contract. Assumes nothing.
-use mathlib.Core.Path.{◌∙◌}
-use Rattle.lines.proofs.Digits.{decimal-digits}
+use Rattle.std.proofs.Common.{◌∙◌}
+use Rattle.lines.proofs.Digits.{decimal-printed}
+use Rattle.lines.proofs.Put.{put_as}
 use Rattle.lines.proofs.put_decimal.Goals as goal
 
 pub returns : goal.returns
 returns c =
-    let d = c.decimal-k.ensures in
-    let e = d.digits ∙ decimal-digits _ _ d.len in
-    record { value = rw e at c.put_bytes.ensures.value; out_after = rw e at c.put_bytes.ensures.out_after }
+    let p = c.put_bytes.ensures in
+    let q = put_as c.args.out.now c.args.at (c.as_bytes.ensures.value ∙ c.format.ensures.text ∙ decimal-printed c.args.n c.ranges.n.fits) (p.value, p.out_after) in
+    record { value = q.0; out_after = q.1 }

@@ -1,22 +1,12 @@
 -- `lines::put_numbered` meets its contract. Assumes nothing.
-use Prim.Native.Nat.{ℕ, ◌^◌, ◌<◌}
-use mathlib.Core.List.{List}
-use lib.ListN.{replicate}
-use native.Mathlib.Omega.{arith}
-use Rattle.lines.specs.Lines.{decimal}
-use Rattle.lines.proofs.Digits.{decimal-short}
-use Rattle.lines.proofs.Put.{Put, Puts.none, Puts.more, Begins, begins}
+use Rattle.std.proofs.Common.{◌++◌, ap, ◌∙◌, append-nil}
+use Rattle.lines.proofs.Digits.{decimal-printed}
+use Rattle.lines.proofs.Put.{put_as}
 use Rattle.lines.proofs.put_numbered.Goals as goal
-
--- the digits in a buffer of their own
-digits : (n : ℕ) {next : ℕ} {out : List ℕ} → n < 2 ^ 64 → Put (replicate 20 0) 0 (decimal n) next out → Begins (decimal n) next out
-digits n h p = begins {buffer = replicate 20 0} (more none (decimal n) p) (decimal-short 19 n (omega arith))
-
-pub slice_bounds-digits-end : goal.slice_bounds-digits-end
-slice_bounds-digits-end c = let p = c.put_decimal-k.ensures in (digits c.args.n (omega (arith, c.ranges)) (p.value, p.out_after)).within
 
 pub returns : goal.returns
 returns c =
-    let p = c.put_decimal-k.ensures in
-    let b = digits c.args.n (omega (arith, c.ranges)) (p.value, p.out_after) in
-    record { value = rw b.front at c.put_both.ensures.value; out_after = rw b.front at c.put_both.ensures.out_after }
+    let p = c.put_all.ensures in
+    let e = c.as_bytes.ensures.value ∙ c.format.ensures.text ∙ decimal-printed c.args.n c.ranges.n.fits in
+    let q = put_as c.args.out.now c.args.at (ap (λ l. c.args.label.now ++ l) (append-nil c.as_bytes.result.now ∙ e)) (p.value, p.out_after) in
+    record { value = q.0; out_after = q.1 }

@@ -1,10 +1,10 @@
 -- What is written is what is printed for the whole input, or a front of it: one byte more than the limit tells that the input is too long.
-use Rattle.std.proofs.Common.{◌≡◌, ℕ, ◌<◌, ◌≤◌, ◌+◌, List, length, arith}
+use Rattle.std.proofs.Common.{◌≡◌, ℕ, ◌<◌, ◌≤◌, List, length, arith}
 use Rattle.std.proofs.lemmas.Result.{on_ok_weaker, on_err_weaker}
 use Rattle.std.specs.Io.KnownBytes.{Appends}
 use lib.ListN.{replicate, length-replicate}
 use borrow.Author.Tests.{lt-ltb}
-use Rattle.lines.specs.Lines.{too_long_line, input_limit, limited, place_after, written}
+use Rattle.lines.specs.Lines.{too_long_line, input_limit, limited}
 use Rattle.lines.proofs.Put.{Put, Begins, Puts.none, Puts.more, begins}
 use Rattle.streams.specs.Front.{AppendsFront}
 use Rattle.streams.proofs.Limit.{of_input}
