@@ -1,18 +1,12 @@
 -- How long the line is. Assumes nothing.
 use Prim.Native.Nat.{ℕ, ◌<◌, ◌≤◌}
-use mathlib.Core.List.{List}
-use mathlib.Core.Path.{◌≡◌, ap, ◌∙◌}
 use native.Mathlib.Omega.{arith}
 use lib.ListN.{length, length-append}
-use borrow.Author.Tests.{lt-ltb, le-ltb}
-use Rattle.record.specs.declared.Answer.{Answer}
 use Rattle.record.specs.declared.Answer.TheVariants.{Grade}
-use Rattle.checker.specs.declared.Graded.{Graded}
-use Rattle.checker.specs.Check.{grade_of}
-use Rattle.lines.specs.Lines.{decimal, too_long_line, refusal_line, input_limit}
+use Rattle.lines.specs.Lines.{decimal}
 use Rattle.lines.proofs.Digits.{decimal-short}
 use Rattle.lines.proofs.Lengths.{size_short}
-use Rattle.gradeline.specs.Line.{graded_line, grade_line}
+use Rattle.gradeline.specs.Line.{graded_line}
 
 -- 48 bytes are enough
 pub graded_short : (n m k : ℕ) → n < 65536 → m < 65536 → k < 256 → length (graded_line (Grade k) n m) ≤ 48
