@@ -14,8 +14,7 @@ use Rattle.connectivity.proofs.Additions.{topological-simple}
 use Rattle.connectivity.proofs.Sequence.{build-tally, rule_adds, adds_rule}
 use Rattle.connectivity.specs.Certificate.{Certificate}
 use Rattle.reading.specs.Plan.{Plan, plan}
-use Rattle.reading.specs.Code.{plan_read}
-use Rattle.reading.specs.declared.PlanRead.{PlanRead}
+use Rattle.reading.specs.Code.{plan_read, PlanTold}
 use Rattle.reading.proofs.Plans.{accepted, accepts, injective}
 use Rattle.certificates.specs.Records.{certificate}
 use Rattle.checker.specs.Check.{plan_graph, on_certificate, certificate_answer, on_plan, check_of}
@@ -50,7 +49,7 @@ pub accepted_by_calls : AcceptedByCalls
 accepted_by_calls = kind3_calls
 
 pub plan-accepted : PlanAccepted
-plan-accepted P bp = (λ e. let r = accepted P bp e in (r.0, record { allowed = r.1; bytes = r.2 }), λ q. rw q.1.bytes (ap (λ (x : PlanRead). x.answer) (accepts q.0 q.1.allowed)))
+plan-accepted P bp = (λ e. let r = accepted P bp e in (r.0, record { allowed = r.1; bytes = r.2 }), λ q. rw q.1.bytes (ap (λ (x : PlanTold). x.answer) (accepts q.0 q.1.allowed)))
 
 -- a plan's fault is the checker's, and no other is a plan's
 not_a_plan_fault : (x : Read Certificate) {r q : ℕ} → on_certificate x ≡ PlanFault r q → ⊥

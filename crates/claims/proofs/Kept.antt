@@ -14,9 +14,8 @@ use Rattle.connectivity.specs.Certificate.{Certificate}
 use Rattle.connectivity.specs.Path.{Path}
 use Rattle.graph.specs.Limits.{max_edges}
 use Rattle.graph.specs.declared.GraphTable.{GraphTable}
-use Rattle.reading.specs.declared.PlanRead.{PlanRead}
 use Rattle.reading.specs.Plan.{Plan, plan, plan_bytes}
-use Rattle.reading.specs.Code.{plan_read, whole_plan, leading_plan}
+use Rattle.reading.specs.Code.{plan_read, whole_plan, leading_plan, PlanTold}
 use Rattle.certificates.specs.Tests.{all_below, is_branch}
 use Rattle.certificates.specs.Records.{start as readStart, further_path, certificate}
 use Rattle.checker.specs.Check.{plan_graph, on_certificate, certificate_answer, on_plan, check_of, on_leading, grade_of}
@@ -71,7 +70,7 @@ leads_same s = ap (λ (x : Read Plan). plan_read x) (plan-same s) ∙ go (plan s
     go (Refused r p) = refl
 
 rewrites_same : (P buffer : List ℕ) → earlier.plan_rewritten P buffer ≡ plan_rewritten P buffer
-rewrites_same P buffer = ap (λ (x : PlanRead). rewritten x.answer buffer (with_plan buffer x.plan)) (reads_same P) ∙ go (whole_plan P).answer
+rewrites_same P buffer = ap (λ (x : PlanTold). rewritten x.answer buffer (with_plan buffer x.plan)) (reads_same P) ∙ go (whole_plan P).answer
   where
     go : (a : Answer) → rewritten (answer_before a) buffer (with_plan buffer (whole_plan P).plan) ≡ rewritten a buffer (with_plan buffer (whole_plan P).plan)
     go Accepted = refl
@@ -115,7 +114,7 @@ by_same (PlanFault r p) g = (refl, refl)
 by_same (CertificateFault r p) g = (refl, refl)
 
 pub measures_same : (P : List ℕ) → earlier.length_from P ≡ made_before (length_from P)
-measures_same P = ap (λ (x : PlanRead). length_by x.answer x.plan.graph) (reads_same P) ∙ (by_same (whole_plan P).answer (whole_plan P).plan.graph).0
+measures_same P = ap (λ (x : PlanTold). length_by x.answer x.plan.graph) (reads_same P) ∙ (by_same (whole_plan P).answer (whole_plan P).plan.graph).0
 
 pub fitted-same : (buffer : List ℕ) (m : Made) → fitted buffer (made_before m) ≡ made_before (fitted buffer m)
 unfolding fitted
@@ -129,7 +128,7 @@ pub makes_same : (P buffer : List ℕ) → earlier.made_from P buffer ≡ made_b
 makes_same P buffer = ap (fitted buffer) (measures_same P) ∙ fitted-same buffer (length_from P)
 
 record_same : (P : List ℕ) → earlier.record_from P ≡ record_from P
-record_same P = ap (λ (x : PlanRead). record_by x.answer x.plan.graph) (reads_same P) ∙ (by_same (whole_plan P).answer (whole_plan P).plan.graph).1
+record_same P = ap (λ (x : PlanTold). record_by x.answer x.plan.graph) (reads_same P) ∙ (by_same (whole_plan P).answer (whole_plan P).plan.graph).1
 
 fills_same : (P buffer : List ℕ) → earlier.filled_from P buffer ≡ filled_from P buffer
 fills_same P buffer = ap (filled_by buffer) (record_same P)

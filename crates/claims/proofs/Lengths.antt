@@ -19,8 +19,7 @@ use Rattle.certificates.specs.Lengths.{record_numbers, wide}
 use Rattle.certificates.proofs.Lengths.{numbers_bytes, bytes_count, numbers_count}
 use Rattle.graph.specs.declared.GraphTable.{GraphTable}
 use Rattle.reading.specs.Plan.{Plan, plan}
-use Rattle.reading.specs.Code.{whole_plan, plan_read}
-use Rattle.reading.specs.declared.PlanRead.{PlanRead}
+use Rattle.reading.specs.Code.{whole_plan, plan_read, PlanTold}
 use Rattle.checker.specs.Check.{plan_graph, check_of}
 use Rattle.certifier.specs.declared.Made.{Made}
 use Rattle.certifier.specs.Made.{made, length_by, length_from, record_by, record_from, made_from, filled_from}
@@ -158,7 +157,7 @@ stays_on P bp buffer e n = go (ltb (length buffer) 1536) refl
         (ap made_before w.0 ∙ rw (t, e), w.1 ∙ rw (t, e))
 
 pub bytes_stay : BytesStay
-bytes_stay P bp buffer = subst (λ (x : PlanRead). EarlierKept P buffer x.answer x.plan.graph) (sym (reads_same P)) (go (whole_plan P).answer refl)
+bytes_stay P bp buffer = subst (λ (x : PlanTold). EarlierKept P buffer x.answer x.plan.graph) (sym (reads_same P)) (go (whole_plan P).answer refl)
   where
     go : (a : Answer) → (whole_plan P).answer ≡ a → EarlierKept P buffer (answer_before a) (whole_plan P).plan.graph
     go Accepted e n = stays_on P bp buffer e n

@@ -11,8 +11,7 @@ use Rattle.record.specs.Write.{overwritten}
 use Rattle.record.specs.declared.Answer.TheVariants.{Accepted, Grade, PlanFault}
 use Rattle.record.proofs.Laws.{ended-there}
 use Rattle.reading.specs.Plan.{Plan, Allowed, plan, plan_bytes}
-use Rattle.reading.specs.Code.{graph_of, table_of, whole_plan, plan_read}
-use Rattle.reading.specs.declared.PlanRead.{PlanRead}
+use Rattle.reading.specs.Code.{graph_of, table_of, whole_plan, plan_read, PlanTold}
 use Rattle.reading.proofs.Plans.{plan-law, accepted, accepted_graph, accepts}
 use Rattle.construction.proofs.PlanCertificates.{plan-certified, plan-rules}
 use Rattle.construction.proofs.AnyWords.{plan-any_steps}
@@ -147,5 +146,5 @@ writes_certified P buffer bp x = go (ended plan P 0) refl (ap (λ (m : Made). m.
 
 pub certificate_of-plan : CertificateOfPlan
 certificate_of-plan P buffer p i x =
-    let g : (whole_plan P).plan.graph ≡ graph_of p = rw i.bytes (accepted_graph (plan_bytes p) p (ap (λ (r : PlanRead). r.plan) (accepts p i.allowed))) in
+    let g : (whole_plan P).plan.graph ≡ graph_of p = rw i.bytes (accepted_graph (plan_bytes p) p (ap (λ (r : PlanTold). r.plan) (accepts p i.allowed))) in
     written_is P buffer x ∙ ap certificate_of g ∙ ap (λ (l : List ℕ). list_bytes number_bytes l) (plan-any_steps p i.allowed (2 * p.n + 1) (omega arith))

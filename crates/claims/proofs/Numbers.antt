@@ -15,8 +15,7 @@ use Rattle.connectivity.specs.Certificate.{Certificate}
 use Rattle.connectivity.specs.Lists.{In}
 use Rattle.graph.specs.Limits.{max_edges}
 use Rattle.reading.specs.Plan.{Plan, Allowed, plan, plan_bytes}
-use Rattle.reading.specs.declared.PlanRead.{PlanRead}
-use Rattle.reading.specs.Code.{graph_of, plan_read, whole_plan}
+use Rattle.reading.specs.Code.{graph_of, plan_read, whole_plan, PlanTold}
 use Rattle.reading.proofs.Plans.{accepts}
 use Rattle.certificates.specs.Records.{start as readStart, further_path, certificate as readCertificate}
 use Rattle.sessions.specs.declared.Opened.{Opened}
@@ -296,7 +295,7 @@ plan-alone l m a n h p e = subst (λ (ns : List ℕ). In 33 ns) n (subst (λ (x 
 behind_33 : (p : Plan) → Allowed p → (C : List ℕ) (q : ℕ) → ¬ ((grade_of (plan_bytes p ++ C)).answer ≡ PlanFault 33 q)
 behind_33 p a C q e =
     let f = (plan-faults_first (plan_bytes p) C 33 q).0 (sym (ap (λ (x : Graded). x.answer) (program_checks p a C)) ∙ e) in
-    let g : (whole_plan (plan_bytes p)).answer ≡ Accepted = ap (λ (x : PlanRead). x.answer) (accepts p a) in
+    let g : (whole_plan (plan_bytes p)).answer ≡ Accepted = ap (λ (x : PlanTold). x.answer) (accepts p a) in
     let z : ◌≡◌ {A = ℕ} 0 1 = cc in
     omega arith
 

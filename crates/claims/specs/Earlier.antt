@@ -13,9 +13,8 @@ use Rattle.connectivity.specs.Path.{Path}
 use Rattle.connectivity.specs.Build.{taken, final, further_count}
 use Rattle.connectivity.specs.Certificate.{Certificate, Certificate.separation, Certificate.tree, Certificate.ears, Certificate.build}
 use Rattle.graph.specs.Limits.{min_vertices, max_vertices, max_edges}
-use Rattle.reading.specs.declared.PlanRead.{PlanRead}
 use Rattle.reading.specs.Plan.{Plan, proper, follows, plan_bytes}
-use Rattle.reading.specs.Code.{plan_read}
+use Rattle.reading.specs.Code.{plan_read, PlanTold}
 use Rattle.certificates.specs.Tests.{nobody, with, all_below, both_hold, no_edge_between, path_along, path_new, ear_along, ear_ends, ear_new, ear_taken, Start, start_ends, start_taken, is_branch, in_build, ends_in, ends_apart}
 use Rattle.certificates.specs.Records.{link_of, first_ear, later_ears, starting}
 use Rattle.checker.specs.declared.Graded.{Graded}
@@ -110,10 +109,10 @@ unfoldable pub certificate : Graph → Reader Certificate
 certificate g = number needs⟨ 8 ⟩ within 0 3 needs⟨ 29 ⟩ (λ k. ltb k 3 || leb (g.n + 2) (edge_count g)) ▹ body g
 
 -- READING A PLAN, WRITING IT AGAIN, CHECKING, THE CHECKING PROGRAM
-abbrev pub whole_plan : List ℕ → PlanRead
+abbrev pub whole_plan : List ℕ → PlanTold
 whole_plan s = plan_read (ended plan s 0)
 
-abbrev pub leading_plan : List ℕ → PlanRead
+abbrev pub leading_plan : List ℕ → PlanTold
 leading_plan s = plan_read (plan s 0)
 
 abbrev pub plan_rewritten : List ℕ → List ℕ → List ℕ

@@ -3,9 +3,8 @@ use Rattle.std.specs.Prelude.{ℕ, ◌+◌, ◌-◌, ◌≤◌, ◌<◌, List, [
 use Rattle.record.specs.Read.{Read, Read.Got, Read.Refused, Bytes}
 use Rattle.record.specs.declared.Answer.{Answer}
 use Rattle.record.specs.declared.Answer.TheVariants.{Accepted, Grade, PlanFault, CertificateFault}
-use Rattle.reading.specs.declared.PlanRead.{PlanRead}
 use Rattle.reading.specs.Plan.{Plan, Allowed, plan_bytes}
-use Rattle.reading.specs.Code.{whole_plan, leading_plan}
+use Rattle.reading.specs.Code.{whole_plan, leading_plan, PlanTold}
 use Rattle.sessions.specs.Session.{opening, start_step, path_step}
 use Rattle.checker.specs.declared.Graded.{Graded}
 use Rattle.checker.specs.Check.{check_of, grade_of}
@@ -65,7 +64,7 @@ abbrev pub read_before : {A : Type 0} → Read A → Read A
 read_before (Got v next) = Got v next
 read_before (Refused r p) = Refused (number_before r) p
 
-abbrev pub plan_before : PlanRead → PlanRead
+abbrev pub plan_before : PlanTold → PlanTold
 plan_before r = record { answer = answer_before r.answer; plan = r.plan; next = r.next }
 
 abbrev pub graded_before : Graded → Graded
