@@ -390,6 +390,7 @@ impl Build {
 }
 
 // The six paths between the four.
+// n within the capacity is the caller's one test, and no type of its own: see paths' `read_rest`.
 fn read_six<'a>(
     s: &'a [u8],
     rows: &'a [u64; GraphTable::ROW_WORDS],

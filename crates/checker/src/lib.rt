@@ -20,6 +20,7 @@ pub struct Graded {
 }
 
 // Kind 3 asks for at least n + 2 pairs of adjacent vertices.
+// n within the capacity is the caller's one test, and no type of its own: see paths' `read_rest`.
 fn enough(n: u16, d: u16, k: u16) -> bool
     requires { n ≤ capacity }
     ensures { result ≡ (ltb k 3 || leb (n + 2) d) }

@@ -57,6 +57,7 @@ impl Ears {
 }
 
 // One ear beside those before it. Its vertices are read again where it is taken in, so that no list of them is kept.
+// n within the capacity is the caller's one test, and no type of its own: see paths' `read_rest`.
 fn read_ear(
     s: &[u8],
     rows: &[u64; GraphTable::ROW_WORDS],

@@ -85,6 +85,7 @@ fn read_edge(s: &[u8], n: u16, before: (u16, u16), at: usize) -> Result<((u16, u
 }
 
 // The edges of a plan, joined in the rows as they come.
+// n within the capacity is the caller's one test, and no type of its own: see paths' `read_rest`.
 fn read_edges(
     s: &[u8],
     n: u16,

@@ -5,7 +5,8 @@ ghost use Rattle.std.specs.Prelude.{◌≡◌, length};
 ghost use Rattle.record.specs.Number.{number_at, fault_number, fault_place, number_bytes};
 ghost use Rattle.record.specs.Write.{written_number, with_number};
 
-// What stands at a place: a number with the place after it, or what is wrong with it and where.
+// What stands at a place: a number with the place after it, or what is wrong with it and where. The format's form takes it apart by `let .. else`,
+// and each record has an answer of its own for what is wrong, so this is no Result.
 #[derive(Clone, Copy)]
 pub enum Number {
     Value(u16, usize),

@@ -89,6 +89,7 @@ fn none_between(rows: &[u64; GraphTable::ROW_WORDS], side: VertexSet, rest: Vert
 }
 
 // The vertices below n that are neither removed nor in the side.
+// n within the capacity is the caller's one test, and no type of its own: see paths' `read_rest`.
 fn rest_of(n: u16, removed: VertexSet, side: VertexSet) -> VertexSet
     requires { n ≤ capacity }
     ensures { RestOf n removed.words side.words result.words }

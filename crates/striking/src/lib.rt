@@ -18,6 +18,7 @@ pub struct Edges {
 }
 
 // Joins every pair of the n vertices.
+// n within the capacity is the caller's one test, and no type of its own: see paths' `read_rest`.
 fn complete(rows: &mut [u64; GraphTable::ROW_WORDS], n: u16)
     requires { n ≤ capacity }
     ensures { rows.new ≡ completed rows.old n }
