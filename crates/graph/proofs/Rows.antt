@@ -1,13 +1,13 @@
 -- Where a bit of a row stands, and a row as a vertex set. Assumes nothing.
-use Prim.Native.Nat.{ℕ, zero, suc, ◌+◌, ◌*◌, ◌/◌, ◌%◌, ◌^◌, ◌<◌, ◌≤◌}
-use mathlib.Core.List.{List, ◌∷◌}
+use Prim.Native.Nat.{ℕ, zero, suc, ◌+◌, ◌*◌, ◌/◌, ◌%◌, ◌^◌, ◌<◌}
+use mathlib.Core.List.{List}
 use mathlib.Core.Bool.{Bool, true, false, cond, ◌&&◌}
-use mathlib.Core.Path.{◌≡◌, refl, ap, ◌∙◌}
+use mathlib.Core.Path.{◌≡◌, refl, sym, ap, ◌∙◌}
 use mathlib.Core.Logic.{◌≢◌}
 use lib.Dec.{eqb, ltb}
-use lib.ListN.{length, get_or, take, drop, set, length-set}
-use lib.Seq.{drop-cons}
-use native.Mathlib.Numerals.{add-one}
+use lib.ListN.{length, get_or, set, length-set}
+use lib.Seq.{ext_get_or, get_or-set_same, get_or-set_other}
+use native.Mathlib.Decide.{ℕ_discrete}
 use borrow.Author.Tests.{lt-ltb, ltb-true, ltb-false, ne_eqb}
 use native.Mathlib.Omega.{arith}
 use Rattle.vertexset.specs.Set.{word_count, has, with_bit, without_bit, empty_set, capacity}
@@ -48,13 +48,17 @@ get_d_words rows zero i k h = absurd (omega arith)
 get_d_words rows (suc j) i zero h = let z : i + 0 ≡ i = omega arith in rw z
 get_d_words rows (suc j) i (suc k) h = let z : i + suc k ≡ i + 1 + k = omega arith in rw z (get_d_words rows j (i + 1) k (omega arith))
 
--- the row is a part of the rows
-pub taken_words : (rows : List ℕ) (j i : ℕ) → i + j ≤ length rows → take j (drop i rows) ≡ words_from rows j i
-unfolding words_from
-taken_words rows zero i h = refl
-taken_words rows (suc j) i h =
-    let l : i < length rows = omega arith in
-    rw (drop-cons rows i 0, ← add-one i) (ap (λ ws. get_or rows i 0 ∷ ws) (taken_words rows j (i + 1) (omega arith)))
+-- one word more is copied
+pub copy_more : (ws : List ℕ) (i : ℕ) (w : ℕ → ℕ) → i < length ws → ((k : ℕ) → k < i → get_or ws k 0 ≡ w k) → (k : ℕ) → k < i + 1 → get_or (set ws i (w i)) k 0 ≡ w k
+copy_more ws i w h f k l = elim (ℕ_discrete k i) [
+  | yes e ↦ rw e (get_or-set_same ws i (w i) 0 h)
+  | no d ↦ get_or-set_other ws i k (w i) 0 d ∙ f k (omega arith)
+]
+
+-- the words that were copied are the row
+pub copied : (rows ws : List ℕ) (i : ℕ) → length ws ≡ word_count → ((k : ℕ) → k < word_count → get_or ws k 0 ≡ get_or rows (i + k) 0) → ws ≡ words_from rows word_count i
+copied rows ws i l h = ext_get_or 0 ws (words_from rows word_count i) (l ∙ sym (length_words rows word_count i))
+    (λ k j. let m : k < word_count = omega arith in h k m ∙ sym (get_d_words rows word_count i k m))
 
 -- THE ROW OF A VERTEX HAS THE VERTICES ADJACENT TO IT.
 pub row_adjacent : (rows : List ℕ) (u v : ℕ) → has (row_of rows u).words v ≡ adjacent_in rows u v

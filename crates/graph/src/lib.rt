@@ -57,8 +57,10 @@ pub fn row(rows: &[u64; GraphTable::ROW_WORDS], u: u16) -> VertexSet
         return set;
     }
     let first = u as usize * VertexSet::WORDS;
-    set.words
-        .copy_from_slice(&rows[first..first + VertexSet::WORDS]);
+    // a search with copy_from_slice here took 1.6 times as long
+    for i in 0..VertexSet::WORDS {
+        set.words[i] = rows[first + i];
+    }
     set
 }
 

@@ -1,7 +1,7 @@
 // A set of vertices (a set of boxes), by value: one bit for each vertex, 64 to a word.
 #![tactic(auto)]
 
-ghost use Rattle.std.specs.Prelude.{◌≡◌, ℕ, get_or, ◌<◌};
+ghost use Rattle.std.specs.Prelude.{◌≡◌, ℕ, ◌/◌, ◌%◌, ◌^◌, get_or, set, ◌<◌};
 ghost use Rattle.std.specs.Int.Bits.{bit_or};
 ghost use Rattle.vertexset.specs.Set.{has, empty_set, inserted, removed, count, wordwise, less, none, subset_of, next, below_set, word_count};
 ghost use Rattle.vertexset.specs.Walk.{standing, walk_from, going, meets, met, stepped};
@@ -37,32 +37,35 @@ impl VertexSet {
         }
     }
 
-    // The set of v alone; it is empty where v is past the words. Every word is looked at, so that the set can stay in registers: a processor
-    // waits where a word is stored and the whole set is loaded right after it.
-    fn only(v: u16) -> Self
-        ensures { result ≡ inserted empty_set v }
+    // The word of v becomes what f makes of it and of the bit of v, whichever function it is; nothing changes where v is past the words.
+    // Every word is looked at, so that the set can stay in registers: a processor waits where a word is stored and the whole set is
+    // loaded right after it.
+    fn change<F: Fn(u64, u64) -> u64>(mut self, v: u16, f: F) -> Self
+        requires { F.IsAlwaysCallable f }
+        ensures { (g : ℕ → ℕ → ℕ) → ((w b r : ℕ) → F.post f w b r → r ≡ g w b) → result ≡ record { words = set self.words (v / 64) (g (get_or self.words (v / 64) 0) (2 ^ (v % 64))) } }
     {
-        let mut words = [0u64; VertexSet::WORDS];
-        for (i, word) in words.iter_mut().enumerate() {
-            if i == (v / 64) as usize {
-                *word = 1u64 << (v % 64);
+        let k = (v / 64) as usize;
+        let bit = 1u64 << (v % 64);
+        for i in 0..VertexSet::WORDS {
+            if i == k {
+                self.words[i] = f(self.words[i], bit);
             }
         }
-        VertexSet { words }
+        self
     }
 
     // Nothing changes where v is past the words.
     pub fn insert(self, v: u16) -> Self
         ensures { result ≡ inserted self v }
     {
-        self.union(VertexSet::only(v))
+        self.change(v, |word, bit| word | bit)
     }
 
     // Nothing changes where v is no member, or past the words.
     pub fn remove(self, v: u16) -> Self
         ensures { result ≡ removed self v }
     {
-        self.minus(VertexSet::only(v))
+        self.change(v, |word, bit| word ^ (word & bit))
     }
 
     // Word i of the vertices below n: full in front of the word into which n falls, and empty behind it.

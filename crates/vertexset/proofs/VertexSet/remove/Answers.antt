@@ -1,9 +1,8 @@
--- `VertexSet::remove` meets its contract: the minus with the set of v alone. Assumes nothing.
+-- `VertexSet::remove` meets its contract. Assumes nothing.
 
-use mathlib.Core.Path.{◌∙◌}
+use Rattle.vertexset.specs.Set.{less}
 use borrow.Author.Rules.{rules}
-use Rattle.vertexset.proofs.Passed.{with_only_minus}
 use Rattle.vertexset.proofs.VertexSet.remove.Goals as goal
 
 pub returns : goal.returns
-returns c = c.minus.ensures ∙ rw c.only.ensures (with_only_minus c.args.self c.args.v (search rules))
+returns c = c.change.ensures less (λ w b r e. search rules)
