@@ -1,6 +1,6 @@
 -- What is decided of a plan record: its refusal, or the list and the mended plan, which are plans. Assumes nothing.
 use Prim.Native.Nat.{ℕ, ◌+◌, ◌-◌, ◌<◌, ◌≤◌}
-use mathlib.Core.List.{List, []}
+use mathlib.Core.List.{List}
 use mathlib.Core.Bool.{false}
 use mathlib.Core.Path.{◌≡◌, sym, ap, subst, ◌∙◌}
 use native.Mathlib.Omega.{arith}
@@ -9,14 +9,16 @@ use lib.ListN.{length}
 use lib.Seq.{take_all}
 use borrow.Author.Tests.{lt-ltb, le-ltb}
 use Rattle.record.specs.Read.{Read, Read.Got, Read.Refused, Bytes, ended}
-use Rattle.record.specs.declared.Answer.TheVariants.{Accepted, Grade}
-use Rattle.record.proofs.Faults.{NotAccepted}
+use Rattle.record.specs.declared.Answer.TheVariants.{PlanFault}
+use Rattle.std.specs.Prelude.{Ok, Err}
+use Rattle.record.specs.declared.Answer.{Answer}
+use Rattle.reading.proofs.Results.{ok_told}
 use Rattle.record.proofs.Laws.{ended-back}
 use Rattle.connectivity.specs.Lists.{In}
 use Rattle.connectivity.proofs.Edges.{AscendingEdges}
 use Rattle.graph.specs.Limits.{max_edges}
 use Rattle.reading.specs.Plan.{Plan, plan, Allowed, plan_bytes}
-use Rattle.reading.specs.Code.{graph_of, ends_array, table_of, plan_read, whole_plan}
+use Rattle.reading.specs.Code.{graph_of, ends_array, table_of, plan_read, whole_plan, plan_result}
 use Rattle.reading.specs.declared.PlanRead.{PlanRead}
 use Rattle.reading.specs.declared.PlanTable.{PlanTable}
 use Rattle.reading.proofs.Plans.{plan-law, accepted}
@@ -28,8 +30,8 @@ use Rattle.certifier.specs.Made.{record_from}
 use Rattle.striking.specs.declared.Edges.{Edges}
 use Rattle.striking.specs.Code.{edges_held, list_in}
 use Rattle.mending.specs.declared.Draft.{Draft}
-use Rattle.mending.specs.Mend.{merged, list_of, list_plan, mended_plan, Records, refusal, records_of, records_read, records_from}
-use Rattle.mending.specs.Code.{plan_in, Drafted}
+use Rattle.mending.specs.Mend.{merged, list_of, list_plan, mended_plan, records_of, records_read, records_from}
+use Rattle.mending.specs.Code.{plan_in, draft_in, decision}
 use Rattle.mending.proofs.Merged.{merged-length, merged-order}
 
 -- what is known of the list: the code finds it, and its pairs are proper and in strict cable order
@@ -39,15 +41,13 @@ pub record ListRight : Type 0 where
   pub ascending : (p : Plan) → Allowed p → AscendingEdges (list_of p)
 
 -- a plan that was refused
-
-pub refused-records : (s : List ℕ) {r : PlanRead} → r ≡ whole_plan s → NotAccepted r.answer → {d : Draft}
-    → Drafted d (record { answer = r.answer; list = []; mended = []; certificate = [] }) → Drafted d (records_from s)
+pub refused-records : (s : List ℕ) {a : Answer} → Err a ≡ plan_result (whole_plan s) → Err a ≡ decision (records_from s)
 unfolding plan_read records_read
-refused-records s {r} e k {d} j = go (ended plan s 0) e
+refused-records s {a} e = go (ended plan s 0) e
   where
-    go : (x : Read Plan) → r ≡ plan_read x → Drafted d (records_read x)
-    go (Got p next) e = absurd (k (ap (λ (y : PlanRead). y.answer) e))
-    go (Refused q w) e = subst (λ (y : PlanRead). Drafted d (record { answer = y.answer; list = []; mended = []; certificate = [] })) e j
+    go : (x : Read Plan) → Err a ≡ plan_result (plan_read x) → Err a ≡ decision (records_read x)
+    go (Got p next) e = cc
+    go (Refused q w) e = let f : a ≡ PlanFault q w = cc in rw f
 
 -- the plan of edges in an array that has room for them
 plan-in : {n k : ℕ} → n ≡ k → (es : List (ℕ × ℕ)) {x : Edges} → x ≡ edges_held es → length es ≤ max_edges → plan_in n x ≡ record { n = k; edges = es }
@@ -68,8 +68,8 @@ module _ (known : ListRight) (p : Plan) (a : Allowed p) where
       record { least = a.least; most = a.most; few = omega (arith, merged-length p.edges (list_of p)); each = merged-order p.n p.edges (0, 0) (list_of p) a.each l.each }
 
 -- what is written of a list and a mended plan
-abbrev records : Plan → Plan → Records
-records list mended = record { answer = Grade 3; list = plan_bytes list; mended = plan_bytes mended; certificate = record_from (plan_bytes mended) }
+abbrev drafts : Plan → Plan → Draft
+drafts list mended = draft_in (plan_bytes list) (plan_bytes mended) (record_from (plan_bytes mended))
 
 -- a plan that was accepted, and the list that was found of it
 pub record Listing (s : List ℕ) (t : PlanTable) (list : Edges) : Type 0 where
@@ -81,12 +81,13 @@ pub record Listing (s : List ℕ) (t : PlanTable) (list : Edges) : Type 0 where
   edges : edges_of t.ends t.m ≡ p.edges
   found : list ≡ edges_held (list_of p)
 
-pub listing : ListRight → (s : List ℕ) → Bytes s → {r : PlanRead} → r ≡ whole_plan s → r.answer ≡ Accepted → {list : Edges}
+pub listing : ListRight → (s : List ℕ) → Bytes s → {r : PlanRead} → Ok r ≡ plan_result (whole_plan s) → {list : Edges}
     → list ≡ edges_held (list_in r.plan.graph.rows r.plan.graph.n) → Listing s r.plan list
 unfolding records_read table_of graph_of
-listing known s bytes {r} e k l =
-    let a = accepted s bytes (ap (λ (x : PlanRead). x.answer) (sym e) ∙ k) in
-    let t : r.plan ≡ table_of a.0 = ap (λ (x : PlanRead). x.plan) e ∙ a.3 in
+listing known s bytes {r} e l =
+    let k = ok_told (whole_plan s).answer e in
+    let a = accepted s bytes k.0 in
+    let t : r.plan ≡ table_of a.0 = ap (λ (x : PlanRead). x.plan) k.1 ∙ a.3 in
     record {
       p = a.0;
       allowed = a.1;
@@ -107,11 +108,11 @@ module _ {s : List ℕ} {t : PlanTable} {list : Edges} (x : Listing s t list) wh
   list_count : list.count ≡ length (list_of p)
   list_count = ap (λ (y : Edges). y.count) x.found
 
-  pub too_many : max_edges - t.m < list.count → {d : Draft} → Drafted d (refusal 32 0) → Drafted d (records_from s)
+  pub too_many : max_edges - t.m < list.count → Err (PlanFault 32 0) ≡ decision (records_from s)
   unfolding records_of
-  too_many h j =
+  too_many h =
       let f : max_edges < length p.edges + length (list_of p) = omega (arith, x.count, list_count) in
-      rw (x.records, lt-ltb _ _ f) j
+      rw (x.records, lt-ltb _ _ f)
 
   module _ (h : list.count ≤ max_edges - t.m) where
     pub together : t.m + list.count ≤ max_edges
@@ -136,10 +137,8 @@ module _ {s : List ℕ} {t : PlanTable} {list : Edges} (x : Listing s t list) wh
         subst Allowed (sym mended_plan_lem) (mended_allowed known p x.allowed both),
       )
 
-      pub both_drafted : {d : Draft} → Drafted d (records (plan_in t.graph.n list) (plan_in t.graph.n mended)) → Drafted d (records_from s)
+      pub both_drafted : {d : Draft} → d ≡ drafts (plan_in t.graph.n list) (plan_in t.graph.n mended) → Ok d ≡ decision (records_from s)
       unfolding records_of
       both_drafted {d} j =
           let f : ltb max_edges (length p.edges + length (list_of p)) ≡ false = le-ltb _ _ both in
-          rw (x.records, f) (
-          subst (λ (y : Plan). Drafted d (records (list_plan p) y)) mended_plan_lem
-          (subst (λ (y : Plan). Drafted d (records y (plan_in t.graph.n mended))) list_plan_lem j))
+          rw (x.records, f) (ap (λ (y : Draft). Ok y) (j ∙ (λ i. drafts (list_plan_lem i) (mended_plan_lem i))))

@@ -3,5 +3,5 @@ pub mod Merging
 pub mod Recorded
 pub mod Decided
 pub mod Listed
-pub mod Mends
 pub mod Fits
+pub mod Mends

@@ -1,77 +1,76 @@
--- What a mend answers and leaves in the three buffers, by which of them has room. Assumes nothing.
-use Prim.Native.Nat.{ℕ, ◌-◌, ◌<◌, ◌≤◌}
-use mathlib.Core.List.{List}
-use mathlib.Core.Bool.{true, false, and-false}
-use mathlib.Core.Path.{◌≡◌, refl, ap, ◌∙◌}
+-- What a mend answers and leaves in the three buffers, by what was decided and which of them has room. Assumes nothing.
+use Prim.Native.Nat.{ℕ, ◌+◌, ◌<◌, ◌≤◌}
+use mathlib.Core.List.{List, []}
+use mathlib.Core.Bool.{Bool, true, false, cond}
+use mathlib.Core.Logic.{◌⊎◌}
+use mathlib.Core.Path.{◌≡◌, sym, ap, ◌∙◌}
 use native.Mathlib.Omega.{arith}
-use lib.Dec.{leb}
-use lib.ListN.{length, take, length-take}
-use borrow.Author.Tests.{lt-leb, le-leb}
-use Rattle.record.specs.Write.{overwritten}
-use Rattle.record.specs.declared.Answer.TheVariants.{PlanFault}
+use lib.Dec.{ltb}
+use lib.ListN.{length}
+use Rattle.std.specs.Prelude.{Ok, Err}
+use Rattle.record.specs.Read.{Read, Read.Got, Read.Refused, ended}
+use Rattle.record.specs.declared.Answer.{Answer}
+use Rattle.record.specs.declared.Answer.TheVariants.{Grade, PlanFault}
+use Rattle.record.proofs.Write.{overwritten-none}
+use Rattle.graph.specs.Limits.{max_edges}
+use Rattle.reading.specs.Plan.{Plan, plan}
 use Rattle.mending.specs.declared.Draft.{Draft}
-use Rattle.mending.specs.declared.Mended.{Mended}
-use Rattle.mending.specs.Mend.{Records, records_from, have_room, mend_from}
-use Rattle.mending.specs.Code.{Drafted}
-use Rattle.mending.proofs.Recorded.{held-part}
+use Rattle.mending.specs.Mend.{list_of, Records, refusal, records_of, records_read, records_from, mend_records, Outcome, wrote, mend_from}
+use Rattle.mending.specs.Code.{draft_in, decision}
+use Rattle.mending.proofs.Fits.{mend_short, mend_room, one_short}
 
-module _ {x : Records} {d : Draft} (w : Drafted d x) where
-  list_part : (take (d.list.length - 0) d.list.bytes ≡ x.list) × (d.list.length ≡ length x.list) × (d.list.length ≤ length d.list.bytes)
-  list_part = held-part x.list w.list w.list_fits
+-- what was decided tells the records
+record Told (x : Records) : Type 0 where
+  fault : (a : Answer) → Err a ≡ decision x → x ≡ record { answer = a; list = []; mended = []; certificate = [] }
+  draft : (d : Draft) → Ok d ≡ decision x → x ≡ record { answer = Grade 3; list = d.list.items; mended = d.mended.items; certificate = d.certificate.items }
 
-  mended_part : (take (d.mended.length - 0) d.mended.bytes ≡ x.mended) × (d.mended.length ≡ length x.mended) × (d.mended.length ≤ length d.mended.bytes)
-  mended_part = held-part x.mended w.mended w.mended_fits
+refusal_told : (r q : ℕ) → Told (refusal r q)
+refusal_told r q = record {
+  fault = λ a e. let f : PlanFault r q ≡ a = cc in ap (λ (y : Answer). record { answer = y; list = []; mended = []; certificate = [] }) f;
+  draft = λ d e. cc;
+}
 
-  certificate-part : take (d.length - 0) d.certificate ≡ x.certificate
-  certificate-part = let z : d.length - 0 ≡ d.length = omega arith in rw z w.certificate
+records_told : (p : Plan) → Told (records_of p)
+unfolding records_of
+records_told p = go (ltb max_edges (length p.edges + length (list_of p)))
+  where
+    go : (b : Bool) → Told (cond b (refusal 32 0) (mend_records p))
+    go true = refusal_told 32 0
+    go false = record {
+      fault = λ a e. cc;
+      draft = λ d e. let f : draft_in (mend_records p).list (mend_records p).mended (mend_records p).certificate ≡ d = cc in
+          ap (λ (y : Draft). record { answer = Grade 3; list = y.list.items; mended = y.mended.items; certificate = y.certificate.items }) f;
+    }
 
-  -- no record is longer than its array
-  pub list_short : d.list.length ≤ length d.list.bytes
-  list_short = list_part.2
+module _ (s list mended certificate : List ℕ) where
+  told : Told (records_from s)
+  unfolding records_read
+  told = go (ended plan s 0)
+    where
+      go : (x : Read Plan) → Told (records_read x)
+      go (Got p next) = records_told p
+      go (Refused r q) = refusal_told r q
 
-  pub mended_short : d.mended.length ≤ length d.mended.bytes
-  mended_short = mended_part.2
+  -- a refused plan leaves all as it is
+  abbrev pub refused : Answer → Outcome
+  refused a = record { answer = record { answer = a; list = 0; mended = 0; certificate = 0 }; list = list; mended = mended; certificate = certificate }
 
-  pub certificate-short : d.length ≤ length d.certificate
-  certificate-short = omega (arith, length-take d.length d.certificate, ap length w.certificate, w.size)
+  pub mend_refused : {a : Answer} → Err a ≡ decision (records_from s) → refused a ≡ mend_from s list mended certificate
+  mend_refused {a} e =
+      let x = told.fault a e in
+      sym (mend_room s list mended certificate (rw x (omega arith)) (rw x (omega arith)) (rw x (omega arith)) ∙ ap (λ (y : Records). wrote y list mended certificate) x
+      ∙ (λ i. record { answer = record { answer = a; list = 0; mended = 0; certificate = 0 }; list = overwritten-none list 0 i; mended = overwritten-none mended 0 i; certificate = overwritten-none certificate 0 i }))
 
-module _ (s list mended certificate : List ℕ) {d : Draft} (w : Drafted d (records_from s)) where
-  -- the answer, and the buffers as they then are
-  abbrev Meets : Mended → List ℕ → List ℕ → List ℕ → Type 0
-  Meets r l m c =
-      let o = mend_from s list mended certificate in
-      (r ≡ o.answer) × ((l ≡ o.list) × ((m ≡ o.mended) × (c ≡ o.certificate)))
+  -- the three records that are lent to be written
+  module _ {d : Draft} (e : Ok d ≡ decision (records_from s)) {f g h : List ℕ} (p : f ≡ d.list.items) (q : g ≡ d.mended.items) (r : h ≡ d.certificate.items) where
+    x : records_from s ≡ record { answer = Grade 3; list = f; mended = g; certificate = h }
+    x = rw (p, q, r) (told.draft d e)
 
-  untouched : have_room (records_from s) list mended certificate ≡ false → {r : Mended} → r ≡ record { answer = PlanFault 30 0; list = 0; mended = 0; certificate = 0 } → Meets r list mended certificate
-  unfolding mend_from
-  untouched f e = rw f (e, (refl, (refl, refl)))
+    -- a buffer is too short
+    pub mend_lacks : (length list < length f) ⊎ ((length mended < length g) ⊎ (length certificate < length h)) → refused (PlanFault 30 0) ≡ mend_from s list mended certificate
+    mend_lacks k = sym (mend_short s list mended certificate (one_short s list mended certificate (rw x k)))
 
-  module _ {r : Mended} (e : r ≡ record { answer = PlanFault 30 0; list = 0; mended = 0; certificate = 0 }) where
-    pub list_lacks : length list < d.list.length → Meets r list mended certificate
-    list_lacks h =
-        let l : length list < length (records_from s).list = omega (arith, (list_part w).1) in
-        untouched (rw (lt-leb _ _ l)) e
-
-    pub mended_lacks : length mended < d.mended.length → Meets r list mended certificate
-    mended_lacks h =
-        let l : length mended < length (records_from s).mended = omega (arith, (mended_part w).1) in
-        untouched (rw (lt-leb _ _ l) (and-false (leb (length (records_from s).list) (length list)))) e
-
-    pub certificate-lacks : length certificate < d.length → Meets r list mended certificate
-    certificate-lacks h =
-        let l : length certificate < length (records_from s).certificate = omega (arith, w.size) in
-        untouched (rw (lt-leb _ _ l, and-false (leb (length (records_from s).mended) (length mended))) (and-false (leb (length (records_from s).list) (length list)))) e
-
-  pub all-written : d.list.length ≤ length list → d.mended.length ≤ length mended → d.length ≤ length certificate → {l m c : List ℕ}
-      → l ≡ overwritten list 0 (take (d.list.length - 0) d.list.bytes) → m ≡ overwritten mended 0 (take (d.mended.length - 0) d.mended.bytes) → c ≡ overwritten certificate 0 (take (d.length - 0) d.certificate)
-      → Meets (record { answer = d.answer; list = d.list.length; mended = d.mended.length; certificate = d.length }) l m c
-  unfolding mend_from
-  all-written h i j {l} {m} {c} e f g =
-      let a : length (records_from s).list ≤ length list = omega (arith, (list_part w).1) in
-      let b : length (records_from s).mended ≤ length mended = omega (arith, (mended_part w).1) in
-      let k : length (records_from s).certificate ≤ length certificate = omega (arith, w.size) in
-      let t : have_room (records_from s) list mended certificate ≡ true = rw (le-leb _ _ a, le-leb _ _ b, le-leb _ _ k) in
-      rw t (
-        rw (w.answer, (list_part w).1, (mended_part w).1, w.size),
-        (e ∙ ap (overwritten list 0) (list_part w).0, (f ∙ ap (overwritten mended 0) (mended_part w).0, g ∙ ap (overwritten certificate 0) (certificate-part w))),
-      )
+    -- all is written
+    pub mend_writes : length f ≤ length list → length g ≤ length mended → length h ≤ length certificate
+        → wrote (record { answer = Grade 3; list = f; mended = g; certificate = h }) list mended certificate ≡ mend_from s list mended certificate
+    mend_writes a b c = sym (mend_room s list mended certificate (rw x a) (rw x b) (rw x c) ∙ ap (λ (y : Records). wrote y list mended certificate) x)

@@ -1,5 +1,5 @@
 -- Two arrays of edges as one: of which the next edge is, and what the loop over both knows. Assumes nothing.
-use Prim.Native.Nat.{ℕ, ◌+◌, ◌*◌, ◌<◌, ◌≤◌}
+use Prim.Native.Nat.{ℕ, ◌+◌, ◌-◌, ◌*◌, ◌<◌, ◌≤◌}
 use mathlib.Core.List.{List, [], ◌∷◌, ◌++◌, append-nil}
 use mathlib.Core.Bool.{Bool, true, false}
 use mathlib.Core.Path.{◌≡◌, refl, sym, ap, ◌∙◌}
@@ -47,15 +47,16 @@ module _ (a b : List ℕ) (i m j k : ℕ) where
       go false e = let l : k ≤ j = ltb-false _ _ e in absurd (clash (sym (second_none (omega arith) l)) t)
 
 module _ (a : List ℕ) (m : ℕ) (b : List ℕ) (k : ℕ) where
-  -- after i edges of the first and j of the second: these stand in the array, and with what is ahead they are all
-  pub record Merging (ends : List ℕ) (i j : ℕ) : Type 0 where
+  -- after i edges of the first and at of both: these stand in the array, and with what is ahead they are all
+  pub record Merging (ends : List ℕ) (i at : ℕ) : Type 0 where
     pub done : List (ℕ × ℕ)
     pub held : ends ≡ ends_array done
     pub long : length ends ≡ end_count
-    pub count : length done ≡ i + j
+    pub count : length done ≡ at
     pub first : i ≤ m
-    pub second : j ≤ k
-    pub all : done ++ merged (edges_ahead a i m) (edges_ahead b j k) ≡ merged (edges_of a m) (edges_of b k)
+    pub both : i ≤ at
+    pub second : at ≤ i + k
+    pub all : done ++ merged (edges_ahead a i m) (edges_ahead b (at - i) k) ≡ merged (edges_of a m) (edges_of b k)
 
   pub merge_start : length no_ends ≡ end_count → Merging no_ends 0 0
   merge_start l = record {
@@ -64,61 +65,68 @@ module _ (a : List ℕ) (m : ℕ) (b : List ℕ) (k : ℕ) where
     long = l;
     count = refl;
     first = omega arith;
+    both = omega arith;
     second = omega arith;
     all = rw (left_all a m, left_all b k);
   }
 
-  module _ {ends : List ℕ} {i j : ℕ} (c : Merging ends i j) (h : i + j < m + k) (few : m + k ≤ max_edges) where
+  module _ {ends : List ℕ} {i at : ℕ} (c : Merging ends i at) (h : at < m + k) (few : m + k ≤ max_edges) where
     -- the array with one edge more
     abbrev next : ℕ × ℕ → List ℕ
-    next e = set (set ends (2 * (i + j)) e.0) (2 * (i + j) + 1) e.1
+    next e = set (set ends (2 * at) e.0) (2 * at + 1) e.1
 
     next-held : (e : ℕ × ℕ) → next e ≡ ends_array (c.done ++ (e ∷ []))
     next-held e =
-        ap (λ (l : List ℕ). set (set l (2 * (i + j)) e.0) (2 * (i + j) + 1) e.1) c.held
+        ap (λ (l : List ℕ). set (set l (2 * at) e.0) (2 * at + 1) e.1) c.held
         ∙ ap (λ (n : ℕ). set (set (ends_array c.done) (2 * n) e.0) (2 * n + 1) e.1) (sym c.count)
         ∙ lay_edge c.done e.0 e.1 (omega (arith, c.count))
 
     next-long : (e : ℕ × ℕ) → length (next e) ≡ end_count
-    next-long e = length-set (set ends (2 * (i + j)) e.0) _ e.1 ∙ length-set ends _ e.0 ∙ c.long
+    next-long e = length-set (set ends (2 * at) e.0) _ e.1 ∙ length-set ends _ e.0 ∙ c.long
 
-    pub merge_first : takes_first (edges_ahead a i m) (edges_ahead b j k) ≡ true → Merging (next (edge_at a i)) (i + 1) j
+    pub merge_first : takes_first (edges_ahead a i m) (edges_ahead b (at - i) k) ≡ true → Merging (next (edge_at a i)) (i + 1) (at + 1)
     merge_first t =
-        let l = takes_there a b i m j k t in
-        let s : takes_first (edge_at a i ∷ edges_ahead a (i + 1) m) (edges_ahead b j k) ≡ true = rw (left_here a m l) at t in
+        let l = takes_there a b i m (at - i) k t in
+        let s : takes_first (edge_at a i ∷ edges_ahead a (i + 1) m) (edges_ahead b (at - i) k) ≡ true = rw (left_here a m l) at t in
+        let z : at + 1 - (i + 1) ≡ at - i = omega arith in
         record {
           done = c.done ++ (edge_at a i ∷ []);
           held = next-held (edge_at a i);
           long = next-long (edge_at a i);
           count = omega (arith, c.count, length-append c.done (edge_at a i ∷ []));
           first = omega arith;
-          second = c.second;
-          all = append_snoc c.done (edge_at a i) _
-              ∙ ap (λ (x : List (ℕ × ℕ)). c.done ++ x) (sym (merged-first (edge_at a i) (edges_ahead a (i + 1) m) (edges_ahead b j k) s))
-              ∙ ap (λ (x : List (ℕ × ℕ)). c.done ++ merged x (edges_ahead b j k)) (sym (left_here a m l)) ∙ c.all;
+          both = omega (arith, c.both);
+          second = omega (arith, c.second);
+          all = ap (λ (j : ℕ). c.done ++ (edge_at a i ∷ []) ++ merged (edges_ahead a (i + 1) m) (edges_ahead b j k)) z
+              ∙ append_snoc c.done (edge_at a i) _
+              ∙ ap (λ (x : List (ℕ × ℕ)). c.done ++ x) (sym (merged-first (edge_at a i) (edges_ahead a (i + 1) m) (edges_ahead b (at - i) k) s))
+              ∙ ap (λ (x : List (ℕ × ℕ)). c.done ++ merged x (edges_ahead b (at - i) k)) (sym (left_here a m l)) ∙ c.all;
         }
 
-    pub merge_second : takes_first (edges_ahead a i m) (edges_ahead b j k) ≡ false → Merging (next (edge_at b j)) i (j + 1)
+    pub merge_second : takes_first (edges_ahead a i m) (edges_ahead b (at - i) k) ≡ false → Merging (next (edge_at b (at - i))) i (at + 1)
     merge_second t =
-        let l = leaves_there a b i m j k c.first h t in
-        let s : takes_first (edges_ahead a i m) (edge_at b j ∷ edges_ahead b (j + 1) k) ≡ false = rw (left_here b k l) at t in
+        let l = leaves_there a b i m (at - i) k c.first (omega (arith, c.both)) t in
+        let s : takes_first (edges_ahead a i m) (edge_at b (at - i) ∷ edges_ahead b (at - i + 1) k) ≡ false = rw (left_here b k l) at t in
+        let z : at + 1 - i ≡ at - i + 1 = omega (arith, c.both) in
         record {
-          done = c.done ++ (edge_at b j ∷ []);
-          held = next-held (edge_at b j);
-          long = next-long (edge_at b j);
-          count = omega (arith, c.count, length-append c.done (edge_at b j ∷ []));
+          done = c.done ++ (edge_at b (at - i) ∷ []);
+          held = next-held (edge_at b (at - i));
+          long = next-long (edge_at b (at - i));
+          count = omega (arith, c.count, length-append c.done (edge_at b (at - i) ∷ []));
           first = c.first;
-          second = omega arith;
-          all = append_snoc c.done (edge_at b j) _
-              ∙ ap (λ (x : List (ℕ × ℕ)). c.done ++ x) (sym (merged-second (edges_ahead a i m) (edge_at b j) (edges_ahead b (j + 1) k) s))
+          both = omega (arith, c.both);
+          second = omega (arith, c.both);
+          all = ap (λ (j : ℕ). c.done ++ (edge_at b (at - i) ∷ []) ++ merged (edges_ahead a i m) (edges_ahead b j k)) z
+              ∙ append_snoc c.done (edge_at b (at - i)) _
+              ∙ ap (λ (x : List (ℕ × ℕ)). c.done ++ x) (sym (merged-second (edges_ahead a i m) (edge_at b (at - i)) (edges_ahead b (at - i + 1) k) s))
               ∙ ap (λ (x : List (ℕ × ℕ)). c.done ++ merged (edges_ahead a i m) x) (sym (left_here b k l)) ∙ c.all;
         }
 
-  pub merge_end : {ends : List ℕ} {i j : ℕ} → Merging ends i j → m + k ≤ i + j → m + k ≤ max_edges → record { ends = ends; count = m + k } ≡ edges_held (merged (edges_of a m) (edges_of b k))
+  pub merge_end : {ends : List ℕ} {i at : ℕ} → Merging ends i at → m + k ≤ at → m + k ≤ max_edges → record { ends = ends; count = m + k } ≡ edges_held (merged (edges_of a m) (edges_of b k))
   unfolding merged
-  merge_end {ends} {i} {j} c h few =
+  merge_end {ends} {i} {at} c h few =
       let x : m ≤ i = omega (arith, c.first, c.second) in
-      let y : k ≤ j = omega (arith, c.first, c.second) in
+      let y : k ≤ at - i = omega (arith, c.first, c.second) in
       let e : c.done ≡ merged (edges_of a m) (edges_of b k) =
       sym (append-nil c.done) ∙ ap (λ (l : List (ℕ × ℕ)). c.done ++ l) (sym (rw (left_none a m x, left_none b k y))) ∙ c.all in
       let n : m + k ≡ length c.done = omega (arith, c.count, c.first, c.second) in

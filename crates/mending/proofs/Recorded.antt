@@ -1,5 +1,5 @@
 -- The record of a plan in an array, and its certificate. Assumes nothing.
-use Prim.Native.Nat.{ℕ, ◌+◌, ◌-◌, ◌/◌, ◌%◌, ◌<◌, ◌≤◌}
+use Prim.Native.Nat.{ℕ, ◌+◌, ◌/◌, ◌%◌, ◌<◌, ◌≤◌}
 use mathlib.Core.List.{List, [], ◌∷◌, ◌++◌}
 use mathlib.Core.Bool.{Bool, true, false}
 use mathlib.Core.Path.{◌≡◌, refl, sym, ap, ◌∙◌}
@@ -10,15 +10,11 @@ use lib.Seq.{take-append_seam}
 use borrow.Author.Tests.{ltb-true, ltb-false}
 use Rattle.record.specs.Read.{Bytes, Each}
 use Rattle.record.specs.Number.{number_bytes, list_bytes, number_limit}
-use Rattle.record.specs.declared.Answer.TheVariants.{Grade}
-use Rattle.record.specs.declared.Written.{Written}
-use Rattle.record.specs.declared.Written.TheVariants.{Next, Nothing}
+use Rattle.std.specs.Prelude.{Option, Some}
 use Rattle.record.proofs.Lists.{bytes_cons, bytes_append}
 use Rattle.record.proofs.Write.{one_byte, two_bytes}
 use Rattle.graph.specs.Limits.{max_vertices}
 use Rattle.graph.specs.Rows.{bare_rows}
-use Rattle.search.specs.Arrays.{padded}
-use Rattle.search.proofs.Placed.{drop_zeros, padded-length, padded-take}
 use Rattle.reading.specs.Plan.{Plan, Allowed, EdgeAllowed, edge_bytes, plan_bytes}
 use Rattle.reading.specs.Code.{plan_room}
 use Rattle.reading.specs.declared.PlanTable.{PlanTable}
@@ -31,8 +27,7 @@ use Rattle.certifier.specs.Made.{certificate_room, length_from, record_from, mad
 use Rattle.certifier.proofs.Room.{same_length, made-room}
 use Rattle.certifier.proofs.Drafts.{length_most}
 use Rattle.striking.specs.declared.Edges.{Edges}
-use Rattle.mending.specs.declared.Record.{Record}
-use Rattle.mending.specs.Code.{plan_in, record_held, Drafted}
+use Rattle.mending.specs.Code.{plan_in}
 
 -- A RECORD IS BYTES
 no_bytes : Bytes []
@@ -73,61 +68,24 @@ module _ (n : ℕ) (x : Edges) (a : Allowed (plan_in n x)) where
   unfolding plan_of
   same = refl
 
-  module _ {w : Written} {out : List ℕ} (e : (w ≡ written_plan zeros table) × (out ≡ with_plan zeros table)) where
-    told : (w ≡ Next (length bytes)) × (out ≡ padded plan_room bytes)
-    told =
-        let room : length (plan_bytes (plan_of table)) ≤ length zeros = rw same (omega (arith, plan-short (plan_in n x) a, length-replicate {A = ℕ} plan_room 0)) in
-        let q = written-whole table (rw same a) zeros room in
-        (e.0 ∙ q.0 ∙ rw same, e.1 ∙ q.1 ∙ rw (same, drop_zeros (length bytes) plan_room))
+  whole : (written_plan zeros table ≡ Some (length (plan_bytes (plan_of table)))) × (with_plan zeros table ≡ plan_bytes (plan_of table) ++ drop (length (plan_bytes (plan_of table))) zeros)
+  whole = written-whole table (rw same a) zeros (rw same (omega (arith, plan-short (plan_in n x) a, length-replicate {A = ℕ} plan_room 0)))
 
-    pub record_next : {l : ℕ} → w ≡ Next l → record { bytes = out; length = l } ≡ record_held bytes
-    record_next {l} f =
-        let g : Next l ≡ Next (length bytes) = sym f ∙ told.0 in
-        let m : l ≡ length bytes = cc in
-        ap (λ (o : List ℕ). record { bytes = o; length = l }) told.1 ∙ ap (λ (k : ℕ). record { bytes = padded plan_room bytes; length = k }) m
+  module _ {w : Option ℕ} {out : List ℕ} (e : (w ≡ written_plan zeros table) × (out ≡ with_plan zeros table)) where
+    pub record_length : w ≡ Some (length bytes)
+    record_length = e.0 ∙ whole.0 ∙ rw same
 
-    pub record_nothing : w ≡ Nothing → ⊥
-    record_nothing f =
-        let g : Nothing ≡ Next (length bytes) = sym f ∙ told.0 in
-        let z : ◌≡◌ {A = ℕ} 0 1 = cc in omega arith
+    pub record_bytes : take (length bytes) out ≡ bytes
+    record_bytes = rw (e.1 ∙ whole.1, same) (take-append_seam bytes (drop (length bytes) zeros))
 
--- the part of the array that the bytes are, and its length, which the array has
-pub held-part : (bytes : List ℕ) {r : Record} → r ≡ record_held bytes → length bytes ≤ plan_room
-    → (take (r.length - 0) r.bytes ≡ bytes) × (r.length ≡ length bytes) × (r.length ≤ length r.bytes)
-held-part bytes {r} e h =
-    let z : length bytes - 0 ≡ length bytes = omega arith in
-    let l : r.length ≡ length bytes = ap (λ (x : Record). x.length) e in
-    (ap (λ (x : Record). take (x.length - 0) x.bytes) e ∙ rw z (padded-take plan_room bytes h), l, omega (arith, padded-length plan_room bytes h, ap (λ (x : Record). length x.bytes) e))
-
--- the records of both plans, and the certificate that was made of the second in a buffer of zeros
-module _ (n : ℕ) (list mended : Edges) (a : Allowed (plan_in n list)) (b : Allowed (plan_in n mended)) {first second : Record} (e : first ≡ record_held (plan_bytes (plan_in n list))) (f : second ≡ record_held (plan_bytes (plan_in n mended))) where
-  abbrev s : List ℕ
-  s = plan_bytes (plan_in n mended)
-
-  abbrev lent : List ℕ
-  lent = take (second.length - 0) second.bytes
-
-  abbrev buffer : List ℕ
-  buffer = replicate certificate_room 0
-
-  pub mended_lent : second.length ≤ length second.bytes
-  mended_lent = (held-part s f (plan-short (plan_in n mended) b)).2
-
-  pub drafted : {m : Made} {out : List ℕ} → (m ≡ made_from lent buffer) × (out ≡ filled_from lent buffer)
-      → Drafted (record { answer = Grade 3; list = first; mended = second; certificate = out; length = m.length })
-      (record { answer = Grade 3; list = plan_bytes (plan_in n list); mended = s; certificate = record_from s })
-  drafted {m} {out} g =
-      let part : lent ≡ s = (held-part s f (plan-short (plan_in n mended) b)).0 in
-      let r : (length_from s).length ≤ length buffer = omega (arith, length_most s (plan-bytes (plan_in n mended) b), length-replicate {A = ℕ} certificate_room 0) in
-      let w = made-room s buffer r in
-      let l : m.length ≡ length (record_from s) = ap (λ (x : Made). x.length) (g.0 ∙ ap (λ (x : List ℕ). made_from x buffer) part ∙ w.0) ∙ sym (same_length s) in
-      let o : out ≡ record_from s ++ drop (0 + length (record_from s)) buffer = g.1 ∙ ap (λ (x : List ℕ). filled_from x buffer) part ∙ w.1 in
-      record {
-        answer = refl;
-        list = e;
-        mended = f;
-        list_fits = plan-short (plan_in n list) a;
-        mended_fits = plan-short (plan_in n mended) b;
-        size = l;
-        certificate = rw (l, o) (take-append_seam (record_from s) (drop (0 + length (record_from s)) buffer));
-      }
+-- the certificate of the plan's record, made in a buffer of zeros
+pub certified : (p : Plan) → Allowed p → {m : Made} {out : List ℕ} → (m ≡ made_from (plan_bytes p) (replicate certificate_room 0)) × (out ≡ filled_from (plan_bytes p) (replicate certificate_room 0))
+    → take m.length out ≡ record_from (plan_bytes p)
+certified p b {m} {out} g =
+    let s = plan_bytes p in
+    let buffer = replicate certificate_room 0 in
+    let r : (length_from s).length ≤ length buffer = omega (arith, length_most s (plan-bytes p b), length-replicate {A = ℕ} certificate_room 0) in
+    let w = made-room s buffer r in
+    let l : m.length ≡ length (record_from s) = ap (λ (x : Made). x.length) (g.0 ∙ w.0) ∙ sym (same_length s) in
+    let o : out ≡ record_from s ++ drop (0 + length (record_from s)) buffer = g.1 ∙ w.1 in
+    rw (l, o) (take-append_seam (record_from s) (drop (0 + length (record_from s)) buffer))

@@ -1,12 +1,11 @@
 -- What the private functions of this crate give.
-use Rattle.std.specs.Prelude.{ℕ, ◌-◌, ◌≤◌, ◌≡◌, List, [], ◌∷◌, Bool, true, false, length, take}
-use Rattle.search.specs.Arrays.{padded}
+use Rattle.std.specs.Prelude.{ℕ, ◌-◌, List, [], ◌∷◌, Bool, true, false, Result, Ok, Err}
 use Rattle.reading.specs.Plan.{Plan, follows}
-use Rattle.reading.specs.Code.{plan_room}
+use Rattle.record.specs.declared.Answer.{Answer}
+use Rattle.record.specs.declared.Answer.TheVariants.{Accepted, Grade, PlanFault, CertificateFault}
 use Rattle.writing.specs.Write.{edges_from, edges_of}
 use Rattle.striking.specs.declared.Edges.{Edges}
 use Rattle.mending.specs.Mend.{Records}
-use Rattle.mending.specs.declared.Record.{Record}
 use Rattle.mending.specs.declared.Draft.{Draft}
 
 -- the edges of an array of m edges that are not taken yet, i being taken
@@ -23,16 +22,16 @@ takes_first (e ∷ es) (m ∷ ms) = follows e m
 abbrev pub plan_in : ℕ → Edges → Plan
 plan_in n x = record { n = n; edges = edges_of x.ends x.count }
 
--- bytes at the front of an array, and zeros behind them
-abbrev pub record_held : List ℕ → Record
-record_held bytes = record { bytes = padded plan_room bytes; length = length bytes }
+-- the three records
+abbrev pub draft_in : List ℕ → List ℕ → List ℕ → Draft
+draft_in list mended certificate = record { list = record { items = list }; mended = record { items = mended }; certificate = record { items = certificate } }
 
--- a draft has these records
-pub record Drafted (d : Draft) (x : Records) : Type 0 where
-  pub answer : d.answer ≡ x.answer
-  pub list : d.list ≡ record_held x.list
-  pub mended : d.mended ≡ record_held x.mended
-  pub list_fits : length x.list ≤ plan_room
-  pub mended_fits : length x.mended ≤ plan_room
-  pub size : d.length ≡ length x.certificate
-  pub certificate : take d.length d.certificate ≡ x.certificate
+-- the records where there is a grade; each other answer is the refusal
+abbrev pub by_answer : Answer → Draft → Result Draft Answer
+by_answer (Grade k) d = Ok d
+by_answer Accepted d = Err Accepted
+by_answer (PlanFault r q) d = Err (PlanFault r q)
+by_answer (CertificateFault r q) d = Err (CertificateFault r q)
+
+abbrev pub decision : Records → Result Draft Answer
+decision x = by_answer x.answer (draft_in x.list x.mended x.certificate)

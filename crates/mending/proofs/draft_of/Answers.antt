@@ -1,10 +1,12 @@
 -- `mending::draft_of` meets its contract. Assumes nothing.
 
-use Rattle.mending.proofs.Recorded.{mended_lent, drafted}
+use mathlib.Core.Path.{◌∙◌}
+use Rattle.mending.specs.Code.{plan_in}
+use Rattle.mending.proofs.Recorded.{certified}
 use Rattle.mending.proofs.draft_of.Goals as goal
 
-pub slice_bounds-certify-end : goal.slice_bounds-certify-end
-slice_bounds-certify-end c = mended_lent c.args.n c.args.list c.args.mended c.requires.0 c.requires.1 c.record_of-first.ensures c.record_of-second.ensures
-
 pub returns : goal.returns
-returns c = drafted c.args.n c.args.list c.args.mended c.requires.0 c.requires.1 c.record_of-first.ensures c.record_of-second.ensures (c.certify-made.ensures.value, c.certify-made.ensures.out_after)
+returns c = let a = c.args in
+    let lent = c.as_slice.ensures.value ∙ c.record_of-mended.ensures in
+    let made = certified (plan_in a.n a.mended) c.requires.1 {m = c.certify-made.result} {out = c.certify-made.new.out} (rw (← lent) (c.certify-made.ensures.value, c.certify-made.ensures.out_after)) in
+    (λ i. record { list = record { items = c.record_of-list.ensures i }; mended = record { items = c.record_of-mended.ensures i }; certificate = record { items = (c.front-certificate.ensures ∙ made) i } })
