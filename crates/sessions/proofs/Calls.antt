@@ -6,11 +6,12 @@ use mathlib.Core.Path.{◌≡◌, refl, sym, ap, ◌∙◌}
 use mathlib.Core.Logic.{◌≢◌}
 use native.Mathlib.Omega.{arith}
 use lib.Dec.{ltb, leb}
-use lib.ListN.{set}
+use lib.ListN.{set, replicate}
 use borrow.Author.Tests.{lt-ltb, le-ltb, le-leb, ltb-true, leb-true}
 use Rattle.connectivity.proofs.Lists.{and-true}
 use Rattle.std.specs.Prelude.{Ok, Err}
 use Rattle.record.specs.Read.{Read, Read.Got, Read.Refused, ended}
+use Rattle.vertexset.specs.Set.{empty_set}
 use Rattle.record.specs.declared.Answer.{Answer}
 use Rattle.record.specs.declared.Answer.TheVariants.{Accepted, PlanFault}
 use Rattle.reading.specs.Plan.{Plan, plan}
@@ -27,7 +28,7 @@ use Rattle.sessions.specs.declared.Session.{Session}
 use Rattle.sessions.specs.declared.Opened.{Opened}
 use Rattle.sessions.specs.declared.Stepped.{Stepped}
 use Rattle.build.specs.declared.Trace.{Trace}
-use Rattle.build.specs.State.{bare_pointers, build_start, path_taken, trace_of, no_trace, taken_back}
+use Rattle.build.specs.State.{bare_build, bare_pointers, build_start, path_taken, trace_of, no_trace, taken_back}
 use Rattle.build.specs.Code.{start_left, build_in, traced, on_path_read, further_read}
 use Rattle.sessions.specs.Session.{no_session, opened_on, on_opening, opening, refused_step, unread_step, on_start, start_step, path_count, trace_room, on_path, due_step, is_due, path_step, last_trace, without_path, has_path, back_to, back_step}
 use Rattle.build.proofs.Inner.{same_build}
@@ -58,10 +59,11 @@ module _ (s : List ℕ) where
         let t = opened in
         rw (t.1.1, ← t.1.0, lt-ltb x.plan.graph.d (x.plan.graph.n + 2) h, g)
 
-    pub open_accepted : {session : Session} → x.plan.graph.n + 2 ≤ x.plan.graph.d → session ≡ opened_on x.plan.graph → ◌≡◌ {A = Opened} (record { answer = Accepted; session = session }) (opening s)
-    open_accepted h g =
+    pub open_accepted : {b : Build} {t : Trace} → x.plan.graph.n + 2 ≤ x.plan.graph.d → b ≡ bare_build empty_set → t ≡ no_trace
+        → ◌≡◌ {A = Opened} (record { answer = Accepted; session = record { graph = x.plan.graph; ready = true; started = false; taken = 0; build = b; traces = replicate trace_room t } }) (opening s)
+    open_accepted h g k =
         let t = opened in
-        rw (t.1.1, ← t.1.0, le-ltb x.plan.graph.d (x.plan.graph.n + 2) h, g)
+        rw (t.1.1, ← t.1.0, le-ltb x.plan.graph.d (x.plan.graph.n + 2) h, g, k)
 
 -- a start
 module _ (s : Session) (part : List ℕ) where

@@ -83,35 +83,35 @@ impl Session {
 
     // Four branch vertices and six paths; 31 before reading where a start was accepted already or the session never opened. They enter tables of
     // their own, since those before a fault stay in them.
-    pub fn start(mut self, part: &[u8]) -> Stepped
+    pub fn start(self, part: &[u8]) -> Stepped
         ensures { result ≡ start_step self part.now }
     {
         if !self.ready {
             return self.refused(31, 0);
         }
+        let graph = self.graph;
         let mut pointers = [0u16; Link::POINTERS];
         let mut linked = [0u64; GraphTable::ROW_WORDS];
-        let x = match build::read_start(
-            part,
-            &self.graph.rows,
-            self.graph.n,
-            0,
-            &mut pointers,
-            &mut linked,
-        ) {
+        let x = match build::read_start(part, &graph.rows, graph.n, 0, &mut pointers, &mut linked) {
             Ok(x) => x,
             Err(answer) => return self.unread(answer),
         };
-        self.ready = false;
-        self.started = true;
-        self.taken = 0;
-        self.build = Build {
+        let build = Build {
             sets: x.sets,
             pointers,
             linked,
         };
+        let traces = self.traces;
+        let session = Session {
+            graph,
+            ready: false,
+            started: true,
+            taken: 0,
+            build,
+            traces,
+        };
         Stepped {
-            session: self,
+            session,
             answer: Answer::Accepted,
             read: x.next,
         }
@@ -227,16 +227,29 @@ pub fn open(plan: &[u8]) -> Opened
             return Opened { answer, session };
         }
     };
-    let mut session = Session::none();
     let graph = x.plan.graph;
     if (graph.d as usize) < graph.n as usize + 2 {
-        let answer = Answer::PlanFault(29, 0);
-        return Opened { answer, session };
+        let session = Session::none();
+        return Opened {
+            answer: Answer::PlanFault(29, 0),
+            session,
+        };
     }
-    session.graph = graph;
-    session.ready = true;
-    let answer = Answer::Accepted;
-    Opened { answer, session }
+    // Written out, since a session never opened with two fields changed would be copied once more.
+    let build = Build::bare(VertexSet::empty());
+    let trace = Trace::none();
+    let session = Session {
+        graph,
+        ready: true,
+        started: false,
+        taken: 0,
+        build,
+        traces: [trace; Session::PATHS],
+    };
+    Opened {
+        answer: Answer::Accepted,
+        session,
+    }
 }
 
 // What stands from a place on.
