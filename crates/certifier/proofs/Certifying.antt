@@ -21,7 +21,6 @@ use Rattle.construction.proofs.SetLaws.{added-room}
 use Rattle.detours.specs.Code.{cut_of, cut_in, flat_of, ears_of}
 use Rattle.detours.specs.declared.Cut.{Cut}
 use Rattle.detours.specs.declared.Ears.{Ears}
-use Rattle.detours.proofs.Kept.{front, front_take}
 use Rattle.starting.specs.Code.{paths_of, start_of}
 use Rattle.starting.specs.declared.Start.{Start}
 use Rattle.stepping.specs.Code.{built_of, finished_of, built_in}
@@ -88,14 +87,13 @@ pub build-same : (rows : List ℕ) (full : VertexSet) (b : Begun) → build rows
 unfolding build
 build-same rows full b = refl
 
-module _ (rows : List ℕ) (n : ℕ) (full : VertexSet) (s : Start) (low : s.len ≤ path_space) {b : Built} (e : b ≡ built_in rows n full s.four (front s.flat s.len)) where
+module _ (rows : List ℕ) (n : ℕ) (full : VertexSet) (s : Start) (low : s.len ≤ path_space) {b : Built} (e : b ≡ built_in rows n full s.four (take s.len s.flat)) where
   abbrev st : State
   st = build rows full (start_in s)
 
-  paths_are : added path_space [] (front s.flat s.len) ≡ take s.len s.flat
+  paths_are : added path_space [] (take s.len s.flat) ≡ take s.len s.flat
   paths_are =
-      ap (added path_space []) (front_take s.flat s.len)
-      ∙ added-room path_space [] (take s.len s.flat) (let z : 0 + length (take s.len s.flat) ≤ path_space = omega (arith, length-take s.len s.flat) in z)
+      added-room path_space [] (take s.len s.flat) (let z : 0 + length (take s.len s.flat) ≤ path_space = omega (arith, length-take s.len s.flat) in z)
 
   built_is : b ≡ finished_of rows n st
   built_is =
@@ -125,12 +123,12 @@ module _ (rows : List ℕ) (n : ℕ) (full : VertexSet) (s : Start) (low : s.len
           let m : b.len ≤ path_space = subst (λ (k : ℕ). k ≤ path_space) (sym (ap (λ (x : Built). x.len) all-built)) (flat_short paths z) in
           (omega arith, m)
 
-      module _ {done : List ℕ} (d : done ≡ (lengthened (front b.flat b.len)).0) where
-        taken : front b.flat b.len ≡ paths
-        taken = front_take b.flat b.len ∙ ap (λ (x : Built). take x.len x.flat) all-built ∙ take-append_seam paths (replicate (path_space - length paths) 0)
+      module _ {done : List ℕ} (d : done ≡ (lengthened (take b.len b.flat)).0) where
+        taken : take b.len b.flat ≡ paths
+        taken = ap (λ (x : Built). take x.len x.flat) all-built ∙ take-append_seam paths (replicate (path_space - length paths) 0)
 
         pub done_short : length b.flat ≡ path_space → length done ≤ path_space
-        done_short h = let r = build-room h in omega (arith, ap length d, lengthened-size (front b.flat b.len), ap length (front_take b.flat b.len), length-take b.len b.flat)
+        done_short h = let r = build-room h in omega (arith, ap length d, lengthened-size (take b.len b.flat), length-take b.len b.flat)
 
         pub build-done : 3 ∷ (members s.four ++ done) ≡ start_certificate_in rows n full s
         build-done = ap (λ (l : List ℕ). 3 ∷ (members s.four ++ l)) (d ∙ ap (λ (l : List ℕ). (lengthened l).0) taken) ∙ by_cut u

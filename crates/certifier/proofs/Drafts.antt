@@ -1,4 +1,4 @@
--- What the maker decides before it writes, and what it then answers and leaves in the buffer. Assumes nothing.
+-- What the maker answers and leaves in the buffer. Assumes nothing.
 use Prim.Native.Nat.{ℕ, ◌≤◌, ◌<◌}
 use mathlib.Core.Path.{◌≡◌, refl, sym, ap, subst, ◌∙◌}
 use mathlib.Core.List.{List, []}
@@ -11,7 +11,7 @@ use Rattle.record.specs.Read.{Bytes}
 use Rattle.record.specs.Write.{overwritten}
 use Rattle.record.specs.declared.Answer.{Answer}
 use Rattle.record.specs.declared.Answer.TheVariants.{Accepted, Grade, PlanFault, CertificateFault}
-use Rattle.reading.specs.Code.{whole_plan, value_or, head_of, rows_left}
+use Rattle.reading.specs.Code.{whole_plan, head_of, rows_left}
 use Rattle.graph.specs.Rows.{bare_rows}
 use Rattle.graph.specs.declared.GraphTable.{GraphTable}
 use Rattle.reading.specs.declared.PlanHead.{PlanHead}
@@ -27,27 +27,10 @@ use Rattle.detours.proofs.Filled.{Filled, filled_take}
 use Rattle.certifier.specs.declared.Made.{Made}
 use Rattle.certifier.specs.declared.Numbers.{Numbers}
 use Rattle.certifier.specs.Code.{number_room, numbers_of, Small}
-use Rattle.certifier.specs.Made.{certificate_room, made, length_by, length_from, record_by, record_from, made_from, filled_from, certificate_of, grade_made, decided_from}
+use Rattle.certifier.specs.Made.{certificate_room, made, length_by, length_from, record_by, record_from, made_from, filled_from, certificate_of, grade_made}
 use Rattle.certifier.proofs.Room.{same_length, made-room, made_none}
 
--- ---- what is decided
-
--- from what the reader gave
-module _ (s : List ℕ) where
-  pub decided_fault : {f : Answer} → Err f ≡ head_of (whole_plan s) → Err f ≡ decided_from s
-  decided_fault e = let k = err_told (whole_plan s).answer _ e in ap Err (sym k.0) ∙ go (whole_plan s).answer k.1
-    where
-      go : (a : Answer) → NotAccepted a → Err a ≡ value_or a (numbers_of (certificate_numbers (whole_plan s).plan.graph.rows (whole_plan s).plan.graph.n))
-      go Accepted i = absurd (i refl)
-      go (Grade v) i = refl
-      go (PlanFault n p) i = refl
-      go (CertificateFault n p) i = refl
-
-  pub decided_numbers : {h : PlanHead} → Ok h ≡ head_of (whole_plan s) → {rows : List ℕ} {c : Numbers} → rows ≡ rows_left bare_rows s → c ≡ numbers_of (certificate_numbers rows h.n)
-      → Ok c ≡ decided_from s
-  decided_numbers e left k =
-      let t = ok_told (whole_plan s).answer e in
-      rw t.0 (ap Ok (k ∙ (λ i. numbers_of (certificate_numbers ((left ∙ (whole_arrays s t.0).1) i) (t.1 i).n))))
+-- ---- a fault
 
 -- a fault is answered without a length, and nothing is written
 fault_by : (a : Answer) (g : GraphTable) → NotAccepted a → (length_by a g ≡ made a 0) × (record_by a g ≡ [])
@@ -57,7 +40,7 @@ fault_by (Grade k) g i = (refl, refl)
 fault_by (PlanFault n p) g i = (refl, refl)
 fault_by (CertificateFault n p) g i = (refl, refl)
 
-pub made_fault : (s buffer : List ℕ) {f : Answer} → Err f ≡ decided_from s → (made f 0 ≡ made_from s buffer) × (buffer ≡ filled_from s buffer)
+pub made_fault : (s buffer : List ℕ) {f : Answer} → Err f ≡ head_of (whole_plan s) → (made f 0 ≡ made_from s buffer) × (buffer ≡ filled_from s buffer)
 made_fault s buffer e =
     let k = err_told (whole_plan s).answer _ e in
     let r = fault_by (whole_plan s).answer (whole_plan s).plan.graph k.1 in
@@ -92,7 +75,8 @@ module _ (s : List ℕ) (bytes : Bytes s) where
   length_most = short_by (whole_plan s).answer (whole_plan s).plan.graph read_certified
 
   -- the numbers of an accepted plan, and the part of their array that is counted and written
-  module _ {c : Numbers} (e : Ok c ≡ decided_from s) {list : List ℕ} (l : list ≡ take c.count c.items) where
+  module _ {head : PlanHead} (e : Ok head ≡ head_of (whole_plan s)) {rows : List ℕ} {c : Numbers} (left : rows ≡ rows_left bare_rows s) (k : c ≡ numbers_of (certificate_numbers rows head.n)) {list : List ℕ}
+      (l : list ≡ take c.count c.items) where
     abbrev g : GraphTable
     g = (whole_plan s).plan.graph
 
@@ -100,7 +84,7 @@ module _ (s : List ℕ) (bytes : Bytes s) where
     numbers = certificate_numbers g.rows g.n
 
     decided : ((whole_plan s).answer ≡ Accepted) × (c ≡ numbers_of numbers)
-    decided = ok_told (whole_plan s).answer e
+    decided = let t = ok_told (whole_plan s).answer e in (t.0, k ∙ (λ i. numbers_of (certificate_numbers ((left ∙ (whole_arrays s t.0).1) i) (t.1 i).n)))
 
     certified : Constructed g.rows g.n
     certified = read_certified decided.0

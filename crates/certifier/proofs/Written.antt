@@ -275,13 +275,11 @@ module _ (rows : List ℕ) (e : Ears) (k : ℕ) where
     evidence-tree h i {l} {out} {end} q p = put_as items at out end (tree_in_lem h i ∙ sym q) p
 
     pub evidence-ears : (k ≡ 0 → ⊥) → (k ≡ 1 → ⊥) → at + 1 + e.len ≤ length items
-        → {list out : List ℕ} {end : ℕ} → list ≡ (lengthened (take (e.len - 0) e.flat)).0
+        → {list out : List ℕ} {end : ℕ} → list ≡ (lengthened (take e.len e.flat)).0
         → Put (set items at e.count) (at + 1) out end list → Put items at out end (evidence_in rows e k)
     evidence-ears h i room {list} {out} {end} f p =
-        let z : e.len - 0 ≡ e.len = omega arith in
-        let l : list ≡ (lengthened (take e.len e.flat)).0 = f ∙ rw z in
-        let r : at + suc (length list) ≤ length items = omega (arith, ap length l, lengthened-size (take e.len e.flat), length-take e.len e.flat) in
-        put_as items at out end (ears-in h i ∙ ap (λ (m : List ℕ). e.count ∷ m) (sym l))
+        let r : at + suc (length list) ≤ length items = omega (arith, ap length f, lengthened-size (take e.len e.flat), length-take e.len e.flat) in
+        put_as items at out end (ears-in h i ∙ ap (λ (m : List ℕ). e.count ∷ m) (sym f))
         (p.0 ∙ first_put items at e.count list r, p.1 ∙ first_end items at e.count list r)
 
   pub evidence-short : e.len ≤ path_space → length (evidence_in rows e k) ≤ 1 + path_space

@@ -1,15 +1,13 @@
 -- THE MAKER (document 01, with request 2 of document 02): what it answers, and what it leaves in the lent buffer; and how long a certificate is.
-use Rattle.std.specs.Prelude.{ℕ, Result, cond, List, [], ltb, length, get_or}
+use Rattle.std.specs.Prelude.{ℕ, cond, List, [], ltb, length, get_or}
 use Rattle.record.specs.Write.{overwritten}
 use Rattle.record.specs.declared.Answer.{Answer}
 use Rattle.record.specs.declared.Answer.TheVariants.{Accepted, Grade, PlanFault, CertificateFault}
-use Rattle.reading.specs.Code.{whole_plan, value_or}
+use Rattle.reading.specs.Code.{whole_plan}
 use Rattle.graph.specs.declared.GraphTable.{GraphTable}
 use Rattle.construction.specs.Certificate.{certificate_numbers, certificate_record}
 pub use Rattle.construction.specs.Certificate.{certificate_room}
 use Rattle.certifier.specs.declared.Made.{Made}
-use Rattle.certifier.specs.declared.Numbers.{Numbers}
-use Rattle.certifier.specs.Code.{numbers_of}
 
 -- the certificate of a graph, and its kind
 abbrev pub certificate_of : GraphTable → List ℕ
@@ -57,7 +55,3 @@ filled_by buffer bytes = cond (ltb (length buffer) (length bytes)) buffer (overw
 
 abbrev pub filled_from : List ℕ → List ℕ → List ℕ
 filled_from s buffer = filled_by buffer (record_from s)
-
--- what is decided before a byte is written: the numbers of an accepted plan's certificate, or the plan's fault
-abbrev pub decided_from : List ℕ → Result Numbers Answer
-decided_from s = value_or (whole_plan s).answer (numbers_of (certificate_numbers (whole_plan s).plan.graph.rows (whole_plan s).plan.graph.n))

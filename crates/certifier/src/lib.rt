@@ -11,7 +11,7 @@ ghost use Rattle.construction.specs.Ears.{no_cut, path_space, eared};
 ghost use Rattle.construction.specs.Certificate.{lengthened, certificate_numbers};
 ghost use Rattle.detours.specs.Code.{ears_of};
 ghost use Rattle.certifier.specs.Code.{number_room, numbers_of, tree_in, evidence_in, cut_numbers_in, cut_certificate_in, start_certificate_in, Small};
-ghost use Rattle.certifier.specs.Made.{kind_in, length_from, made_from, filled_from, decided_from};
+ghost use Rattle.certifier.specs.Made.{kind_in, length_from, made_from, filled_from};
 
 use detours::{Cut, Ears};
 use graph::GraphTable;
@@ -45,7 +45,7 @@ impl Numbers {
     fn as_slice(&self) -> &[u16]
         ensures { result.now ≡ take self.now.count self.now.items }
     {
-        &self.items[0..self.count.min(Numbers::ROOM)]
+        &self.items[..self.count.min(Numbers::ROOM)]
     }
 }
 
@@ -119,7 +119,7 @@ fn put_evidence<'a>(
         return put_tree(items, at, space, tree.count);
     }
     let mut flat = e.flat;
-    let paths = &mut flat[0..e.len];
+    let paths = &mut flat[..e.len];
     lengthen(paths);
     items[at] = e.count;
     search::put_all(items, at + 1, paths)
@@ -199,21 +199,19 @@ fn build_certificate<'a>(
     space: &'a mut [u16; Reach::SPACE],
     n: u16,
     full: VertexSet,
-    s: Start,
+    s: &'a Start,
 ) -> Numbers
-    requires { s.len ≤ path_space }
-    ensures { result ≡ numbers_of (start_certificate_in rows.now n full s) }
+    requires { s.now.len ≤ path_space }
+    ensures { result ≡ numbers_of (start_certificate_in rows.now n full s.now) }
 {
-    let first = s.flat;
-    let len = s.len;
     let four = s.four;
-    let b = stepping::build(rows, n, full, four, &first[0..len]);
+    let b = stepping::build(rows, n, full, four, &s.flat[..s.len]);
     let c = b.cut;
     if c.is_cut() {
         return cut_certificate(rows, space, full, c);
     }
     let mut flat = b.flat;
-    let paths = &mut flat[0..b.len];
+    let paths = &mut flat[..b.len];
     lengthen(paths);
     build_numbers(four, paths)
 }
@@ -240,7 +238,7 @@ fn certificate(rows: &[u64; GraphTable::ROW_WORDS], n: u16) -> Numbers
         return cut_certificate(rows, &mut space, full, c);
     }
     match starting::begin(rows) {
-        Ok(s) => build_certificate(rows, &mut space, n, full, s),
+        Ok(s) => build_certificate(rows, &mut space, n, full, &s),
         Err(c) => cut_certificate(rows, &mut space, full, c),
     }
 }
@@ -276,29 +274,17 @@ fn write_numbers<'a>(out: &'a mut [u8], list: &'a [u16])
     }
 }
 
-// The numbers of an accepted plan's certificate; or the plan's fault.
-fn decide(plan: &[u8]) -> Result<Numbers, Answer>
-    ensures { result ≡ decided_from plan.now }
-{
-    let mut rows = [0u64; GraphTable::ROW_WORDS];
-    let head = reading::read_plan_rows(plan, &mut rows)?;
-    Ok(certificate(&rows, head.n))
-}
-
 // THE MAKER. A refused plan has no numbers, so no buffer is too short for it: its fault comes before 30.
 pub fn certify<'a>(plan: &'a [u8], out: &'a mut [u8]) -> Made
     ensures value { result ≡ made_from plan.now out.old }
     ensures out_after { out.new ≡ filled_from plan.now out.old }
 {
-    let numbers = match decide(plan) {
-        Ok(numbers) => numbers,
-        Err(fault) => {
-            return Made {
-                answer: fault,
-                length: 0,
-            };
-        }
+    let mut rows = [0u64; GraphTable::ROW_WORDS];
+    let head = match reading::read_plan_rows(plan, &mut rows) {
+        Ok(head) => head,
+        Err(answer) => return Made { answer, length: 0 },
     };
+    let numbers = certificate(&rows, head.n);
     let list = numbers.as_slice();
     let length = bytes_of(list);
     if out.len() < length {

@@ -1,6 +1,5 @@
 -- `certifier::put_evidence` meets its contract, by the number of removed vertices. Assumes nothing.
 
-use Prim.Native.Nat.{◌-◌}
 use mathlib.Core.Path.{◌≡◌}
 use native.Mathlib.Omega.{arith}
 use lib.ListN.{length, length-take}
@@ -25,7 +24,7 @@ returns-then-k-eq1 c = let rest = let a = c.args in
     (c.put_tree.ensures.after, c.put_tree.ensures.value) in record { after = rest.0; value = rest.1 }
 
 pub lengthen-requires : goal.lengthen-requires
-lengthen-requires c = omega (arith, c.requires, length-take (c.args.e.len - 0) c.args.e.flat)
+lengthen-requires c = omega (arith, c.requires, length-take c.args.e.len c.args.e.flat)
 
 pub returns : goal.returns
 returns c = let rest = let a = c.args in
