@@ -224,7 +224,8 @@ impl Trace {
     }
 }
 
-// A further path, read, tested and taken in, with the trace by which it can be taken back; nothing changes where it is refused.
+// A further path, read, tested and taken in, with the trace by which it can be taken back; nothing changes where it is refused. The two tables are
+// lent one beside the other: a session lends those of its build, and read_build its own, and a struct of both would have to be made for each call.
 pub fn take_path<'a>(
     s: &'a [u8],
     rows: &'a [u64; GraphTable::ROW_WORDS],

@@ -12,6 +12,7 @@ use graph::GraphTable;
 use record::{Answer, Number};
 
 // A plan by value: its graph, and the m edges of its record in their order, doubles among them: of each the lower and the higher vertex.
+// The definitions (table_of, by_value) have the array whole, zeros behind the edges, and m beside it.
 #[derive(Clone, Copy)]
 pub struct PlanTable {
     pub graph: GraphTable,

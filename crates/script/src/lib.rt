@@ -57,7 +57,7 @@ fn word_of(kind: u64, number: u8, place: usize) -> u64
     kind + 256 * number as u64 + 65536 * (place as u64 % 281474976710656)
 }
 
-// An answer as one word.
+// An answer as one word. Answer is another crate's type, so this is no From.
 pub fn answer_word(a: Answer) -> u64
     ensures { result ≡ answer_word a }
 {
@@ -82,7 +82,7 @@ fn put_answer(out: &mut [u8], count: usize, a: Answer) -> bool
     true
 }
 
-// A start or a path, by the byte of the call.
+// A start or a path, by the byte of the call: promised for every byte, so it takes no enum of calls.
 pub fn step(session: Session, call: u8, part: &[u8]) -> Stepped
     ensures { result ≡ step_of call session part.now }
 {
@@ -92,7 +92,7 @@ pub fn step(session: Session, call: u8, part: &[u8]) -> Stepped
     session.path(part)
 }
 
-// A closing or a taking back, which have no part, by the byte of the call.
+// A closing or a taking back, which have no part, by the byte of the call, whatever it is.
 pub fn step_alone(session: Session, call: u8) -> Stepped
     ensures { result ≡ lone_of call session }
 {

@@ -22,6 +22,7 @@ fn run<R: Read, W: Write>(reader: &mut R, writer: &mut W) -> io::Result<()>
     let mut out = [0u8; lines::LONGEST];
     let mut turn = sessionlines::open(&bytes[..n], &mut out);
     write_full(writer, &out[..turn.len])?;
+    // a while, since each call says where the next one stands
     while turn.at < n {
         turn = sessionlines::call(&bytes[..n], turn, &mut out);
         write_full(writer, &out[..turn.len])?;

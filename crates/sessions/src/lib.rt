@@ -18,7 +18,7 @@ pub struct Session {
     pub started: bool,
     pub taken: u16,
     pub build: Build,
-    // the trace of each path that is in, in their order; none behind the last
+    // the trace of each path that is in, in their order; none behind the last, as the definitions have the whole array
     pub traces: [Trace; Session::PATHS],
 }
 

@@ -55,7 +55,8 @@ struct Stepped {
     work: Option<Work>,
 }
 
-// (a) From the two outermost inner vertices of a link to the rest of the build, without the link's ends.
+// (a) From the two outermost inner vertices of a link to the rest of the build, without the link's ends. Rows and space go side by side through the
+// searches: a struct of the two would be taken apart again at each call of them.
 fn off_link<'a>(
     rows: &'a [u64; GraphTable::ROW_WORDS],
     space: &'a mut [u16; Reach::SPACE],
@@ -105,6 +106,7 @@ fn stopped(b: Progress, c: Cut) -> Progress
 }
 
 // A path is taken in; its ends are, or become, branch vertices.
+// Holds ties the lent array to what is kept beside it, so a type for it would have to own both.
 fn extend<'a>(
     rows: &'a [u64; GraphTable::ROW_WORDS],
     flat: &'a mut [u16],
@@ -241,7 +243,7 @@ fn has_pair(list: &[u16], x: u16, y: u16) -> bool
     hit
 }
 
-// The first place from here on at which two vertices stand side by side, or the length.
+// The first place from here on at which two vertices stand side by side, or the length, as the definition pair_place has it.
 fn pair_from(list: &[u16], x: u16, y: u16, from: usize) -> usize
     requires { from ≤ length list.now }
     ensures { result ≡ from + pair_place x y (drop from list.now) }
