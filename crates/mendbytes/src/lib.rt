@@ -31,6 +31,7 @@ impl Printer<ROOM> for MendBytes {
         let Answer::Grade(_) = m.answer else {
             return lines::put_refusal(out, 0, m.answer);
         };
+        // by way of a buffer of their own: the lent one changes only where all three have room
         let mut all = [0u8; ROOM];
         let a = lines::put_bytes(&mut all, 0, &list[..m.list]);
         let b = lines::put_bytes(&mut all, a, &mended[..m.mended]);
