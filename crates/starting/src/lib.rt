@@ -1,7 +1,8 @@
 // The start of a build: a cycle through vertex 0, a third path, a path across; from these four branch vertices and six links.
 #![tactic(auto)]
 
-ghost use Rattle.std.specs.Prelude.{◌≡◌, ◌∷◌};
+ghost use Rattle.std.specs.Prelude.{◌≡◌, ◌∷◌, ◌+◌};
+ghost use Rattle.vertexset.specs.Set.{next};
 ghost use Rattle.search.specs.Arrays.{placed, placed_end};
 ghost use Rattle.construction.specs.Sets.{stop};
 ghost use Rattle.construction.specs.Start.{marked, link_in, sorted, three_paths, third_path, across, begun, start_on, begin};
@@ -96,8 +97,22 @@ fn add_link<'a>(
     detours::add_path(flat, len, search::route(space, r).as_slice())
 }
 
-// The six links in the order of the record.
+// The four branch vertices, ascending.
 #[tactic(auto, using(vertexset::proofs::Laws::next_low))]
+fn ascending(four: VertexSet) -> (u16, u16, u16, u16)
+    ensures p { result.0 ≡ next four.words 0 }
+    ensures q { result.1 ≡ next four.words (result.0 + 1) }
+    ensures r { result.2 ≡ next four.words (result.1 + 1) }
+    ensures s { result.3 ≡ next four.words (result.2 + 1) }
+{
+    let p = four.next_from(0);
+    let q = four.next_from(p + 1);
+    let r = four.next_from(q + 1);
+    let s = four.next_from(r + 1);
+    (p, q, r, s)
+}
+
+// The six links in the order of the record.
 fn six_links<'a>(
     table: &'a [u64; GraphTable::ROW_WORDS],
     space: &'a mut [u16; Reach::SPACE],
@@ -105,10 +120,7 @@ fn six_links<'a>(
 ) -> Start
     ensures { result ≡ paths_of (begun four (sorted table.now four)) }
 {
-    let p = four.next_from(0);
-    let q = four.next_from(p + 1);
-    let r = four.next_from(q + 1);
-    let s = four.next_from(r + 1);
+    let (p, q, r, s) = ascending(four);
     let mut flat = [0u16; Ears::ROOM];
     let mut len = 0;
     for (u, w) in [(p, q), (p, r), (p, s), (q, r), (q, s), (r, s)] {

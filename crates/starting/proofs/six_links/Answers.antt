@@ -10,4 +10,4 @@ pub loop-u-preserved : goal.loop-u-preserved
 loop-u-preserved c = link-turn _ _ _ c.loop-u.invariant c.loop-u-test.true _ c.add_link-len.ensures.flat_after c.add_link-len.ensures.value
 
 pub returns : goal.returns
-returns c = six_start c.args.table.now c.args.four c.next_from-p.ensures c.next_from-q.ensures c.next_from-r.ensures c.next_from-s.ensures c.loop-u.invariant c.loop-u-test.false
+returns c = six_start c.args.table.now c.args.four c.ascending-p.ensures.p c.ascending-p.ensures.q c.ascending-p.ensures.r c.ascending-p.ensures.s c.loop-u.invariant c.loop-u-test.false
