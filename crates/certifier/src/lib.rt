@@ -92,7 +92,7 @@ fn put_tree<'a>(
     end
 }
 
-// What stands between the removed vertices and the side: nothing, the tree, or the ears.
+// What stands between the removed vertices and the side: nothing, the tree, or the ears, by the format's number of the kind.
 fn put_evidence<'a>(
     rows: &'a [u64; GraphTable::ROW_WORDS],
     space: &'a mut [u16; Reach::SPACE],

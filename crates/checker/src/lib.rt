@@ -20,7 +20,7 @@ pub struct Graded {
 }
 
 // Kind 3 asks for at least n + 2 pairs of adjacent vertices.
-// n within the capacity is the caller's one test, and no type of its own: see paths' `read_rest`.
+// n within the capacity comes from the plan that was read, and is no type of its own: see paths' `read_rest`.
 fn enough(n: u16, d: u16, k: u16) -> bool
     requires { n ≤ capacity }
     ensures { result ≡ (ltb k 3 || leb (n + 2) d) }
@@ -28,7 +28,7 @@ fn enough(n: u16, d: u16, k: u16) -> bool
     k < 3 || n + 2 <= d
 }
 
-// The body of a certificate of kind k, after the kind.
+// The body of a certificate of kind k, the format's number, after the kind.
 fn read_body(
     s: &[u8],
     rows: &[u64; GraphTable::ROW_WORDS],

@@ -6,7 +6,7 @@ ghost use Rattle.counting.specs.Counts.{pairs_of, sets_of, plan_with, connectivi
 
 use graph::GraphTable;
 
-// How many plans of a size have grade 0, 1, 2 and 3.
+// How many plans of a size have grade 0, 1, 2 and 3: a place for each grade, so the array has no length beside it.
 #[derive(Clone, Copy)]
 pub struct Counts {
     pub of: [u16; Counts::GRADES],

@@ -15,7 +15,7 @@ use graph::GraphTable;
 use search::{Reach, VertexList};
 use vertexset::VertexSet;
 
-// Removed vertices, and a side that no edge leaves but to them. Without a side nothing is cut.
+// Removed vertices, and a side that no edge leaves but to them. Without a side nothing is cut, as the definitions (no_cut, is_cut) have it.
 #[derive(Clone, Copy)]
 pub struct Cut {
     pub removed: VertexSet,
@@ -80,12 +80,14 @@ pub fn with_all(set: VertexSet, list: &[u16]) -> VertexSet
     all
 }
 
+// The number at a place; 0 behind the end, as the definitions have it.
 pub fn number_at(list: &[u16], i: usize) -> u16
     ensures { result ≡ get_or list.now i 0 }
 {
     list.get(i).copied().unwrap_or(0)
 }
 
+// The last number; 0 where there is none, as the definitions have it.
 pub fn last_of(list: &[u16]) -> u16
     ensures { result ≡ last_of list.now }
 {
@@ -103,7 +105,8 @@ fn failed(removed: VertexSet, side: VertexSet) -> Found
     Ok(VertexList::new())
 }
 
-// A search, answered by a path or a cut. In a space of another size than Reach::SPACE nothing is searched, and the path is empty.
+// A search, answered by a path or a cut. In a space of another size than Reach::SPACE nothing is searched, and the path is empty. Rows and space go
+// side by side: many searches share a space, and a struct of the two would be taken apart again at each.
 pub fn find<'a>(
     rows: &'a [u64; GraphTable::ROW_WORDS],
     space: &'a mut [u16],

@@ -13,7 +13,7 @@ use paths::PathRead;
 use record::Answer;
 use vertexset::VertexSet;
 
-// The vertices that are in, and whether there is an ear yet.
+// The vertices that are in, and whether there is an ear yet: two tests of the definition (ear_beside), so the flag stands beside the set.
 #[derive(Clone, Copy)]
 struct Ears {
     set: VertexSet,

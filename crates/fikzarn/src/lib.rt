@@ -39,7 +39,8 @@ pub extern "C" fn fikzarn_check(plan: &[u8], certificate: &[u8]) -> u64
     script::answer_word(checker::check(plan, certificate))
 }
 
-// What the maker gave as one word: a grade has the certificate's length in the place. Made is another crate's type, so this is no From.
+// What the maker gave as one word: a grade has the certificate's length in the place. The word is this
+// crate's, so no From in crate certifier.
 fn made_word(made: Made) -> u64
     ensures { result ≡ made_word made }
 {
@@ -85,7 +86,7 @@ pub extern "C" fn fikzarn_count(size: u64, grade: u64) -> u64
     counting::count(size, grade)
 }
 
-// What a mend gave as one word: a grade has the three lengths in the place, 16 bits each. No From either.
+// What a mend gave as one word: a grade has the three lengths in the place, 16 bits each. The word is this crate's too.
 fn mended_word(m: Mended) -> u64
     ensures { result ≡ mended_word m }
 {

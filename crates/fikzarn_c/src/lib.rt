@@ -1,5 +1,6 @@
 // The functions of the library `fikzarn` for callers in other languages: numbers and byte slices, one word for an answer.
-// C passes a slice as a pointer and then a length. Each function does what fikzarn's of the same name does, and states its clauses again.
+// C passes a slice as a pointer and then a length. Each function does what fikzarn's of the same name does, and states its clauses again:
+// an archive can't be used by a crate, and the claims speak of the library.
 #![tactic(auto)]
 
 ghost use Rattle.std.specs.Prelude.{◌≡◌};

@@ -13,7 +13,8 @@ pub const LIMIT: usize = 4096;
 // No line that a program prints is longer.
 pub const LONGEST: usize = 48;
 
-// Each function answers the place behind what it wrote; where there is no room it writes nothing, and answers the place it was given.
+// Each function answers the place behind what it wrote; where there is no room it writes nothing, and answers the place it was given: so the calls can
+// follow one another without a test, as the definition place_after has it.
 pub fn put_bytes<'a>(out: &'a mut [u8], at: usize, bytes: &'a [u8]) -> usize
     ensures value { result ≡ place_after out.old at bytes.now }
     ensures out_after { out.new ≡ written out.old at bytes.now }

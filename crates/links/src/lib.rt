@@ -63,6 +63,7 @@ impl Part {
 impl Link {
     pub const POINTERS: usize = 3 * VertexSet::CAPACITY as usize;
 
+    // one of its two ends, which no derived equality says either
     fn has_end(self, v: u16) -> bool
         ensures { result ≡ link_end v self }
     {
@@ -211,7 +212,7 @@ fn mate_aside(pointers: &mut [u16; Link::POINTERS], part: Part, x: u16, outer: u
     mate(pointers, outer, next);
 }
 
-// The link is split at its inner vertex x.
+// The link is split at its inner vertex x. The two tables go side by side, as callers lend them: a session lends those of its build.
 fn split_link<'a>(
     linked: &'a mut [u64; GraphTable::ROW_WORDS],
     pointers: &'a mut [u16; Link::POINTERS],

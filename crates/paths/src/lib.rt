@@ -70,6 +70,7 @@ pub fn read_vertex(s: &[u8], n: u16, at: usize) -> Result<Item, Answer>
 
 // The vertices of a path after its first. The words of their set are changed in place, so that no set is copied for a vertex.
 // n within the capacity is what the caller tests in one line; a type for it would be no plainer, since each definition speaks of the number n.
+// Record, rows, n and place go side by side through the readers of a certificate: the definitions take them one by one, and the place alone moves.
 fn read_rest(
     s: &[u8],
     rows: &[u64; GraphTable::ROW_WORDS],

@@ -57,7 +57,7 @@ fn word_of(kind: u64, number: u8, place: usize) -> u64
     kind + 256 * number as u64 + 65536 * (place as u64 % 281474976710656)
 }
 
-// An answer as one word. Answer is another crate's type, so this is no From.
+// An answer as one word: the number that the word has is that of this crate's format, which crate record, where a From had to stand, knows nothing of.
 pub fn answer_word(a: Answer) -> u64
     ensures { result ≡ answer_word a }
 {
@@ -69,7 +69,7 @@ pub fn answer_word(a: Answer) -> u64
     }
 }
 
-// Writes an answer behind those that stand at the start of the buffer, or nothing where it has no room: which of the two.
+// Writes an answer behind those that stand at the start of the buffer, or nothing where it has no room: whether it had.
 fn put_answer(out: &mut [u8], count: usize, a: Answer) -> bool
     ensures value { result ≡ has_room_for out.old count }
     ensures out_after { out.new ≡ answered out.old count a }
@@ -92,7 +92,7 @@ pub fn step(session: Session, call: u8, part: &[u8]) -> Stepped
     session.path(part)
 }
 
-// A closing or a taking back, which have no part, by the byte of the call, whatever it is.
+// A closing or a taking back, which have no part, by the byte of the call: promised for every byte too.
 pub fn step_alone(session: Session, call: u8) -> Stepped
     ensures { result ≡ lone_of call session }
 {

@@ -26,7 +26,7 @@ pub struct Reach {
 
 impl Reach {
     // The space that a search is lent: the vertices reached, in order, the seeds first; and from HALF on, for each the place of
-    // the one it was reached from.
+    // the one it was reached from. One slice and not two, since explore promises the whole of what is lent.
     pub const SPACE: usize = 2 * Reach::HALF;
 
     pub const HALF: usize = VertexSet::CAPACITY as usize;
@@ -45,7 +45,8 @@ fn has_room(len: usize, at: usize, k: usize) -> bool
     at <= len && k <= len - at
 }
 
-// The numbers of a list, put from a place on; the place behind them. Nothing is put where they have no room.
+// The numbers of a list, put from a place on; the place behind them. Nothing is put where they have no room, and the place is the one given, as the
+// definition placed_end has it.
 pub fn put_all<'a>(items: &'a mut [u16], at: usize, list: &'a [u16]) -> usize
     ensures after { items.new ≡ placed items.old at list.now }
     ensures value { result ≡ placed_end items.old at list.now }

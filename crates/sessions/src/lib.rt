@@ -22,7 +22,7 @@ pub struct Session {
     pub traces: [Trace; Session::PATHS],
 }
 
-// A plan that was refused gives a session never opened, so the answer stands beside it.
+// A plan that was refused gives a session never opened, so the answer stands beside it, as the definition `opening` and the claims have it.
 #[derive(Clone, Copy)]
 pub struct Opened {
     pub answer: Answer,

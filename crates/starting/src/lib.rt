@@ -14,7 +14,7 @@ use graph::GraphTable;
 use search::{Reach, VertexList};
 use vertexset::VertexSet;
 
-// The four branch vertices and six paths of a start.
+// The four branch vertices and six paths of a start: the array whole, zeros behind its length, as `begin` promises it (the definition paths_of).
 #[derive(Clone, Copy)]
 pub struct Start {
     pub four: VertexSet,

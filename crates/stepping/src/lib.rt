@@ -17,7 +17,7 @@ use search::{Reach, VertexList};
 use vertexset::VertexSet;
 
 // The paths of a build, a stop before each; where a cut was met, those that were there by then: `build` promises them beside the cut, so this is no
-// Result.
+// Result. The array is promised whole, zeros behind the paths (the definition built_of), so its length stands beside it.
 #[derive(Clone, Copy)]
 pub struct Built {
     pub flat: [u16; Ears::ROOM],
@@ -271,7 +271,7 @@ fn pair_place(list: &[u16], x: u16, y: u16) -> usize
     list.len()
 }
 
-// Where two vertices stand side by side on a path, or the length; only where an edge joins them can they.
+// Where two vertices stand side by side on a path, or the length, as the definition beside_place has it; only where an edge joins them can they.
 fn beside<'a>(rows: &'a [u64; GraphTable::ROW_WORDS], list: &'a [u16], x: u16, y: u16) -> usize
     ensures { result ≡ beside_place rows.now x y list.now }
 {

@@ -12,7 +12,7 @@ pub struct VertexSet {
 }
 
 impl VertexSet {
-    // as many as `wordCount` in the definitions
+    // as many as `word_count` in the definitions
     pub const WORDS: usize = 2;
     // a word with all its 64 bits
     const FULL_WORD: u64 = 18446744073709551615;
@@ -168,7 +168,7 @@ impl VertexSet {
         self.walk_at((v / 64) as usize, v % 64)
     }
 
-    // The least member that is not below v, or CAPACITY where there is none: the first that a walk from v on meets.
+    // The least member that is not below v, or CAPACITY where there is none, as the definition `next` has it: the first that a walk from v on meets.
     pub fn next_from(self, v: u16) -> u16
         ensures { result ≡ next self.words v }
     {
