@@ -54,7 +54,8 @@ impl Made {
     pub const ROOM: usize = Numbers::VERTEX_BYTES * Ears::ROOM;
 }
 
-// Each stop becomes the length of the path behind it.
+// Each stop becomes the length of the path behind it. That a list of paths has room comes with the array that it stands in (Ears, Start, Built), whose
+// definitions have the whole array and its length.
 fn lengthen(list: &mut [u16])
     requires { length list.old ≤ path_space }
     ensures { list.new ≡ (lengthened list.old).0 }

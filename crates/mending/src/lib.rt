@@ -32,6 +32,7 @@ struct Places {
 }
 
 // Whether the next edge is the first list's: the second has none left, or its next does not come before it.
+// Counts within the limit are no type of their own: see reading's `read_ends`.
 fn takes_first(a: &[u16; PlanTable::ENDS], b: &[u16; PlanTable::ENDS], p: Places) -> bool
     requires { (p.m ≤ max_edges) × (p.k ≤ max_edges) × (p.i ≤ p.m) × (p.j ≤ p.k) }
     ensures { result ≡ takes_first (edges_ahead a.now p.i p.m) (edges_ahead b.now p.j p.k) }

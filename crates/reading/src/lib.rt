@@ -168,6 +168,7 @@ fn lay_numbers(s: &[u8], from: usize, count: usize, ends: &mut [u16; PlanTable::
 }
 
 // The edges of a plan that was accepted, in the order of its record. A second reading, so that callers who only need the rows keep no array.
+// m within the limit comes from the plan that was read; a type for it would be no plainer, since each definition speaks of the number m.
 fn read_ends(s: &[u8], m: u16, ends: &mut [u16; PlanTable::ENDS])
     requires { m ≤ max_edges }
     ensures { ends.new ≡ ends_read ends.old m s.now }
@@ -204,7 +205,7 @@ fn by_value(s: &[u8], head: PlanHead, rows: [u64; GraphTable::ROW_WORDS]) -> Pla
     }
 }
 
-// The same by value: a plan at the start of s.
+// The same by value: a plan at the start of s. It and read_plan are two public names over one function.
 pub fn read_leading_plan(s: &[u8]) -> Result<PlanRead, Answer>
     ensures { result ≡ plan_result (leading_plan s.now) }
 {

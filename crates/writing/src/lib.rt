@@ -10,7 +10,9 @@ ghost use Rattle.writing.specs.Write.{edges_of, size_of, edges_bytes, EdgesLow, 
 
 use graph::GraphTable;
 use reading::PlanTable;
+
 // How many bytes the first m edges take; None where one of them is not allowed behind the one before it.
+// m within the limit is no type of its own: see reading's `read_ends`.
 fn measure(ends: &[u16; PlanTable::ENDS], n: u16, m: u16) -> Option<usize>
     requires { m ≤ max_edges }
     ensures { result ≡ size_of n (edges_of ends.now m) }
