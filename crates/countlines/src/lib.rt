@@ -11,6 +11,7 @@ use counting::Counts;
 // The text has room in so many bytes.
 pub const ROOM: usize = 3 * lines::LONGEST;
 
+// By way of a text of its own, with the place behind it: the lent buffer changes only where the whole line has room.
 fn put_line(out: &mut [u8], at: usize, size: u64) -> usize
     requires { size ≤ max_size }
     ensures value { result ≡ place_after out.old at (count_line size) }
@@ -26,6 +27,7 @@ fn put_line(out: &mut [u8], at: usize, size: u64) -> usize
 }
 
 // Writes the lines at the start of the buffer and answers their length; where they have no room, nothing is written, and the answer is 0.
+// By way of a text of their own, with the place behind it, for the same reason.
 pub fn text(out: &mut [u8]) -> usize
     ensures value { result ≡ place_after out.old 0 count_text }
     ensures out_after { out.new ≡ written out.old 0 count_text }

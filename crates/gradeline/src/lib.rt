@@ -12,6 +12,7 @@ use itoa::Buffer;
 use lines::Printer;
 use record::Answer;
 
+// By way of a text of its own, with the place behind it: the lent buffer changes only where the whole line has room.
 fn put_grade(out: &mut [u8], n: u16, m: u16, grade: u8) -> usize
     ensures value { result ≡ place_after out.old 0 (graded_line (Grade grade) n m) }
     ensures out_after { out.new ≡ written out.old 0 (graded_line (Grade grade) n m) }

@@ -13,6 +13,7 @@ ghost use Rattle.plan.specs.Line.{size_line, plan_line};
 use lines::Printer;
 use std::io::{self, Read, Write};
 
+// By way of a text of its own, with the place behind it: the lent buffer changes only where the whole line has room.
 fn put_size(out: &mut [u8], n: u16, m: u16) -> usize
     ensures value { result ≡ place_after out.old 0 (size_line Accepted n m) }
     ensures out_after { out.new ≡ written out.old 0 (size_line Accepted n m) }

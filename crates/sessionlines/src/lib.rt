@@ -20,7 +20,7 @@ pub struct Turn {
     pub len: usize,
 }
 
-// A label, a number and the line's end.
+// A label, a number and the line's end; the last two by way of a text of their own: the lent buffer changes only where the whole has room.
 fn put_number<'a>(out: &'a mut [u8], label: &'a [u8], n: u64) -> usize
     requires { length label.now ≤ 9 }
     ensures value { result ≡ place_after out.old 0 (label.now ++ decimal n ++ newline) }
