@@ -6,6 +6,13 @@ use Rattle.record.specs.declared.Answer.TheVariants.{CertificateFault}
 use Rattle.vertexset.specs.Set.{capacity}
 use Rattle.paths.specs.declared.Item.{Item}
 
+-- a value and the place after it; or the papers' number and place for the certificate's fault
+abbrev pub taken : ℕ → ℕ → Result Item Answer
+taken v next = Ok (record { value = v; next = next })
+
+abbrev pub refused : ℕ → ℕ → Result Item Answer
+refused r p = Err (CertificateFault r p)
+
 -- what was made of a value and the place after it; or the certificate's fault, with the papers' number and place
 unfoldable pub told : {A B : Type 0} → (A → ℕ → B) → Read A → Result B Answer
 told f (Got v next) = Ok (f v next)

@@ -9,7 +9,7 @@ ghost use Rattle.vertexset.specs.Set.{has, inserted, capacity};
 ghost use Rattle.graph.specs.Rows.{adjacent_in};
 ghost use Rattle.certificates.specs.Tests.{all_below};
 ghost use Rattle.certificates.specs.Records.{vertex, path};
-ghost use Rattle.paths.specs.Items.{item_read, limited};
+ghost use Rattle.paths.specs.Items.{taken, refused, item_read, limited};
 ghost use Rattle.paths.specs.Paths.{path_read, vertices_at};
 ghost use Rattle.paths.specs.Code.{path_loop, path_begun};
 
@@ -22,6 +22,21 @@ use vertexset::VertexSet;
 pub struct Item {
     pub value: u16,
     pub next: usize,
+}
+
+impl Item {
+    // What a reader answers that has a number, and one that refuses it.
+    pub fn taken(value: u16, next: usize) -> Result<Self, Answer>
+        ensures { result ≡ taken value next }
+    {
+        Ok(Item { value, next })
+    }
+
+    pub fn refused(number: u8, place: usize) -> Result<Self, Answer>
+        ensures { result ≡ refused number place }
+    {
+        Err(Answer::CertificateFault(number, place))
+    }
 }
 
 // A path that was read: where reading goes on, its two ends, whether its neighbours are adjacent, whether no vertex is twice on it
@@ -41,9 +56,9 @@ fn read_item(s: &[u8], at: usize) -> Result<Item, Answer>
 {
     let x = record::read_number(s, at);
     let Number::Value(value, next) = x else {
-        return Err(x.certificate_fault());
+        return Item::refused(record::fault_number(x), record::fault_place(x));
     };
-    Ok(Item { value, next })
+    Item::taken(value, next)
 }
 
 // A number from least to most, refused 9 otherwise.
@@ -52,7 +67,7 @@ pub fn read_ranged(s: &[u8], least: u16, most: u16, at: usize) -> Result<Item, A
 {
     let x = read_item(s, at)?;
     if x.value < least || most < x.value {
-        return Err(Answer::CertificateFault(9, at));
+        return Item::refused(9, at);
     }
     Ok(x)
 }
@@ -63,7 +78,7 @@ pub fn read_vertex(s: &[u8], n: u16, at: usize) -> Result<Item, Answer>
 {
     let x = read_item(s, at)?;
     if n <= x.value {
-        return Err(Answer::CertificateFault(9, at));
+        return Item::refused(9, at);
     }
     Ok(x)
 }

@@ -25,32 +25,18 @@ impl Number {
     // every number that one or two bytes can hold is below it
     pub const LIMIT: u16 = Number::GROUP * Number::GROUP;
 
-    // The papers' number for what is wrong with it, and where; 0 and 0 for a number that was read.
-    fn fault(self) -> (u8, usize)
-        ensures { result ≡ (fault_number self, fault_place self) }
-    {
-        match self {
-            Number::Value(_, _) => (0, 0),
-            Number::Ended(p) => (1, p),
-            Number::Padded(p) => (2, p),
-            Number::Overlong(p) => (33, p),
-        }
-    }
-
     // The answer to a plan in which it stands.
     pub fn plan_fault(self) -> Answer
         ensures { result ≡ Answer.PlanFault (fault_number self) (fault_place self) }
     {
-        let (number, place) = self.fault();
-        Answer::PlanFault(number, place)
+        Answer::PlanFault(fault_number(self), fault_place(self))
     }
 
     // The answer to a certificate in which it stands.
     pub fn certificate_fault(self) -> Answer
         ensures { result ≡ Answer.CertificateFault (fault_number self) (fault_place self) }
     {
-        let (number, place) = self.fault();
-        Answer::CertificateFault(number, place)
+        Answer::CertificateFault(fault_number(self), fault_place(self))
     }
 }
 
@@ -85,6 +71,29 @@ pub fn read_number(s: &[u8], at: usize) -> Number
         return Number::Value(a - Number::GROUP + b * Number::GROUP, second + 1);
     }
     Number::Overlong(at)
+}
+
+// The papers' number for what is wrong with a number, and where; 0 and 0 for a number that was read.
+pub fn fault_number(x: Number) -> u8
+    ensures { result ≡ fault_number x }
+{
+    match x {
+        Number::Value(_, _) => 0,
+        Number::Ended(_) => 1,
+        Number::Padded(_) => 2,
+        Number::Overlong(_) => 33,
+    }
+}
+
+pub fn fault_place(x: Number) -> usize
+    ensures { result ≡ fault_place x }
+{
+    match x {
+        Number::Value(_, _) => 0,
+        Number::Ended(p) => p,
+        Number::Padded(p) => p,
+        Number::Overlong(p) => p,
+    }
 }
 
 // How many bytes the form of a number takes; 2 where it has none.

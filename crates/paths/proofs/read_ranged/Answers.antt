@@ -15,7 +15,7 @@ returns-in_err-x c = let f = told-exit _ c.from_residual.result _ c.in_err-x.ens
 
 pub returns-then-x-least : goal.returns-then-x-least
 unfolding told
-returns-then-x-least c = item_tested 9 _ _ _ c.in_ok-x.ensures (elim c.then-x-least.branch [
+returns-then-x-least c = c.refused.ensures ∙ item_tested 9 _ _ _ c.in_ok-x.ensures (elim c.then-x-least.branch [
   | then-x-least-via-then-x-least w ↦ below-within _ _ _ w.if-x-least.true
   | then-x-least-via-else-x-least+then-most-x w ↦ above_within _ _ _ w.if-most-x.true
 ])

@@ -15,7 +15,7 @@ returns-in_err-x c = let f = told-exit _ c.from_residual.result _ c.in_err-x.ens
 
 pub returns-then-n-x : goal.returns-then-n-x
 unfolding told vertex
-returns-then-n-x c = item_tested 9 _ _ _ c.in_ok-x.ensures (le-ltb _ _ c.if-n-x.true)
+returns-then-n-x c = c.refused.ensures ∙ item_tested 9 _ _ _ c.in_ok-x.ensures (le-ltb _ _ c.if-n-x.true)
 
 pub returns : goal.returns
 unfolding told vertex
