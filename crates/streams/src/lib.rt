@@ -10,9 +10,6 @@ ghost use Rattle.streams.specs.Front.{AppendsFront};
 use lines::Printer;
 use std::io::{Error, ErrorKind, Read, Result, Write};
 
-// A read or a write that a signal interrupts is tried again, so many times at most in one call: nothing says that signals end.
-const RETRIES: usize = 1000;
-
 // Reads until the buffer is full or the input ends, and answers how many bytes stand at its start.
 pub fn read_full<R: Read>(reader: &mut R, buf: &mut [u8]) -> Result<usize>
     ensures bound { ReadsAtMost result buf.new }
@@ -28,16 +25,18 @@ pub fn read_full<R: Read>(reader: &mut R, buf: &mut [u8]) -> Result<usize>
 {
     // `Read::read_exact` says nothing of an input that ends early, nor what an error leaves of it.
     let mut done = 0;
-    let mut tries = RETRIES;
     while done < buf.len() {
-        match reader.read(&mut buf[done..]) {
-            Ok(0) => return Ok(done),
-            Ok(n) => done += n,
-            Err(e) => retry(e, &mut tries)?,
+        let n = reader.read(&mut buf[done..])?;
+        if n == 0 {
+            return Ok(done);
         }
+        done += n;
     }
     Ok(done)
 }
+
+// A write that a signal interrupts is tried again, so many times at most in one call: nothing says that signals end. A read that fails is not tried again.
+const RETRIES: usize = 1000;
 
 // Writes all the bytes. Where that fails, a front of them is written.
 pub fn write_full<W: Write>(writer: &mut W, bytes: &[u8]) -> Result<()>
@@ -51,20 +50,14 @@ pub fn write_full<W: Write>(writer: &mut W, bytes: &[u8]) -> Result<()>
         match writer.write(&bytes[done..]) {
             Ok(0) => return Err(Error::from(ErrorKind::WriteZero)),
             Ok(n) => done += n,
-            Err(e) => retry(e, &mut tries)?,
+            Err(e) => {
+                if tries == 0 || e.kind() != ErrorKind::Interrupted {
+                    return Err(e);
+                }
+                tries -= 1;
+            }
         }
     }
-    Ok(())
-}
-
-// Uses up a try, or answers the error: where none is left, and where the error is no interruption.
-fn retry(e: Error, tries: &mut usize) -> Result<()>
-    ensures { OnOk result (tries.new < tries.old) }
-{
-    if *tries == 0 || e.kind() != ErrorKind::Interrupted {
-        return Err(e);
-    }
-    *tries -= 1;
     Ok(())
 }
 

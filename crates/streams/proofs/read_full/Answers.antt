@@ -2,7 +2,7 @@
 use Rattle.std.proofs.Common.{◌≡◌, ℕ, ◌+◌, ◌-◌, ◌≤◌, List, ◌++◌, rules, length, take, drop, sym, ap, ◌∙◌, subst, le_refl, drop_at, length-take-le}
 use Rattle.std.proofs.lemmas.Slice.{take-put_mid_below}
 use Rattle.std.specs.Io.KnownBytes.{Consumes}
-use Rattle.std.proofs.KnownBytes.{Consumes-trans, Consumes-kept}
+use Rattle.std.proofs.KnownBytes.{Consumes-trans}
 use borrow.Rule.Slice.PartMut.{put_mid, post_of}
 use lib.Seq.{take-add, take-append-le}
 use Rattle.streams.proofs.read_full.Goals as goal
@@ -14,16 +14,9 @@ joined a k n xs ys within fits =
     let part : take n (drop a (put_mid a k xs ys)) ≡ take n ys = ap (take n) (drop_at (take a xs) (ys ++ after) a (length-take-le a xs within)) ∙ take-append-le n ys after fits in
     ap (λ l. l ++ take n ys) (sym (take-put_mid_below _ _ _ _ _ (le_refl _) within)) ∙ ap (λ l. take a (put_mid a k xs ys) ++ l) (sym part) ∙ sym (take-add a n (put_mid a k xs ys))
 
-pub loop-done-preserved-in-Ok : goal.loop-done-preserved-in-Ok
-loop-done-preserved-in-Ok g c =
-    let before = c.loop-done.invariant in
-    let from = c.loop-done.done in
-    let e = joined from (length c.loop-done.buf - from) c.in-Ok.n c.loop-done.buf c.read.new.buf before.1 c.in-Ok.ensures.bound.0 in
-    (search rules, search rules, subst (Consumes _ _) e (Consumes-trans _ _ _ _ _ before.2 c.in-Ok.ensures.bytes.0))
-
--- a read that fails consumes nothing, and the bytes before its part stay
 pub loop-done-preserved : goal.loop-done-preserved
 loop-done-preserved g c =
     let before = c.loop-done.invariant in
-    let e = sym (take-put_mid_below _ _ _ _ _ (le_refl _) before.1) in
-    (search rules, search rules, subst (Consumes _ _) e (Consumes-kept _ _ _ _ before.2 c.in-Err.ensures.bytes))
+    let from = c.loop-done.done in
+    let e = joined from (length c.loop-done.buf - from) c.in_ok-n.n c.loop-done.buf c.read.new.buf before.1 c.in_ok-n.ensures.bound.0 in
+    (search rules, search rules, subst (Consumes _ _) e (Consumes-trans _ _ _ _ _ before.2 c.in_ok-n.ensures.bytes.0))
