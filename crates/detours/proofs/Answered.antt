@@ -1,6 +1,6 @@
--- What a search found, as the code answers it: a path, or the cut. Assumes nothing.
+-- What a search found, as the code answers it: a path, or the cut; and how those take it that go on where nothing is cut. Assumes nothing.
 use Prim.Native.Nat.{ℕ, ◌≤◌, ◌<◌}
-use mathlib.Core.Logic.{◌≢◌}
+use mathlib.Core.Logic.{◌⊎◌, inl, inr}
 use mathlib.Core.Path.{◌≡◌, refl, sym, ap, subst, ◌∙◌}
 use mathlib.Core.Bool.{Bool, true, false, cond}
 use mathlib.Core.List.{List, [], ◌∷◌, ◌++◌, append-nil}
@@ -9,57 +9,93 @@ use lib.Dec.{ltb, eqb}
 use lib.ListN.{length}
 use borrow.Author.Tests.{lt-ltb, le-ltb, eq-eqb, eqb-true}
 use Rattle.std.specs.Prelude.{Option, Some, None, Result, Ok, Err}
-use Rattle.arrayvec.specs.ArrayVec.{ArrayVec}
 use Rattle.vertexset.specs.Set.{none, empty_set, count, capacity}
 use Rattle.vertexset.specs.declared.VertexSet.{VertexSet}
 use Rattle.graph.specs.Rows.{row_of}
-use Rattle.search.specs.Code.{path_of, path_room, search_space, left_in, answer_in, no_reach, route_in}
+use Rattle.search.specs.Code.{Vertices, path_of, path_room, search_space, left_in, answer_in, no_reach, route_in}
 use Rattle.search.specs.declared.Reach.{Reach}
 use Rattle.search.proofs.Lent.{answer_is, routed}
 use Rattle.construction.specs.Sets.{minus, single, least}
 use Rattle.construction.specs.Search as searching
 use Rattle.construction.specs.Search.{explore, route, is_found, reached}
 use Rattle.construction.specs.Ears as construction
-use Rattle.construction.specs.Ears.{is_cut, found, failed, answered, way_out, detour, cycle}
-use Rattle.detours.specs.Code.{cut_of, found_of, way_of, answered_in, back_by, detour_by, detour_in, cycle_by, cycle_in}
+use Rattle.construction.specs.Ears.{is_cut, found, failed, answered, way_out, back_from, detour, cycle}
+use Rattle.detours.specs.Code.{cut_of, found_by, found_of, settled_of, settled, way_of, answered_in, back_by, detour_by, detour_in, cycle_by, cycle_in}
 use Rattle.detours.specs.declared.Cut.{Cut}
 use Rattle.detours.proofs.Routes.{route-short}
 
 abbrev pub Found : Type 0
-Found = Result (ArrayVec ℕ) Cut
+Found = Result Vertices Cut
 
 -- ---- the two answers
+
+module _ (f : construction.Found) where
+  pub found_path : {p : Vertices} → Ok p ≡ found_of f → p.items ≡ f.path
+  found_path {p} e = go f.path e
+    where
+      go : (l : List ℕ) → Ok p ≡ found_by l f.cut_by → p.items ≡ l
+      go [] q = cc
+      go (v ∷ l) q = let y : p ≡ path_of (v ∷ l) = cc in ap (λ (z : Vertices). z.items) y
+
+  found_some : {p : Vertices} → Ok p ≡ found_of f → f.path ≡ [] → ⊥
+  found_some {p} e h = go (e ∙ ap (λ (l : List ℕ). found_by l f.cut_by) h)
+    where
+      go : Ok p ≡ found_by [] f.cut_by → ⊥
+      go q = cc
+
+-- a route is never empty
+found_ok : (m : searching.Reach) (more : List ℕ) {p : Vertices} → p.items ≡ route m ++ more → Ok p ≡ found_of (found (route m ++ more))
+found_ok m more e = ap (λ (k : List ℕ). Ok (path_of k)) e
+
+-- ---- the same, for those that go on where nothing is cut
 
 module _ (f : construction.Found) where
   abbrev by_test : Bool → Found
   by_test b = cond b (Err (cut_of f.cut_by)) (Ok (path_of f.path))
 
-  told_by : {b : Bool} {x : Found} → is_cut f.cut_by ≡ b → x ≡ found_of f → x ≡ by_test b
+  told_by : {b : Bool} {x : Found} → is_cut f.cut_by ≡ b → x ≡ settled_of f → x ≡ by_test b
   told_by t e = e ∙ ap by_test t
 
-  pub ok_test : {p : ArrayVec ℕ} → Ok p ≡ found_of f → is_cut f.cut_by ≡ false
+  pub ok_test : {p : Vertices} → Ok p ≡ settled_of f → is_cut f.cut_by ≡ false
   ok_test {p} e = go (is_cut f.cut_by) refl
     where
       go : (b : Bool) → is_cut f.cut_by ≡ b → is_cut f.cut_by ≡ false
       go true t = let z = told_by t e in cc
       go false t = t
 
-  pub ok_path : {p : ArrayVec ℕ} → Ok p ≡ found_of f → p.items ≡ f.path
-  ok_path {p} e = let z = told_by (ok_test e) e in let y : p ≡ path_of f.path = cc in ap (λ (v : ArrayVec ℕ). v.items) y
+  pub ok_path : {p : Vertices} → Ok p ≡ settled_of f → p.items ≡ f.path
+  ok_path {p} e = let z = told_by (ok_test e) e in let y : p ≡ path_of f.path = cc in ap (λ (v : Vertices). v.items) y
 
-  pub err_test : {c : Cut} → Err c ≡ found_of f → is_cut f.cut_by ≡ true
+  pub err_test : {c : Cut} → Err c ≡ settled_of f → is_cut f.cut_by ≡ true
   err_test {c} e = go (is_cut f.cut_by) refl
     where
       go : (b : Bool) → is_cut f.cut_by ≡ b → is_cut f.cut_by ≡ true
       go true t = t
       go false t = let z = told_by t e in cc
 
-  pub err_cut : {c : Cut} → Err c ≡ found_of f → c ≡ cut_of f.cut_by
+  pub err_cut : {c : Cut} → Err c ≡ settled_of f → c ≡ cut_of f.cut_by
   err_cut {c} e = let z = told_by (err_test e) e in cc
 
-pub found_ok : (l : List ℕ) {p : ArrayVec ℕ} → p.items ≡ l → Ok p ≡ found_of (found l)
-unfolding none
-found_ok l e = ap (λ (k : List ℕ). Ok (path_of k)) e
+-- an answer has a path or a cut, and never both
+abbrev pub Either : construction.Found → Type 0
+Either f = (f.path ≡ []) ⊎ (is_cut f.cut_by ≡ false)
+
+settled-is : (l : List ℕ) (c : construction.Cut) → Either (record { path = l; cut_by = c }) → settled (found_by l c) ≡ settled_of (record { path = l; cut_by = c })
+settled-is [] c h = refl
+settled-is (v ∷ l) c (inl e) = cc
+settled-is (v ∷ l) c (inr t) = rw t
+
+settled_on : {g f : construction.Found} {x s : Found} → Either f → x ≡ found_of g → g ≡ f → s ≡ settled x → s ≡ settled_of f
+settled_on {f = f} h e w q = q ∙ ap settled (e ∙ ap found_of w) ∙ settled-is f.path f.cut_by h
+
+module _ (m : searching.Reach) (removed : VertexSet) (more : List ℕ) where
+  pub either_answered : Either (answered m removed more)
+  unfolding none
+  either_answered = go (is_found m)
+    where
+      go : (b : Bool) → Either (cond b (found (route m ++ more)) (failed removed (reached m removed)))
+      go true = inr refl
+      go false = inl refl
 
 -- ---- a space of the right size, and one of another
 
@@ -89,7 +125,7 @@ module _ (rows space : List ℕ) (seeds goals removed : VertexSet) {r : Reach} (
   met : length space ≡ search_space → r.goal < capacity → is_found here ≡ true
   met size h = lt-ltb here.goal capacity (subst (λ (x : Reach). x.goal < capacity) (answer_is rows space seeds goals removed size e) h)
 
-  pub found_in : {out : List ℕ} → out ≡ left_in space here → {p : ArrayVec ℕ} → r.goal < capacity → p.items ≡ route_in out r
+  pub found_in : {out : List ℕ} → out ≡ left_in space here → {p : Vertices} → r.goal < capacity → p.items ≡ route_in out r
       → Ok p ≡ found_of (answered_in space here removed [])
   found_in {out} o {p} h q = go (eqb (length space) search_space) refl
     where
@@ -97,7 +133,7 @@ module _ (rows space : List ℕ) (seeds goals removed : VertexSet) {r : Reach} (
       go true t =
           let size : length space ≡ search_space = eqb-true (length space) search_space t in
           let w : p.items ≡ route here ++ [] = q ∙ routed rows space seeds goals removed size o e ∙ sym (append-nil (route here)) in
-          found_ok (route here ++ []) w ∙ ap found_of (by_found space here removed [] (met size h) ∙ by_size space here removed [] t)
+          found_ok here [] w ∙ ap found_of (by_found space here removed [] (met size h) ∙ by_size space here removed [] t)
       go false t = let z = ap (λ (x : Reach). x.goal) (unsized space here t e) in absurd (omega arith)
 
 -- ---- one vertex more; a search that failed leaves no path
@@ -127,28 +163,27 @@ module _ (space : List ℕ) (m : searching.Reach) (removed : VertexSet) (x : ℕ
       go false t d u =
           stays (ap (λ (y : construction.Found). y.path) (sym (by_size space m removed [] t))) (sym (by_size space m removed (x ∷ []) t) ∙ by_size space m removed [] t)
 
-  module _ {p : ArrayVec ℕ} (e : Ok p ≡ found_of one) where
+  module _ {p : Vertices} (e : Ok p ≡ found_of one) where
     pub goes_room : length p.items < path_room
     goes_room = go ways
       where
         go : Goes m x one two → length p.items < path_room
-        go (stays a b) = let z = ap length (ok_path one e ∙ a) in omega arith
-        go (goes a b) = let z = ap length (ok_path one e ∙ ap (λ (y : construction.Found). y.path) a) in omega (arith, route-short m)
+        go (stays a b) = absurd (found_some one e a)
+        go (goes a b) = let z = ap length (found_path one e ∙ ap (λ (y : construction.Found). y.path) a) in omega (arith, route-short m)
 
-    pub goes_none : length p.items ≡ 0 → Ok p ≡ found_of two
-    goes_none h = go ways
-      where
-        go : Goes m x one two → Ok p ≡ found_of two
-        go (stays a b) = e ∙ ap found_of (sym b)
-        go (goes a b) = let z = sym h ∙ ap length (ok_path one e ∙ ap (λ (y : construction.Found). y.path) a) in absurd (omega arith)
-
-    pub goes_on : length p.items ≢ 0 → {q : ArrayVec ℕ} → q.items ≡ p.items ++ (x ∷ []) → Ok q ≡ found_of two
-    goes_on h {q} k = go ways
+    pub goes_on : {q : Vertices} → q.items ≡ p.items ++ (x ∷ []) → Ok q ≡ found_of two
+    goes_on {q} k = go ways
       where
         go : Goes m x one two → Ok q ≡ found_of two
-        go (stays a b) = absurd (h (ap length (ok_path one e ∙ a)))
-        go (goes a b) =
-            found_ok (route m ++ (x ∷ [])) (k ∙ ap (λ (l : List ℕ). l ++ (x ∷ [])) (ok_path one e ∙ ap (λ (y : construction.Found). y.path) a)) ∙ ap found_of (sym b)
+        go (stays a b) = absurd (found_some one e a)
+        go (goes a b) = found_ok m (x ∷ []) (k ∙ ap (λ (l : List ℕ). l ++ (x ∷ [])) (found_path one e ∙ ap (λ (y : construction.Found). y.path) a)) ∙ ap found_of (sym b)
+
+  pub goes_none : {c : Cut} → Err c ≡ found_of one → Err c ≡ found_of two
+  goes_none {c} e = go ways
+    where
+      go : Goes m x one two → Err c ≡ found_of two
+      go (stays a b) = e ∙ ap found_of (sym b)
+      go (goes a b) = let z : Err c ≡ found_of (found (route m)) = e ∙ ap found_of a in cc
 
 -- ---- out and back: what comes of the search, whatever is asked of it
 
@@ -205,6 +240,27 @@ module _ {A : Type 0} (told : searching.Reach → VertexSet → List ℕ → A) 
 
 -- ---- in a space of the right size the definition's answer comes
 
+module _ (rows : List ℕ) where
+  either_back : (set : VertexSet) (e : ℕ × ℕ) → Either (back_from rows set e)
+  either_back set e = go (ltb e.0 capacity)
+    where
+      go : (b : Bool) → Either (cond b (answered (explore rows (single e.1) (minus set (single e.0)) (single e.0)) (single e.0) (e.0 ∷ [])) (failed empty_set set))
+      go true = either_answered (explore rows (single e.1) (minus set (single e.0)) (single e.0)) (single e.0) (e.0 ∷ [])
+      go false = inl refl
+
+  either_detour : (n set : VertexSet) → Either (detour rows n set)
+  unfolding detour
+  either_detour n set = either_back set (way_out rows n set)
+
+  either_cycle : Either (cycle rows)
+  unfolding cycle
+  either_cycle = go (ltb (count (row_of rows 0).words) 2)
+    where
+      go : (b : Bool) → Either
+          (cond b (failed (row_of rows 0) (single 0)) (answered (explore rows (single (least (row_of rows 0))) (minus (row_of rows 0) (single (least (row_of rows 0)))) (single 0)) (single 0) (0 ∷ [])))
+      go true = inl refl
+      go false = either_answered (explore rows (single (least (row_of rows 0))) (minus (row_of rows 0) (single (least (row_of rows 0)))) (single 0)) (single 0) (0 ∷ [])
+
 module _ (space : List ℕ) (size : length space ≡ search_space) (rows : List ℕ) where
   told-sized : answered_in space ≡ answered
   told-sized i m removed more = answered-sized space m removed more size i
@@ -220,12 +276,12 @@ module _ (space : List ℕ) (size : length space ≡ search_space) (rows : List 
       cond (ltb (count (row_of rows 0).words) 2) (failed (row_of rows 0) (single 0)) (told (explore rows (single (least (row_of rows 0))) (minus (row_of rows 0) (single (least (row_of rows 0)))) (single 0)) (single 0) (0 ∷ [])))
       told-sized
 
-  pub detour-told : (n set : VertexSet) {f : Found} → f ≡ found_of (detour_in space rows n set) → f ≡ found_of (detour rows n set)
-  detour-told n set e = e ∙ ap found_of (detour-sized n set)
+  pub detour-told : (n set : VertexSet) {x s : Found} → x ≡ found_of (detour_in space rows n set) → s ≡ settled x → s ≡ settled_of (detour rows n set)
+  detour-told n set e = settled_on (either_detour rows n set) e (detour-sized n set)
 
-  pub cycle-told : {f : Found} → f ≡ found_of (cycle_in space rows) → f ≡ found_of (cycle rows)
-  cycle-told e = e ∙ ap found_of cycle-sized
+  pub cycle-told : {x s : Found} → x ≡ found_of (cycle_in space rows) → s ≡ settled x → s ≡ settled_of (cycle rows)
+  cycle-told e = settled_on (either_cycle rows) e cycle-sized
 
-pub answered-told : (space : List ℕ) → length space ≡ search_space → (m : searching.Reach) (removed : VertexSet) (more : List ℕ) {f : Found}
-    → f ≡ found_of (answered_in space m removed more) → f ≡ found_of (answered m removed more)
-answered-told space size m removed more e = e ∙ ap found_of (answered-sized space m removed more size)
+pub answered-told : (space : List ℕ) → length space ≡ search_space → (m : searching.Reach) (removed : VertexSet) (more : List ℕ) {f : construction.Found} → answered m removed more ≡ f → {x s : Found}
+    → x ≡ found_of (answered_in space m removed more) → s ≡ settled x → s ≡ settled_of f
+answered-told space size m removed more w e q = settled_on (either_answered m removed more) e (answered-sized space m removed more size) q ∙ ap settled_of w

@@ -7,11 +7,10 @@ use native.Mathlib.Omega.{arith}
 use lib.Dec.{ltb}
 use lib.ListN.{length, take, replicate}
 use Rattle.std.specs.Prelude.{Ok, Err}
-use Rattle.arrayvec.specs.ArrayVec.{ArrayVec}
 use Rattle.vertexset.specs.Set.{empty_set, count, capacity}
 use Rattle.vertexset.specs.declared.VertexSet.{VertexSet}
 use Rattle.search.specs.Arrays.{placed, placed_end}
-use Rattle.search.specs.Code.{path_room}
+use Rattle.search.specs.Code.{Vertices, path_room}
 use Rattle.construction.specs.Sets.{stop, minus, single, set_with_all, empty}
 use Rattle.construction.specs.Search.{explore}
 use Rattle.construction.specs.Ears as construction
@@ -19,7 +18,7 @@ use Rattle.construction.specs.Ears.{no_cut, is_cut, failed, answered, near_all, 
 use Rattle.construction.proofs.Basics.{Sized}
 use Rattle.construction.proofs.SetLaws.{sized_empty, sized_all}
 use Rattle.construction.proofs.Near.{near-grows, near-set}
-use Rattle.detours.specs.Code.{cut_of, cut_in, found_of, ears_of, Kept}
+use Rattle.detours.specs.Code.{cut_of, cut_in, settled_of, ears_of, Kept}
 use Rattle.detours.specs.declared.Cut.{Cut}
 use Rattle.detours.specs.declared.Ears.{Ears}
 use Rattle.detours.proofs.Routes.{answered-one}
@@ -54,10 +53,10 @@ abbrev pub stage : {A : Type 0} → (construction.Cut → A) → (List ℕ → A
 stage end more g = cond (is_cut g.cut_by) (end g.cut_by) (more g.path)
 
 module _ {A : Type 0} (end : construction.Cut → A) (more : List ℕ → A) (g : construction.Found) where
-  pub stage_cut : {c : Cut} → Err c ≡ found_of g → end (cut_in c) ≡ stage end more g
+  pub stage_cut : {c : Cut} → Err c ≡ settled_of g → end (cut_in c) ≡ stage end more g
   stage_cut e = rw (err_test g e) (ap (λ (x : Cut). end (cut_in x)) (err_cut g e))
 
-  pub stage_on : {p : ArrayVec ℕ} → Ok p ≡ found_of g → more p.items ≡ stage end more g
+  pub stage_on : {p : Vertices} → Ok p ≡ settled_of g → more p.items ≡ stage end more g
   stage_on e = rw (ok_test g e) (ap more (ok_path g e))
 
 -- ---- the first ear
@@ -67,11 +66,11 @@ abbrev pub ears_from : List ℕ → VertexSet → List ℕ → Eared
 ears_from rows full path = ears_on rows full capacity (add_path [] path) 1 (set_with_all empty_set path)
 
 module _ (rows : List ℕ) (full : VertexSet) where
-  pub first_cut : {c : Cut} → Err c ≡ found_of (cycle rows) → eared [] 0 (cut_in c) ≡ ears rows full
+  pub first_cut : {c : Cut} → Err c ≡ settled_of (cycle rows) → eared [] 0 (cut_in c) ≡ ears rows full
   unfolding ears
   first_cut e = stage_cut (eared [] 0) (ears_from rows full) (cycle rows) e
 
-  pub first_on : {p : ArrayVec ℕ} → Ok p ≡ found_of (cycle rows) → ears_from rows full p.items ≡ ears rows full
+  pub first_on : {p : Vertices} → Ok p ≡ settled_of (cycle rows) → ears_from rows full p.items ≡ ears rows full
   unfolding ears
   first_on e = stage_on (eared [] 0) (ears_from rows full) (cycle rows) e
 
@@ -138,13 +137,13 @@ module _ {rows : List ℕ} {full : VertexSet} {whole : Eared} {flat : List ℕ} 
       abbrev more : List ℕ → Eared
       more p = ears_on rows full left (add_path (take len flat) p) (count + 1) (set_with_all set p)
 
-      way : {d : Found} → d ≡ found_of (detour rows n set) → d ≡ found_of (detour rows (near rows set) set)
-      way e = e ∙ ap (λ (x : VertexSet). found_of (detour rows x set)) g.same_near
+      way : {d : Found} → d ≡ settled_of (detour rows n set) → d ≡ settled_of (detour rows (near rows set) set)
+      way e = e ∙ ap (λ (x : VertexSet). settled_of (detour rows x set)) g.same_near
 
-      pub earing_cut : {c : Cut} → Err c ≡ found_of (detour rows n set) → ears_at flat len count c ≡ ears_of whole
+      pub earing_cut : {c : Cut} → Err c ≡ settled_of (detour rows n set) → ears_at flat len count c ≡ ears_of whole
       earing_cut {c} e = shown (cut_in c) refl (stage_cut (eared (take len flat) count) more (detour rows (near rows set) set) (way e) ∙ rw u at next)
 
-      pub earing_on : {p : ArrayVec ℕ} → Ok p ≡ found_of (detour rows n set) → {l : List ℕ} → l ≡ p.items → {flat2 : List ℕ} {len2 : ℕ} {set2 n2 : VertexSet}
+      pub earing_on : {p : Vertices} → Ok p ≡ settled_of (detour rows n set) → {l : List ℕ} → l ≡ p.items → {flat2 : List ℕ} {len2 : ℕ} {set2 n2 : VertexSet}
           → flat2 ≡ placed flat len (stop ∷ l) → len2 ≡ placed_end flat len (stop ∷ l) → set2 ≡ set_with_all set l → n2 ≡ near_all rows n l
           → Earing rows full whole flat2 len2 set2 n2 (count + 1) (counter + 1)
       earing_on e {l} p {flat2} {len2} m k a z =

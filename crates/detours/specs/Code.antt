@@ -1,11 +1,10 @@
 -- What the functions give: the values of the definition, its lists at the front of arrays.
 use Rattle.std.specs.Prelude.{ℕ, ◌≤◌, ◌≡◌, cond, List, [], ◌∷◌, ltb, eqb, length, take, Option, Some, None, Result, Ok, Err}
-use Rattle.arrayvec.specs.ArrayVec.{ArrayVec}
 use Rattle.vertexset.specs.Set.{empty_set, count, capacity}
 use Rattle.vertexset.specs.declared.VertexSet.{VertexSet}
 use Rattle.graph.specs.Rows.{row_of}
 use Rattle.search.specs.Arrays.{padded}
-use Rattle.search.specs.Code.{path_of, search_space, left_in}
+use Rattle.search.specs.Code.{Vertices, path_of, search_space, left_in}
 use Rattle.construction.specs.Sets.{minus, single, least}
 use Rattle.construction.specs.Search.{Reach, explore}
 use Rattle.construction.specs.Ears as construction
@@ -16,9 +15,13 @@ use Rattle.detours.specs.declared.Ears.{Ears}
 abbrev pub cut_of : construction.Cut → Cut
 cut_of c = record { removed = c.removed; side = c.side }
 
--- a cut where somebody is on the side, else the path
-abbrev pub found_of : construction.Found → Result (ArrayVec ℕ) Cut
-found_of f = cond (is_cut f.cut_by) (Err (cut_of f.cut_by)) (Ok (path_of f.path))
+-- a path, or where there is none the cut, whether somebody is on its side or not
+abbrev pub found_by : List ℕ → construction.Cut → Result Vertices Cut
+found_by [] c = Err (cut_of c)
+found_by (v ∷ l) c = Ok (path_of (v ∷ l))
+
+abbrev pub found_of : construction.Found → Result Vertices Cut
+found_of f = found_by f.path f.cut_by
 
 abbrev pub flat_of : List ℕ → List ℕ
 flat_of l = padded path_space l
@@ -29,6 +32,15 @@ ears_of e = record { flat = flat_of e.flat; len = length e.flat; count = e.count
 -- the cut of the definition, from the code's struct
 abbrev pub cut_in : Cut → construction.Cut
 cut_in c = record { removed = c.removed; side = c.side }
+
+-- for those that go on where nothing is cut: a cut where somebody is on the side, else the path, be it empty
+abbrev pub settled_of : construction.Found → Result Vertices Cut
+settled_of f = cond (is_cut f.cut_by) (Err (cut_of f.cut_by)) (Ok (path_of f.path))
+
+-- the same, from what a search answers
+abbrev pub settled : Result Vertices Cut → Result Vertices Cut
+settled (Ok p) = Ok p
+settled (Err c) = cond (is_cut (cut_in c)) (Err c) (Ok (path_of []))
 
 -- ---- a search in the space that is lent for it
 

@@ -1,15 +1,15 @@
 // Paths and cuts by one search each: a way out of a set of vertices and back, a cycle through vertex 0; ears until every vertex is in.
 #![tactic(auto)]
 
-ghost use Rattle.std.specs.Prelude.{◌≡◌, [], ◌∷◌, get_or};
+ghost use Rattle.std.specs.Prelude.{◌≡◌, [], ◌∷◌, take, get_or};
 ghost use Rattle.vertexset.specs.Set.{empty_set, capacity};
 ghost use Rattle.search.specs.Arrays.{placed, placed_end};
-ghost use Rattle.search.specs.Code.{left_in};
+ghost use Rattle.search.specs.Code.{path_of, left_in};
 ghost use Rattle.construction.specs.Sets.{stop, pair, single, set_with_all, last_of};
 ghost use Rattle.construction.specs.Search.{explore};
 ghost use Rattle.construction.specs.Ears.{no_cut, is_cut, failed, near_all, way_out, add_path, ears_on, ears};
 ghost use Rattle.construction.specs.Start.{marked};
-ghost use Rattle.detours.specs.Code.{cut_of, found_of, way_of, ears_of, answered_in, detour_in, detour_left, cycle_in, cycle_left};
+ghost use Rattle.detours.specs.Code.{cut_of, found_of, settled, way_of, ears_of, answered_in, detour_in, detour_left, cycle_in, cycle_left};
 
 use graph::GraphTable;
 use search::{Reach, VertexList};
@@ -22,7 +22,7 @@ pub struct Cut {
     pub side: VertexSet,
 }
 
-// A path of vertices, or a cut. Where a search finds neither, the path is empty.
+// A path of vertices, never empty; or a cut. Where nothing is cut either, the cut has the removed vertices, and nobody on its side.
 pub type Found = Result<VertexList, Cut>;
 
 // Ears one after the other in an array, a stop before each, and how many; and the cut that ended them, if one did: what find_ears and
@@ -94,18 +94,43 @@ pub fn last_of(list: &[u16]) -> u16
     list.last().copied().unwrap_or(0)
 }
 
-// Without a path: a cut, where somebody is on the side.
+// A path without vertices.
+pub fn no_path() -> VertexList
+    ensures { result ≡ path_of [] }
+{
+    VertexList::new()
+}
+
+// The first numbers of an array that has room for a path; all where it has no more.
+pub fn front<'a>(list: &'a [u16; VertexList::ROOM], count: usize) -> &'a [u16]
+    ensures { result.now ≡ take count list.now }
+{
+    &list[..count.min(VertexList::ROOM)]
+}
+
+// A search's answer for those that go on with an empty path where nothing is cut: the cut only where somebody is on its side.
+pub fn settled(found: Found) -> Found
+    ensures { result ≡ settled found }
+{
+    match found {
+        Ok(path) => Ok(path),
+        Err(cut) => {
+            if cut.is_cut() {
+                return Err(cut);
+            }
+            Ok(no_path())
+        }
+    }
+}
+
+// Without a path: the cut, whether somebody is on its side or not.
 fn failed(removed: VertexSet, side: VertexSet) -> Found
     ensures { result ≡ found_of (failed removed side) }
 {
-    let cut = Cut { removed, side };
-    if cut.is_cut() {
-        return Err(cut);
-    }
-    Ok(VertexList::new())
+    Err(Cut { removed, side })
 }
 
-// A search, answered by a path or a cut. In a space of another size than Reach::SPACE nothing is searched, and the path is empty. Rows and space go
+// A search, answered by a path or a cut. In a space of another size than Reach::SPACE nothing is searched, and nobody is on the side. Rows and space go
 // side by side: many searches share a space, and a struct of the two would be taken apart again at each.
 pub fn find<'a>(
     rows: &'a [u64; GraphTable::ROW_WORDS],
@@ -137,9 +162,7 @@ pub fn find_on<'a>(
     ensures value { result ≡ found_of (answered_in space.old (explore rows.now seeds goals (single x)) (single x) (x ∷ [])) }
 {
     let mut path = find(rows, space, seeds, goals, single(x))?;
-    if !path.is_empty() {
-        path.push(x);
-    }
+    path.push(x);
     Ok(path)
 }
 
@@ -263,7 +286,7 @@ fn more_ears<'a>(
         if full.minus(set).is_empty() {
             return ears_of(flat, len, count, Cut::none());
         }
-        let found = match detour(rows, space, near, set) {
+        let found = match settled(detour(rows, space, near, set)) {
             Ok(path) => path,
             Err(cut) => return ears_of(flat, len, count, cut),
         };
@@ -281,7 +304,7 @@ pub fn find_ears(rows: &[u64; GraphTable::ROW_WORDS], full: VertexSet) -> Ears
     ensures { result ≡ ears_of (ears rows.now full) }
 {
     let mut space = [0u16; Reach::SPACE];
-    match cycle(rows, &mut space) {
+    match settled(cycle(rows, &mut space)) {
         Ok(first) => more_ears(rows, &mut space, full, first.as_slice()),
         Err(cut) => ears_of([0u16; Ears::ROOM], 0, 0, cut),
     }

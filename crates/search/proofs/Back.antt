@@ -9,6 +9,7 @@ use lib.Dec.{ltb}
 use borrow.Author.Tests.{lt-ltb, le-ltb}
 use Rattle.vertexset.specs.Set.{capacity}
 use Rattle.construction.specs.Search.{back}
+use Rattle.search.specs.Code.{Vertices, path_room, pushed}
 
 back_more : (k : ℕ) (order from : List ℕ) (seeds i : ℕ) → back (suc k) order from seeds i ≡ get_or order i 0 ∷ cond (ltb i seeds) [] (back k order from seeds (get_or from i 0))
 unfolding back
@@ -17,6 +18,10 @@ back_more k order from seeds i = refl
 back_none : (order from : List ℕ) (seeds i : ℕ) → back 0 order from seeds i ≡ []
 unfolding back
 back_none order from seeds i = refl
+
+-- a vertex that has room
+pub pushed-items : (p : Vertices) (v : ℕ) → length p.items < path_room → (pushed p v).items ≡ p.items ++ (v ∷ [])
+pushed-items p v h = rw (lt-ltb (length p.items) path_room h)
 
 -- after so many turns, at place i
 pub record Going (order from : List ℕ) (seeds : ℕ) (whole path : List ℕ) (i counter : ℕ) : Type 0 where

@@ -1,18 +1,20 @@
 -- Lists at the front of the code's arrays: what is put behind one, and what is read from it. Assumes nothing.
-use Prim.Native.Nat.{ℕ, zero, suc, ◌+◌, ◌-◌, ◌<◌, ◌≤◌}
+use Prim.Native.Nat.{ℕ, zero, suc, ◌+◌, ◌-◌, ◌<◌, ◌≤◌, min}
 use mathlib.Core.List.{List, [], ◌∷◌, ◌++◌}
 use mathlib.Core.Bool.{Bool, true, false, cond}
-use mathlib.Core.Path.{◌≡◌, refl, sym, ◌∙◌}
+use mathlib.Core.Path.{◌≡◌, refl, sym, ap, ◌∙◌}
 use native.Mathlib.Omega.{arith}
+use Rattle.std.proofs.Math.Nat.{min-le_left}
+use Rattle.std.proofs.lemmas.List.{length-take, take_min}
 use lib.ListN.{length, get_or, take, drop, set, replicate, length-append, length-replicate, get_or-eq_default, get_or-append}
 use lib.Seq.{take-append_seam, drop-append-add, append_snoc, set_at, get_or-append-add}
 use lib.Dec.{ltb, leb}
-use borrow.Author.Tests.{leb-true, ltb-true, ltb-false}
+use borrow.Author.Tests.{leb-true, ltb-true, ltb-false, le-leb}
 use Rattle.vertexset.proofs.Laws.{zeros-at}
 use Rattle.record.specs.Write.{has_room, overwritten}
 use Rattle.record.proofs.Write.{overwritten-length}
 use Rattle.construction.specs.Sets.{added}
-use Rattle.search.specs.Arrays.{padded, placed, placed_end}
+use Rattle.search.specs.Arrays.{padded, Fronted, placed, placed_end}
 
 pub placed-length : (items : List ℕ) (at : ℕ) (l : List ℕ) → length (placed items at l) ≡ length items
 placed-length items at l = go (has_room items at l) refl
@@ -79,3 +81,31 @@ pub padded-set : (size : ℕ) (l : List ℕ) (v : ℕ) → length l < size → s
 padded-set size l v h =
     let n : size - length l ≡ suc (size - length (l ++ (v ∷ []))) = omega (arith, length-append l (v ∷ [])) in
     rw n (set_at l 0 (zeros (size - length (l ++ (v ∷ [])))) v (length l) refl ∙ sym (append_snoc l v (zeros (size - length (l ++ (v ∷ []))))))
+
+-- as much of a list as has room, put at the front of zeros
+module _ (size : ℕ) (l : List ℕ) {k : ℕ} (m : k ≡ min size (length l)) {out : List ℕ} {n : ℕ} (a : out ≡ placed (zeros size) 0 (take k l)) (b : n ≡ placed_end (zeros size) 0 (take k l)) where
+  fits : length (take k l) ≤ size
+  fits = omega (arith, length-take k l, m, min-le_left size (length l), min-le_left k (length l))
+
+  front : out ≡ padded size (take k l)
+  front =
+      let z : 0 + length (take k l) ≡ length (take k l) = omega arith in
+      a ∙ rw (length-replicate {A = ℕ} size 0, z, le-leb (length (take k l)) size fits, drop_zeros (length (take k l)) size)
+
+  count : n ≡ length (take k l)
+  count =
+      let z : 0 + length (take k l) ≡ length (take k l) = omega arith in
+      b ∙ rw (length-replicate {A = ℕ} size 0, z, le-leb (length (take k l)) size fits)
+
+  whole : take n out ≡ take k l
+  whole = rw (front, count) (padded-take size (take k l) fits)
+
+  pub placed-fronted : Fronted size out n
+  placed-fronted = record {
+    sized = ap length front ∙ padded-length size (take k l) fits;
+    within = omega (arith, count, fits, ap length front, padded-length size (take k l) fits);
+    zeros = front ∙ ap (padded size) (sym whole);
+  }
+
+  pub placed-front : take n out ≡ take size l
+  placed-front = whole ∙ rw m (take_min size l)

@@ -1,6 +1,5 @@
 -- What the functions give: the search of the definition, its lists at the front of arrays.
-use Rattle.std.specs.Prelude.{ℕ, ◌+◌, ◌*◌, cond, List, ◌∷◌, ◌++◌, eqb, leb, length, take, drop, replicate}
-use Rattle.arrayvec.specs.ArrayVec.{ArrayVec}
+use Rattle.std.specs.Prelude.{ℕ, ◌+◌, ◌*◌, cond, List, [], ◌∷◌, ◌++◌, eqb, leb, ltb, length, take, drop, replicate}
 use Rattle.record.specs.Write.{overwritten}
 use Rattle.vertexset.specs.Set.{empty_set, capacity}
 use Rattle.vertexset.specs.declared.VertexSet.{VertexSet}
@@ -12,8 +11,16 @@ use Rattle.search.specs.declared.Reach.{Reach}
 abbrev pub path_room : ℕ
 path_room = capacity + 2
 
-abbrev pub path_of : List ℕ → ArrayVec ℕ
+-- a path, as contracts see it
+pub record Vertices : Type 0 where
+  pub items : List ℕ
+
+abbrev pub path_of : List ℕ → Vertices
 path_of l = record { items = l }
+
+-- a vertex behind those of a path, where it has room
+abbrev pub pushed : Vertices → ℕ → Vertices
+pushed p v = cond (ltb (length p.items) path_room) (path_of (p.items ++ (v ∷ []))) p
 
 abbrev pub reach_of : construction.Reach → Reach
 reach_of r = record {

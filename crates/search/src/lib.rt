@@ -1,15 +1,15 @@
 // One search serves the certifier: from seeds to the nearest goal, with vertices removed; a path, or the closed set that was reached.
 #![tactic(auto)]
 
-ghost use Rattle.std.specs.Prelude.{◌≡◌, ◌≤◌, ◌+◌, leb, get_or, replicate, take, drop};
+ghost use Rattle.std.specs.Prelude.{◌≡◌, ◌≤◌, ◌<◌, ◌+◌, ◌==◌, [], ◌∷◌, ◌++◌, leb, length, reverse, get_or, replicate, take, drop};
 ghost use Rattle.construction.specs.Sets.{members};
 ghost use Rattle.construction.specs.Search.{explore};
 ghost use Rattle.search.specs.Arrays.{placed, placed_end};
-ghost use Rattle.search.specs.Code.{reach_of, route_in, space_after, left_in, answer_in, reached_after, reached_end, visits_in};
+ghost use Rattle.search.specs.Code.{path_room, pushed, reach_of, route_in, space_after, left_in, answer_in, reached_after, reached_end, visits_in};
 ghost use Rattle.vertexset.specs.Set.{capacity};
 
-use arrayvec::ArrayVec;
 use graph::GraphTable;
+use std::marker::Model;
 use vertexset::VertexSet;
 
 // What a search answers: how many vertices it reached, and how many of them are seeds; the vertices reached or removed; the goal that
@@ -32,11 +32,88 @@ impl Reach {
     pub const HALF: usize = VertexSet::CAPACITY as usize;
 }
 
-// every vertex, and two more
-pub const PATH_ROOM: usize = VertexSet::CAPACITY as usize + 2;
+pub const PATH_ROOM: usize = VertexList::ROOM;
 
-// A list of vertices that lies in the value itself: no heap.
-pub type VertexList = ArrayVec<u16, PATH_ROOM>;
+// A list of vertices that lies in the value itself: no heap. No ArrayVec of the kit, since it is Copy. Contracts see its items alone; what stands
+// behind them is zeros, so that these give the fields back, which a copy needs.
+#[derive(Clone, Copy)]
+pub struct VertexList {
+    vertices: [u16; VertexList::ROOM],
+    count: usize,
+}
+
+impl Model for VertexList {
+    ghost use Rattle.std.specs.Prelude.{length, take};
+    ghost use Rattle.std.proofs.Common.{sym, length-take-le};
+    ghost use Rattle.search.specs.Arrays.{padded, Fronted};
+    ghost use Rattle.search.specs.Code.{Vertices, path_room};
+
+    ghost Value = { Vertices };
+
+    ghost view = { λ p. record { items = take p.count p.vertices } };
+
+    ghost invariant = { λ p. Fronted path_room p.vertices p.count };
+
+    ghost inverse = { λ v. record { vertices = padded path_room v.items; count = length v.items } };
+
+    ghost inverse_ok = { λ p h i. record {
+      vertices = sym h.zeros i;
+      count = length-take-le p.count p.vertices h.within i;
+    } };
+}
+
+impl VertexList {
+    // every vertex, and two more
+    pub const ROOM: usize = VertexSet::CAPACITY as usize + 2;
+
+    pub fn new() -> Self
+        ensures { result.items ≡ [] }
+    {
+        VertexList {
+            vertices: [0u16; VertexList::ROOM],
+            count: 0,
+        }
+    }
+
+    // The first vertices of a slice, as many as have room.
+    pub fn from_slice(list: &[u16]) -> Self
+        ensures { result.items ≡ take path_room list.now }
+    {
+        let mut vertices = [0u16; VertexList::ROOM];
+        let front = &list[..VertexList::ROOM.min(list.len())];
+        let count = put_all(&mut vertices, 0, front);
+        VertexList { vertices, count }
+    }
+
+    pub fn is_empty(&self) -> bool
+        ensures { result ≡ (length self.now.items == 0) }
+    {
+        self.count == 0
+    }
+
+    pub fn as_slice(&self) -> &[u16]
+        ensures value { result.now ≡ self.now.items }
+        ensures fits { length result.now ≤ path_room }
+    {
+        &self.vertices[..self.count]
+    }
+
+    // A vertex behind the others; without room nothing changes.
+    pub fn push(&mut self, v: u16)
+        ensures { self.new ≡ pushed self.old v }
+    {
+        if self.count < VertexList::ROOM {
+            self.vertices[self.count] = v;
+            self.count += 1;
+        }
+    }
+
+    pub fn reverse(&mut self)
+        ensures { self.new.items ≡ reverse self.old.items }
+    {
+        self.vertices[..self.count].reverse();
+    }
+}
 
 // Whether k numbers have room from a place on, in an array of this length.
 fn has_room(len: usize, at: usize, k: usize) -> bool
@@ -54,9 +131,11 @@ pub fn put_all<'a>(items: &'a mut [u16], at: usize, list: &'a [u16]) -> usize
     if !has_room(items.len(), at, list.len()) {
         return at;
     }
-    let end = at + list.len();
-    items[at..end].copy_from_slice(list);
-    end
+    // no copy_from_slice, of which the compiler makes a call of memmove: an archive for C needs nothing from outside but memcpy and memset
+    for i in 0..list.len() {
+        items[at + i] = list[i];
+    }
+    at + list.len()
 }
 
 // The members of a set, ascending. The walk takes one step for each member and word, and stays a walk.

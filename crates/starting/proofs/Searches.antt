@@ -6,7 +6,7 @@ use mathlib.Core.List.{List, [], ◌∷◌}
 use lib.ListN.{get_or}
 use borrow.Author.Tests.{lt-ltb, le-ltb}
 use Rattle.std.specs.Prelude.{Ok, Err}
-use Rattle.arrayvec.specs.ArrayVec.{ArrayVec}
+use Rattle.search.specs.Code.{Vertices}
 use Rattle.vertexset.specs.Set.{none, empty_set, count}
 use Rattle.vertexset.specs.declared.VertexSet.{VertexSet}
 use Rattle.graph.specs.Rows.{row_of}
@@ -15,7 +15,7 @@ use Rattle.construction.specs.Search.{explore}
 use Rattle.construction.specs.Ears as construction
 use Rattle.construction.specs.Ears.{is_cut, answered, cycle}
 use Rattle.construction.specs.Start.{Begun, begun, broken, third_path, across, start_on, crossed, thirded, around, begin}
-use Rattle.detours.specs.Code.{cut_of, found_of}
+use Rattle.detours.specs.Code.{cut_of, settled_of}
 use Rattle.detours.specs.declared.Cut.{Cut}
 use Rattle.detours.proofs.Answered.{ok_test, ok_path, err_test, err_cut}
 use Rattle.starting.specs.Code.{paths_of, start_of}
@@ -45,12 +45,12 @@ unfolding none
 begun_is four flat = refl
 
 module _ (g : construction.Found) (rest : List ℕ → Begun) where
-  stage_cut : {c : Cut} → Err c ≡ found_of g → Err c ≡ start_of (cond (is_cut g.cut_by) (broken g.cut_by) (rest g.path))
+  stage_cut : {c : Cut} → Err c ≡ settled_of g → Err c ≡ start_of (cond (is_cut g.cut_by) (broken g.cut_by) (rest g.path))
   stage_cut e =
       let z : broken g.cut_by ≡ cond (is_cut g.cut_by) (broken g.cut_by) (rest g.path) = rw (err_test g e) in
       broken_is (err_test g e) (err_cut g e) ∙ ap start_of z
 
-  stage_on : {v : ArrayVec ℕ} → Ok v ≡ found_of g → rest v.items ≡ cond (is_cut g.cut_by) (broken g.cut_by) (rest g.path)
+  stage_on : {v : Vertices} → Ok v ≡ settled_of g → rest v.items ≡ cond (is_cut g.cut_by) (broken g.cut_by) (rest g.path)
   stage_on e = ap rest (ok_path g e) ∙ rw (ok_test g e)
 
 module _ (rows : List ℕ) (row : VertexSet) (e : row ≡ row_of rows 0) (n : ℕ) (k : n ≡ count row.words) where
@@ -66,22 +66,22 @@ module _ (rows : List ℕ) (row : VertexSet) (e : row ≡ row_of rows 0) (n : �
     unfolding begin
     begin-on = rw (← counted, le-ltb n 3 enough)
 
-    pub cycle-cut : {c : Cut} → Err c ≡ found_of (cycle rows) → Err c ≡ start_of (begin rows)
+    pub cycle-cut : {c : Cut} → Err c ≡ settled_of (cycle rows) → Err c ≡ start_of (begin rows)
     cycle-cut q = stage_cut (cycle rows) (λ p. thirded rows p (third_path rows p)) q ∙ ap start_of begin-on
 
-    module _ {v : ArrayVec ℕ} (q : Ok v ≡ found_of (cycle rows)) where
+    module _ {v : Vertices} (q : Ok v ≡ settled_of (cycle rows)) where
       thirded_is : thirded rows v.items (third_path rows v.items) ≡ begin rows
       thirded_is = stage_on (cycle rows) (λ p. thirded rows p (third_path rows p)) q ∙ begin-on
 
-      pub third_cut : {c : Cut} → Err c ≡ found_of (third_path rows v.items) → Err c ≡ start_of (begin rows)
+      pub third_cut : {c : Cut} → Err c ≡ settled_of (third_path rows v.items) → Err c ≡ start_of (begin rows)
       third_cut t = stage_cut (third_path rows v.items) (λ p. crossed v.items p (across rows v.items p)) t ∙ ap start_of thirded_is
 
-      module _ {w : ArrayVec ℕ} (t : Ok w ≡ found_of (third_path rows v.items)) where
+      module _ {w : Vertices} (t : Ok w ≡ settled_of (third_path rows v.items)) where
         crossed_is : crossed v.items w.items (across rows v.items w.items) ≡ begin rows
         crossed_is = stage_on (third_path rows v.items) (λ p. crossed v.items p (across rows v.items p)) t ∙ thirded_is
 
-        pub across-cut : {c : Cut} → Err c ≡ found_of (across rows v.items w.items) → Err c ≡ start_of (begin rows)
+        pub across-cut : {c : Cut} → Err c ≡ settled_of (across rows v.items w.items) → Err c ≡ start_of (begin rows)
         across-cut y = stage_cut (across rows v.items w.items) (start_on v.items w.items) y ∙ ap start_of crossed_is
 
-        pub across-on : {x : ArrayVec ℕ} → Ok x ≡ found_of (across rows v.items w.items) → {s : Start} → s ≡ paths_of (start_on v.items w.items x.items) → Ok s ≡ start_of (begin rows)
+        pub across-on : {x : Vertices} → Ok x ≡ settled_of (across rows v.items w.items) → {s : Start} → s ≡ paths_of (start_on v.items w.items x.items) → Ok s ≡ start_of (begin rows)
         across-on {x} y z = ap Ok z ∙ begun_is (start_on v.items w.items x.items).four (start_on v.items w.items x.items).flat ∙ ap start_of (stage_on (across rows v.items w.items) (start_on v.items w.items) y ∙ crossed_is)

@@ -6,7 +6,7 @@ ghost use Rattle.vertexset.specs.Set.{next};
 ghost use Rattle.search.specs.Arrays.{placed, placed_end};
 ghost use Rattle.construction.specs.Sets.{stop};
 ghost use Rattle.construction.specs.Start.{marked, link_in, sorted, three_paths, third_path, across, begun, start_on, begin};
-ghost use Rattle.detours.specs.Code.{found_of};
+ghost use Rattle.detours.specs.Code.{settled_of};
 ghost use Rattle.starting.specs.Code.{paths_of, start_of};
 
 use detours::{Cut, Ears, Found};
@@ -28,17 +28,17 @@ fn third_path<'a>(
     space: &'a mut [u16; Reach::SPACE],
     around: &'a [u16],
 ) -> Found
-    ensures { result ≡ found_of (third_path rows.now around.now) }
+    ensures { result ≡ settled_of (third_path rows.now around.now) }
 {
     let set = detours::with_all(VertexSet::empty(), around);
     let z = graph::row(rows, 0).minus(set).next_from(0);
-    detours::find_on(
+    detours::settled(detours::find_on(
         rows,
         space,
         detours::single(z),
         set.minus(detours::single(0)),
         0,
-    )
+    ))
 }
 
 // A path from inside the third path across to the cycle.
@@ -48,12 +48,12 @@ fn path_across<'a>(
     around: &'a [u16],
     third: &'a [u16],
 ) -> Found
-    ensures { result ≡ found_of (across rows.now around.now third.now) }
+    ensures { result ≡ settled_of (across rows.now around.now third.now) }
 {
     let ends = detours::pair(0, detours::number_at(third, 0));
     let seeds = detours::with_all(VertexSet::empty(), third).minus(ends);
     let goals = detours::with_all(VertexSet::empty(), around).minus(ends);
-    detours::find(rows, space, seeds, goals, ends)
+    detours::settled(detours::find(rows, space, seeds, goals, ends))
 }
 
 // Neighbours on the three paths are joined in a table.
@@ -160,7 +160,7 @@ pub fn begin(rows: &[u64; GraphTable::ROW_WORDS]) -> Result<Start, Cut>
         });
     }
     let mut space = [0u16; Reach::SPACE];
-    let around = detours::cycle(rows, &mut space)?;
+    let around = detours::settled(detours::cycle(rows, &mut space))?;
     let third = third_path(rows, &mut space, around.as_slice())?;
     let across = path_across(rows, &mut space, around.as_slice(), third.as_slice())?;
     Ok(start_on(&mut space, &around, &third, &across))

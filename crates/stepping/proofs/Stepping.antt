@@ -1,9 +1,9 @@
 -- The steps of a build, as the code puts them together. Assumes nothing.
 use Rattle.std.specs.Prelude.{Option, None, Some, IfSome, Ok, Err, position}
-use Prim.Native.Nat.{ℕ, zero, suc, ◌+◌, ◌≤◌, ◌<◌}
+use Prim.Native.Nat.{ℕ, zero, suc, ◌+◌, ◌-◌, ◌≤◌, ◌<◌}
 use mathlib.Core.Path.{◌≡◌, refl, sym, ap, subst, ◌∙◌}
 use mathlib.Core.Bool.{Bool, true, false, cond, not}
-use mathlib.Core.List.{List}
+use mathlib.Core.List.{List, []}
 use native.Mathlib.Omega.{arith}
 use lib.Dec.{ltb}
 use lib.ListN.{length, take, get_or}
@@ -11,16 +11,17 @@ use lib.Seq.{take_all}
 use borrow.Author.Tests.{lt-ltb, le-ltb}
 use Rattle.vertexset.specs.Set.{has}
 use Rattle.vertexset.specs.declared.VertexSet.{VertexSet}
-use Rattle.construction.specs.Sets.{set_of, minus, last_of, place_of, empty}
+use Rattle.construction.specs.Sets.{set_of, minus, pair, last_of, place_of, empty}
+use Rattle.construction.specs.Search.{explore}
 use Rattle.construction.specs.Ears as construction
 use Rattle.construction.specs.Ears.{no_cut, is_cut, answered, near, detour}
 use Rattle.construction.specs.Steps.{State, state, stopped, extended, segment, off_link, up_to, run_end, link_step, beside_place, reroute, out_taken, out_step, inner_place, step, steps}
 use Rattle.construction.proofs.Basics.{Sized}
-use Rattle.detours.specs.Code.{cut_of, found_of}
+use Rattle.detours.specs.Code.{cut_of, settled_of}
 use Rattle.detours.specs.declared.Cut.{Cut}
 use Rattle.detours.proofs.Answered.{Found, ok_test, ok_path, err_test, err_cut}
 use Rattle.detours.proofs.Kept.{kept_size, kept_shows}
-use Rattle.arrayvec.specs.ArrayVec.{ArrayVec}
+use Rattle.search.specs.Code.{Vertices}
 use Rattle.stepping.specs.Code.{Shows, Holds, state_in, Spans, Works, Left}
 use Rattle.stepping.specs.declared.Progress.{Progress}
 use Rattle.stepping.specs.declared.Work.{Work}
@@ -56,6 +57,12 @@ link_way rows st i = off_link rows st i (run_end st.flat (minus st.built st.bran
 unfoldable pub link_inner : State → ℕ → VertexSet
 link_inner st i = set_of (segment st.flat i (run_end st.flat (minus st.built st.branch) i))
 
+-- its search, as the code puts it together
+pub off-found : (rows list : List ℕ) (built link ends seeds rest goals : VertexSet) (i j p q a b x y : ℕ) → link ≡ set_of (segment list i j) → p ≡ i - 1 → a ≡ get_or list p 0 → b ≡ get_or list j 0 → ends ≡ pair a b
+    → x ≡ get_or list i 0 → q ≡ j - 1 → y ≡ get_or list q 0 → seeds ≡ pair x y → rest ≡ minus built link → goals ≡ minus rest ends
+    → answered (explore rows seeds goals ends) ends [] ≡ off_link rows (state list built built 0) i j
+off-found rows list built link ends seeds rest goals i j p q a b x y l e f g h k m n o s t = rw (t, s, o, n, m, k, h, g, f, e, l)
+
 link-taken : (rows : List ℕ) (st : State) (i : ℕ)
     → cond (is_cut (link_way rows st i).cut_by) (stopped st (link_way rows st i).cut_by) (extended st (up_to (link_inner st i) (link_way rows st i).path) i) ≡ link_step rows st i
 unfolding link_way link_inner link_step
@@ -68,17 +75,17 @@ module _ (rows flat : List ℕ) (b : Progress) (held : Holds rows flat b) (i : �
     unfolding link_inner
     link-inner q = q ∙ rw e
 
-    pub link-found : {f : Found} → f ≡ found_of (off_link rows (state (take b.len flat) b.built b.built 0) i j) → f ≡ found_of (link_way rows (state_in flat b) i)
+    pub link-found : {f : Found} → f ≡ settled_of (off_link rows (state (take b.len flat) b.built b.built 0) i j) → f ≡ settled_of (link_way rows (state_in flat b) i)
     unfolding link_way
     link-found q = q ∙ rw e
 
-  pub link-stops : {c : Cut} → Err c ≡ found_of (link_way rows (state_in flat b) i) → {r : Progress} → r ≡ stopped_as b c → Shows rows flat r (link_step rows (state_in flat b) i)
+  pub link-stops : {c : Cut} → Err c ≡ settled_of (link_way rows (state_in flat b) i) → {r : Progress} → r ≡ stopped_as b c → Shows rows flat r (link_step rows (state_in flat b) i)
   link-stops e {r} q =
       let h : is_cut (link_way rows (state_in flat b) i).cut_by ≡ true = err_test (link_way rows (state_in flat b) i) e in
       let w : stopped (state_in flat b) (link_way rows (state_in flat b) i).cut_by ≡ link_step rows (state_in flat b) i = rw (← link-taken rows (state_in flat b) i, h) in
       subst (λ (st : State). Shows rows flat r st) w (stops rows flat b held (link_way rows (state_in flat b) i).cut_by (err_cut (link_way rows (state_in flat b) i) e) q)
 
-  pub link-goes : {p : ArrayVec ℕ} → Ok p ≡ found_of (link_way rows (state_in flat b) i) → {inner : VertexSet} → inner ≡ link_inner (state_in flat b) i → {path l : List ℕ} → path ≡ p.items → l ≡ up_to inner path
+  pub link-goes : {p : Vertices} → Ok p ≡ settled_of (link_way rows (state_in flat b) i) → {inner : VertexSet} → inner ≡ link_inner (state_in flat b) i → {path l : List ℕ} → path ≡ p.items → l ≡ up_to inner path
       → {out : List ℕ} {r : Progress} → Shows rows out r (extended (state_in flat b) l i) → Shows rows out r (link_step rows (state_in flat b) i)
   link-goes e n q u {out} {r} s =
       let h : is_cut (link_way rows (state_in flat b) i).cut_by ≡ false = ok_test (link_way rows (state_in flat b) i) e in
@@ -114,20 +121,20 @@ module _ (rows : List ℕ) (full : VertexSet) (flat : List ℕ) (b : Progress) (
     abbrev way : construction.Found
     way = detour rows (near rows b.built) b.built
 
-    way_found : {f : Found} → f ≡ found_of (detour rows b.near b.built) → f ≡ found_of way
-    way_found e = e ∙ ap (λ (n : VertexSet). found_of (detour rows n b.built)) held.same_near
+    way_found : {f : Found} → f ≡ settled_of (detour rows b.near b.built) → f ≡ settled_of way
+    way_found e = e ∙ ap (λ (n : VertexSet). settled_of (detour rows n b.built)) held.same_near
 
     out_taken_lem : out_taken rows (state_in flat b) way ≡ out_step rows full (state_in flat b)
     out_taken_lem = rw (out_step_lem rows full (state_in flat b), ← done_is, h)
 
-    pub out_stops : {c : Cut} → Err c ≡ found_of (detour rows b.near b.built) → {r : Progress} → r ≡ stopped_as b c → Shows rows flat r (out_step rows full (state_in flat b))
+    pub out_stops : {c : Cut} → Err c ≡ settled_of (detour rows b.near b.built) → {r : Progress} → r ≡ stopped_as b c → Shows rows flat r (out_step rows full (state_in flat b))
     out_stops e {r} q =
         let u : is_cut way.cut_by ≡ true = err_test way (way_found e) in
         let w : stopped (state_in flat b) way.cut_by ≡ out_step rows full (state_in flat b) = rw (← out_taken_lem, u) in
         subst (λ (st : State). Shows rows flat r st) w (stops rows flat b held way.cut_by (err_cut way (way_found e)) q)
 
     -- the place at which the ends of the path stand side by side
-    module _ {p : ArrayVec ℕ} (e : Ok p ≡ found_of (detour rows b.near b.built)) {l : List ℕ} (q : l ≡ p.items) {k x y : ℕ} (last : x ≡ last_of l) (first : y ≡ get_or l 0 0)
+    module _ {p : Vertices} (e : Ok p ≡ settled_of (detour rows b.near b.built)) {l : List ℕ} (q : l ≡ p.items) {k x y : ℕ} (last : x ≡ last_of l) (first : y ≡ get_or l 0 0)
         (place : k ≡ beside_place rows x y (take b.len flat)) where
       out_path : l ≡ way.path
       out_path = q ∙ ok_path way (way_found e)

@@ -8,7 +8,7 @@ ghost use Rattle.graph.specs.Limits.{max_edges};
 ghost use Rattle.search.specs.Code.{path_of, path_room};
 ghost use Rattle.construction.specs.Sets.{minus, set_of, members_from, place_of};
 ghost use Rattle.construction.specs.Steps.{state, extended, segment, off_link, up_to, link_step, turned, pair_place, beside_place, reroute, out_step, step, steps, add_edges, finish};
-ghost use Rattle.detours.specs.Code.{found_of, Kept, FlatShows};
+ghost use Rattle.detours.specs.Code.{settled_of, Kept, FlatShows};
 ghost use Rattle.stepping.specs.Code.{has_pair, put_between, put_between_end, state_in, Holds, Shows, built_in, Spans, AtWork, Works, Left};
 
 use detours::{Cut, Ears, Found};
@@ -65,7 +65,7 @@ fn off_link<'a>(
     w: Work,
 ) -> Found
     requires { w.link ≡ set_of (segment list.now w.first w.end) }
-    ensures { result ≡ found_of (off_link rows.now (state list.now built built 0) w.first w.end) }
+    ensures { result ≡ settled_of (off_link rows.now (state list.now built built 0) w.first w.end) }
 {
     let ends = detours::pair(
         detours::number_at(list, w.first.saturating_sub(1)),
@@ -75,7 +75,7 @@ fn off_link<'a>(
         detours::number_at(list, w.first),
         detours::number_at(list, w.end.saturating_sub(1)),
     );
-    detours::find(rows, space, seeds, built.minus(w.link).minus(ends), ends)
+    detours::settled(detours::find(rows, space, seeds, built.minus(w.link).minus(ends), ends))
 }
 
 // The place of the first vertex in the set.
@@ -286,13 +286,10 @@ fn turned(path: &[u16], z: u16) -> VertexList
     requires { length path.now ≤ path_room }
     ensures { result ≡ path_of (turned path.now z) }
 {
-    let mut inner = VertexList::new();
     if path.len() < 2 {
-        return inner;
+        return VertexList::new();
     }
-    inner
-        .try_extend_from_slice(&path[1..path.len() - 1])
-        .unwrap();
+    let mut inner = VertexList::from_slice(&path[1..path.len() - 1]);
     if z != path[0] {
         inner.reverse();
     }
@@ -351,7 +348,7 @@ fn out_step<'a>(
     if full.minus(b.built).is_empty() {
         return stopped(b, Cut::none());
     }
-    let found = match detours::detour(rows, space, b.near, b.built) {
+    let found = match detours::settled(detours::detour(rows, space, b.near, b.built)) {
         Ok(found) => found,
         Err(cut) => return stopped(b, cut),
     };

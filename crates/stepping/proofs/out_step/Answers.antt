@@ -13,16 +13,16 @@ returns-then-is_empty c = let a = c.args in
 pub returns-in-Err : goal.returns-in-Err
 returns-in-Err c = let a = c.args in
     out_stops a.rows.now a.full a.flat.now a.b c.requires c.minus.ensures c.is_empty.ensures c.if-is_empty.false
-    (detour-told a.space.now (search rules) a.rows.now a.b.near a.b.built c.in-Err.ensures.value) c.stopped-in-Err.ensures
+    (detour-told a.space.now (search rules) a.rows.now a.b.near a.b.built c.detour.ensures.value c.in-Err.ensures) c.stopped-in-Err.ensures
 
 pub returns-then-k-b : goal.returns-then-k-b
 returns-then-k-b c = let a = c.args in
     out_reroutes a.rows.now a.full a.flat.now a.b c.requires c.minus.ensures c.is_empty.ensures c.if-is_empty.false
-    (detour-told a.space.now (search rules) a.rows.now a.b.near a.b.built c.in-Ok.ensures.value) c.as_slice-path.ensures.value
+    (detour-told a.space.now (search rules) a.rows.now a.b.near a.b.built c.detour.ensures.value c.in-Ok.ensures) c.as_slice-path.ensures.value
     c.last_of.ensures c.number_at.ensures c.beside-k.ensures c.if-k-b.true c.reroute.ensures
 
 pub returns : goal.returns
 returns c = let a = c.args in
     out_extends a.rows.now a.full a.flat.now a.b c.requires c.minus.ensures c.is_empty.ensures c.if-is_empty.false
-    (detour-told a.space.now (search rules) a.rows.now a.b.near a.b.built c.in-Ok.ensures.value) c.as_slice-path.ensures.value
+    (detour-told a.space.now (search rules) a.rows.now a.b.near a.b.built c.detour.ensures.value c.in-Ok.ensures) c.as_slice-path.ensures.value
     c.last_of.ensures c.number_at.ensures c.beside-k.ensures c.if-k-b.false c.extend.ensures
