@@ -142,13 +142,12 @@ module _ (n : ℕ) (rows s : List ℕ) (pairs : List (ℕ × ℕ)) (b : Build) (
   reading = start_on (rows_graph n rows) (towards l b)
 
   pub start-stop : {d : Answer} → Err d ≡ told (start_hand b) (start_path_read n rows l b s at)
-      → (Err d ≡ runs (start_loop n rows) (6 - i) st st s at)
-      × (pointers ≡ (led (start_on (rows_graph n rows)) start_entered (6 - i) st s at).build.pointers) × (linked ≡ (led (start_on (rows_graph n rows)) start_entered (6 - i) st s at).build.linked)
+      → (Err d ≡ runs (start_loop n rows) (6 - i) st st s at) × (build_in b.sets pointers linked ≡ (led (start_on (rows_graph n rows)) start_entered (6 - i) st s at).build)
   start-stop e =
       let t = left_bad entered b f g (start_hand b) e in
       let r = tested_next ∙ within reading s at low ∙ t.2 in
       let k = led-stop (start_on (rows_graph n rows)) start_entered s (6 - i) st at r in
-      (ap Err t.3 ∙ turn_stop (start_loop n rows) s (6 - i) (omega arith) st st at r, t.4 ∙ ap (λ (z : BuildStart). z.build.pointers) k, t.5 ∙ ap (λ (z : BuildStart). z.build.linked) k)
+      (ap Err t.3 ∙ turn_stop (start_loop n rows) s (6 - i) (omega arith) st st at r, same_build {sets = b.sets} refl t.4 t.5 ∙ ap (λ (z : BuildStart). z.build) k)
 
   pub start-go : {x : Taken} → Ok x ≡ told (start_hand b) (start_path_read n rows l b s at)
       → let on = start_with pairs (i + 1) (build_in x.sets pointers linked) in

@@ -16,6 +16,7 @@ use Rattle.build.specs.declared.Build.{Build}
 use Rattle.build.specs.declared.Sets.{Sets}
 use Rattle.build.specs.declared.Taken.{Taken}
 use Rattle.build.specs.declared.Traced.{Traced}
+use Rattle.build.specs.declared.Untaken.{Untaken}
 use Rattle.build.specs.declared.Four.{Four}
 use Rattle.links.specs.Tables.{last_from}
 use Rattle.build.specs.State.{path_taken, trace_of, bare_on, build_path, BuildStart, start_on, start_entered, start_of}
@@ -76,6 +77,20 @@ four_read b next = record { next = next; p = b.0; q = b.1.0; r = b.1.1.0; s = b.
 
 abbrev pub four_of : Four → ℕ × (ℕ × (ℕ × ℕ))
 four_of f = (f.p, (f.q, (f.r, f.s)))
+
+-- a start of which nothing entered: no sets
+abbrev pub no_start : Answer → Untaken
+no_start d = record { answer = d; sets = record { branch = empty_set; built = empty_set } }
+
+-- what a start gives, with the answer alone where it is refused
+abbrev pub answered : Result Taken Untaken → Result Taken Answer
+answered (Ok x) = Ok x
+answered (Err x) = Err x.answer
+
+-- the sets of what entered, whether the start was taken or refused
+abbrev pub sets_left : Result Taken Untaken → Sets
+sets_left (Ok x) = x.sets
+sets_left (Err x) = x.sets
 
 -- what reading a start leaves of the tables that it is lent, with the sets: the paths before a fault, or all six, are entered; where
 -- the four can't be read, the tables as they were and no sets

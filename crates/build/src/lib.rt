@@ -12,7 +12,7 @@ ghost use Rattle.paths.specs.Paths.{vertices_at};
 ghost use Rattle.graph.specs.Rows.{rows_graph};
 ghost use Rattle.links.specs.Tables.{point_along, mated_ends};
 ghost use Rattle.build.specs.State.{entered, raised_at, path_taken, no_trace, unwound, lowered, taken_back, bare_build, four_set, start_on, start_entered, start_of, start_in, started, build_body};
-ghost use Rattle.build.specs.Code.{path_fault, build_in, PathAt, ToldAt, inner_at, before_at, traced, on_path_read, start_path_read, further_read, four_read, four_of, start_left, start_loop, further_loop};
+ghost use Rattle.build.specs.Code.{path_fault, build_in, PathAt, ToldAt, inner_at, before_at, traced, on_path_read, start_path_read, further_read, four_read, four_of, no_start, answered, sets_left, start_left, start_loop, further_loop};
 
 use graph::GraphTable;
 use links::{End, Ends, Link};
@@ -42,6 +42,13 @@ pub struct Build {
 #[derive(Clone, Copy)]
 pub struct Taken {
     pub next: usize,
+    pub sets: Sets,
+}
+
+// Why a start is refused, and the sets of what had entered the tables before the fault: it stays in them.
+#[derive(Clone, Copy)]
+pub struct Untaken {
+    pub answer: Answer,
     pub sets: Sets,
 }
 
@@ -390,6 +397,18 @@ impl Build {
     }
 }
 
+// A start that is refused before its paths are read: nothing entered.
+fn no_start(answer: Answer) -> Untaken
+    ensures { result ≡ no_start answer }
+{
+    let set = VertexSet::empty();
+    let sets = Sets {
+        branch: set,
+        built: set,
+    };
+    Untaken { answer, sets }
+}
+
 // The six paths between the four.
 // n within the capacity is the caller's one test, and no type of its own: see paths' `read_rest`.
 fn read_six<'a>(
@@ -399,13 +418,15 @@ fn read_six<'a>(
     four: Four,
     pointers: &'a mut [u16; Link::POINTERS],
     linked: &'a mut [u64; GraphTable::ROW_WORDS],
-) -> Result<Taken, Answer>
+) -> Result<Taken, Untaken>
     requires { n ≤ capacity }
-    ensures value { result ≡ runs (start_loop n rows.now) 6 (start_of pointers.old linked.old (four_of four)) (start_of pointers.old linked.old (four_of four)) s.now four.next }
+    ensures value { answered result ≡ runs (start_loop n rows.now) 6 (start_of pointers.old linked.old (four_of four)) (start_of pointers.old linked.old (four_of four)) s.now four.next }
     ensures pointers_after { pointers.new
         ≡ (led (start_on (rows_graph n rows.now)) start_entered 6 (start_of pointers.old linked.old (four_of four)) s.now four.next).build.pointers }
     ensures linked_after { linked.new
         ≡ (led (start_on (rows_graph n rows.now)) start_entered 6 (start_of pointers.old linked.old (four_of four)) s.now four.next).build.linked }
+    ensures build_after { build_in (sets_left result) pointers.new linked.new
+        ≡ (led (start_on (rows_graph n rows.now)) start_entered 6 (start_of pointers.old linked.old (four_of four)) s.now four.next).build }
 {
     let set = four.as_set();
     let sets = Sets {
@@ -425,12 +446,21 @@ fn read_six<'a>(
         sets,
     };
     for ends in pairs {
-        so_far = take_start_path(s, rows, n, ends, so_far, pointers, linked)?;
+        so_far = match take_start_path(s, rows, n, ends, so_far, pointers, linked) {
+            Ok(x) => x,
+            Err(answer) => {
+                return Err(Untaken {
+                    answer,
+                    sets: so_far.sets,
+                });
+            },
+        };
     }
     Ok(so_far)
 }
 
-// Four ascending branch vertices and the six paths between them, which enter the tables as they come: those before a fault stay.
+// Four ascending branch vertices and the six paths between them, which enter the tables as they come: those before a fault stay, and their sets are
+// told with it.
 pub fn read_start<'a>(
     s: &'a [u8],
     rows: &'a [u64; GraphTable::ROW_WORDS],
@@ -438,16 +468,21 @@ pub fn read_start<'a>(
     at: usize,
     pointers: &'a mut [u16; Link::POINTERS],
     linked: &'a mut [u64; GraphTable::ROW_WORDS],
-) -> Result<Taken, Answer>
-    ensures value { result ≡ told (λ x next. record { next = next; sets = (started pointers.old linked.old x).sets })
+) -> Result<Taken, Untaken>
+    ensures value { answered result ≡ told (λ x next. record { next = next; sets = (started pointers.old linked.old x).sets })
         (limited n (start_in pointers.old linked.old (rows_graph n rows.now)) s.now at) }
     ensures pointers_after { pointers.new ≡ (start_left pointers.old linked.old (rows_graph n rows.now) s.now at).pointers }
     ensures linked_after { linked.new ≡ (start_left pointers.old linked.old (rows_graph n rows.now) s.now at).linked }
+    ensures build_after { build_in (sets_left result) pointers.new linked.new
+        ≡ start_left pointers.old linked.old (rows_graph n rows.now) s.now at }
 {
     if VertexSet::CAPACITY < n {
-        return Err(Answer::CertificateFault(9, at));
+        return Err(no_start(Answer::CertificateFault(9, at)));
     }
-    let four = read_four(s, n, at)?;
+    let four = match read_four(s, n, at) {
+        Ok(four) => four,
+        Err(answer) => return Err(no_start(answer)),
+    };
     read_six(s, rows, n, four, pointers, linked)
 }
 
@@ -489,7 +524,10 @@ pub fn read_build<'a>(
 {
     let mut pointers = [0u16; Link::POINTERS];
     let mut linked = [0u64; GraphTable::ROW_WORDS];
-    let start = read_start(s, rows, n, at, &mut pointers, &mut linked)?;
+    let start = match read_start(s, rows, n, at, &mut pointers, &mut linked) {
+        Ok(x) => x,
+        Err(x) => return Err(x.answer),
+    };
     read_further(s, rows, n, count, start, &mut pointers, &mut linked)
 }
 

@@ -87,35 +87,35 @@ impl Session {
     pub fn start(self, part: &[u8]) -> Stepped
         ensures { result ≡ start_step self part.now }
     {
-        if !self.ready {
+        let ready = self.ready;
+        if !ready {
             return self.refused(31, 0);
         }
+        // a graph of its own is lent: where the session's is, a call copies the session, a refused one too
+        let graph = self.graph;
         let mut pointers = [0u16; Link::POINTERS];
         let mut linked = [0u64; GraphTable::ROW_WORDS];
-        let x = match build::read_start(
-            part,
-            &self.graph.rows,
-            self.graph.n,
-            0,
-            &mut pointers,
-            &mut linked,
-        ) {
+        let x = match build::read_start(part, &graph.rows, graph.n, 0, &mut pointers, &mut linked) {
             Ok(x) => x,
-            Err(answer) => return self.unread(answer),
+            Err(x) => return self.unread(x.answer),
+        };
+        let sets = x.sets;
+        let build = Build {
+            sets,
+            pointers,
+            linked,
+        };
+        let traces = self.traces;
+        let session = Session {
+            graph,
+            ready: false,
+            started: true,
+            taken: 0,
+            build,
+            traces,
         };
         Stepped {
-            session: Session {
-                graph: self.graph,
-                ready: false,
-                started: true,
-                taken: 0,
-                build: Build {
-                    sets: x.sets,
-                    pointers,
-                    linked,
-                },
-                traces: self.traces,
-            },
+            session,
             answer: Answer::Accepted,
             read: x.next,
         }

@@ -9,9 +9,9 @@ use Rattle.record.specs.Loop.{runs}
 use Rattle.record.proofs.Loops.{turn_done, led-done}
 use Rattle.vertexset.specs.declared.VertexSet.{VertexSet}
 use Rattle.graph.specs.Rows.{rows_graph}
+use Rattle.build.specs.declared.Build.{Build}
 use Rattle.build.specs.State.{BuildStart, bare_on, start_on, start_entered}
 use Rattle.build.specs.Code.{start_loop}
-use Rattle.build.proofs.Taking.{exit}
 use Rattle.build.proofs.Turns.{start_with, start-stop, start-go}
 use Rattle.build.proofs.read_six.Goals as goal
 
@@ -23,18 +23,20 @@ loop-ends-init c = let a = c.args in
       tables = ap (λ (set : VertexSet). led (start_on (rows_graph a.n a.rows.now)) start_entered 6 (begun set) a.s.now a.four.next) c.as_set-set.ensures;
     }
 
-pub returns-in_err-so_far : goal.returns-in_err-so_far
-returns-in_err-so_far c = let l = c.loop-ends in
-    let e = c.in_err-so_far.ensures in
-    let r = start-stop _ _ _ _ _ _ _ c.requires c.loop-ends-test.true refl refl e.pointers_after e.linked_after e.value in record {
-      value = exit c.from_residual.result c.from_residual.ensures.1 ∙ r.0 ∙ l.invariant.value;
-      pointers_after = r.1 ∙ ap (λ (st : BuildStart). st.build.pointers) l.invariant.tables;
-      linked_after = r.2 ∙ ap (λ (st : BuildStart). st.build.linked) l.invariant.tables;
+pub returns-in-Err : goal.returns-in-Err
+returns-in-Err c = let l = c.loop-ends in
+    let e = c.in-Err.ensures in
+    let r = start-stop _ _ _ _ _ _ _ c.requires c.loop-ends-test.true refl refl e.pointers_after e.linked_after e.value in
+    let k = r.1 ∙ ap (λ (st : BuildStart). st.build) l.invariant.tables in record {
+      value = r.0 ∙ l.invariant.value;
+      pointers_after = ap (λ (b : Build). b.pointers) k;
+      linked_after = ap (λ (b : Build). b.linked) k;
+      build_after = k;
     }
 
 pub loop-ends-preserved : goal.loop-ends-preserved
 loop-ends-preserved c = let l = c.loop-ends in
-    let e = c.in_ok-so_far.ensures in
+    let e = c.in-Ok.ensures in
     let r = start-go _ _ _ _ _ _ _ c.requires c.loop-ends-test.true refl refl e.pointers_after e.linked_after e.value in
     record { value = r.0 ∙ l.invariant.value; tables = r.1 ∙ l.invariant.tables }
 
@@ -44,4 +46,5 @@ returns c = let l = c.loop-ends in
       value = turn_done _ _ _ (omega arith) _ _ _ ∙ l.invariant.value;
       pointers_after = ap (λ (st : BuildStart). st.build.pointers) k;
       linked_after = ap (λ (st : BuildStart). st.build.linked) k;
+      build_after = ap (λ (st : BuildStart). st.build) k;
     }

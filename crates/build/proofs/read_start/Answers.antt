@@ -1,24 +1,41 @@
 -- `build::read_start` meets its contract. Assumes nothing.
 
 use mathlib.Core.Path.{ap, ◌∙◌}
-use Rattle.paths.proofs.Told.{told-exit}
+use Rattle.std.specs.Prelude.{Err}
+use Rattle.paths.proofs.Told.{told-err}
 use Rattle.build.specs.declared.Build.{Build}
+use Rattle.build.specs.declared.Untaken.{Untaken}
+use Rattle.build.specs.Code.{build_in, answered}
 use Rattle.build.proofs.Starts.{start-over, start-unread, start-six}
 use Rattle.build.proofs.read_start.Goals as goal
 
 pub returns-then-n-gt-CAPACITY : goal.returns-then-n-gt-CAPACITY
 returns-then-n-gt-CAPACITY c = let a = c.args in
     let r = start-over a.n a.rows.now a.s.now a.at a.pointers.now a.linked.now c.if-n-gt-CAPACITY.true in
-    record { value = r.0; pointers_after = ap (λ (b : Build). b.pointers) r.1; linked_after = ap (λ (b : Build). b.linked) r.1 }
+    let e = c.no_start.ensures in record {
+      value = ap (λ (x : Untaken). answered (Err x)) e ∙ r.0;
+      pointers_after = ap (λ (b : Build). b.pointers) r.1;
+      linked_after = ap (λ (b : Build). b.linked) r.1;
+      build_after = ap (λ (x : Untaken). build_in x.sets a.pointers.now a.linked.now) e ∙ r.1;
+    }
 
-pub returns-in_err-four : goal.returns-in_err-four
-returns-in_err-four c = let a = c.args in
-    let f = told-exit _ c.from_residual.result _ c.in_err-four.ensures c.from_residual.ensures.1 in
+pub returns-in-Err : goal.returns-in-Err
+returns-in-Err c = let a = c.args in
+    let f = told-err _ _ c.in-Err.ensures in
     let r = start-unread a.n a.rows.now a.s.now a.at a.pointers.now a.linked.now c.if-n-gt-CAPACITY.false f.2 in
-    record { value = f.3 ∙ r.0; pointers_after = ap (λ (b : Build). b.pointers) r.1; linked_after = ap (λ (b : Build). b.linked) r.1 }
+    let e = c.no_start-in-Err.ensures in record {
+      value = ap (λ (x : Untaken). answered (Err x)) e ∙ ap Err f.3 ∙ r.0;
+      pointers_after = ap (λ (b : Build). b.pointers) r.1;
+      linked_after = ap (λ (b : Build). b.linked) r.1;
+      build_after = ap (λ (x : Untaken). build_in x.sets a.pointers.now a.linked.now) e ∙ r.1;
+    }
 
 pub returns : goal.returns
 returns c = let a = c.args in
-    let r = start-six a.n a.rows.now a.s.now a.at a.pointers.now a.linked.now c.if-n-gt-CAPACITY.false c.in_ok-four.ensures in
-    let six = c.read_six.ensures in
-    record { value = six.value ∙ r.0; pointers_after = six.pointers_after ∙ ap (λ (b : Build). b.pointers) r.1; linked_after = six.linked_after ∙ ap (λ (b : Build). b.linked) r.1 }
+    let r = start-six a.n a.rows.now a.s.now a.at a.pointers.now a.linked.now c.if-n-gt-CAPACITY.false c.in-Ok.ensures in
+    let six = c.read_six.ensures in record {
+      value = six.value ∙ r.0;
+      pointers_after = six.pointers_after ∙ ap (λ (b : Build). b.pointers) r.1;
+      linked_after = six.linked_after ∙ ap (λ (b : Build). b.linked) r.1;
+      build_after = six.build_after ∙ r.1;
+    }
