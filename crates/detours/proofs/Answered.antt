@@ -1,6 +1,6 @@
 -- What a search found, as the code answers it: a path, or the cut; and how those take it that go on where nothing is cut. Assumes nothing.
 use Prim.Native.Nat.{ℕ, ◌≤◌, ◌<◌}
-use mathlib.Core.Logic.{◌⊎◌, inl, inr}
+use mathlib.Core.Logic.{◌≢◌, ◌⊎◌, inl, inr}
 use mathlib.Core.Path.{◌≡◌, refl, sym, ap, subst, ◌∙◌}
 use mathlib.Core.Bool.{Bool, true, false, cond}
 use mathlib.Core.List.{List, [], ◌∷◌, ◌++◌, append-nil}
@@ -19,7 +19,7 @@ use Rattle.construction.specs.Sets.{minus, single, least}
 use Rattle.construction.specs.Search as searching
 use Rattle.construction.specs.Search.{explore, route, is_found, reached}
 use Rattle.construction.specs.Ears as construction
-use Rattle.construction.specs.Ears.{is_cut, found, failed, answered, way_out, back_from, detour, cycle}
+use Rattle.construction.specs.Ears.{is_cut, found, failed, answered, way_out, detour, cycle}
 use Rattle.detours.specs.Code.{cut_of, found_by, found_of, settled_of, settled, way_of, answered_in, back_by, detour_by, detour_in, cycle_by, cycle_in}
 use Rattle.detours.specs.declared.Cut.{Cut}
 use Rattle.detours.proofs.Routes.{route-short}
@@ -44,8 +44,8 @@ module _ (f : construction.Found) where
       go q = cc
 
 -- a route is never empty
-found_ok : (m : searching.Reach) (more : List ℕ) {p : Vertices} → p.items ≡ route m ++ more → Ok p ≡ found_of (found (route m ++ more))
-found_ok m more e = ap (λ (k : List ℕ). Ok (path_of k)) e
+found_route : (m : searching.Reach) (more : List ℕ) {p : Vertices} → p.items ≡ route m ++ more → Ok p ≡ found_of (found (route m ++ more))
+found_route m more e = ap (λ (k : List ℕ). Ok (path_of k)) e
 
 -- ---- the same, for those that go on where nothing is cut
 
@@ -76,6 +76,10 @@ module _ (f : construction.Found) where
   pub err_cut : {c : Cut} → Err c ≡ settled_of f → c ≡ cut_of f.cut_by
   err_cut {c} e = let z = told_by (err_test e) e in cc
 
+pub found_ok : (l : List ℕ) {p : Vertices} → p.items ≡ l → Ok p ≡ settled_of (found l)
+unfolding none
+found_ok l e = ap (λ (k : List ℕ). Ok (path_of k)) e
+
 -- an answer has a path or a cut, and never both
 abbrev pub Either : construction.Found → Type 0
 Either f = (f.path ≡ []) ⊎ (is_cut f.cut_by ≡ false)
@@ -85,8 +89,8 @@ settled-is [] c h = refl
 settled-is (v ∷ l) c (inl e) = cc
 settled-is (v ∷ l) c (inr t) = rw t
 
-settled_on : {g f : construction.Found} {x s : Found} → Either f → x ≡ found_of g → g ≡ f → s ≡ settled x → s ≡ settled_of f
-settled_on {f = f} h e w q = q ∙ ap settled (e ∙ ap found_of w) ∙ settled-is f.path f.cut_by h
+settles : (f : construction.Found) → Either f → settled (found_of f) ≡ settled_of f
+settles f h = settled-is f.path f.cut_by h
 
 module _ (m : searching.Reach) (removed : VertexSet) (more : List ℕ) where
   pub either_answered : Either (answered m removed more)
@@ -107,11 +111,23 @@ module _ (space : List ℕ) (m : searching.Reach) (removed : VertexSet) (more : 
   by_size : {b : Bool} → eqb (length space) search_space ≡ b → cond b (answered m removed more) (nothing removed) ≡ answered_in space m removed more
   by_size t = ap (λ (b : Bool). cond b (answered m removed more) (nothing removed)) (sym t)
 
-  answered-sized : length space ≡ search_space → answered_in space m removed more ≡ answered m removed more
+  pub answered-sized : length space ≡ search_space → answered_in space m removed more ≡ answered m removed more
   answered-sized h = sym (by_size (eq-eqb (length space) search_space h))
 
   by_found : {b : Bool} → is_found m ≡ b → cond b (found (route m ++ more)) (failed removed (reached m removed)) ≡ answered m removed more
   by_found t = ap (λ (b : Bool). cond b (found (route m ++ more)) (failed removed (reached m removed))) (sym t)
+
+-- what is settled of an answer, in any space
+module _ (space : List ℕ) where
+  either_in : (m : searching.Reach) (removed : VertexSet) (more : List ℕ) → Either (answered_in space m removed more)
+  either_in m removed more = go (eqb (length space) search_space)
+    where
+      go : (b : Bool) → Either (cond b (answered m removed more) (nothing removed))
+      go true = either_answered m removed more
+      go false = inl refl
+
+  pub answered-settles : (m : searching.Reach) (removed : VertexSet) (more : List ℕ) → settled (found_of (answered_in space m removed more)) ≡ settled_of (answered_in space m removed more)
+  answered-settles m removed more = settles (answered_in space m removed more) (either_in m removed more)
 
 unsized : (space : List ℕ) (m : searching.Reach) → eqb (length space) search_space ≡ false → {r : Reach} → r ≡ answer_in space m → r ≡ no_reach
 unsized space m t e = e ∙ rw t
@@ -125,16 +141,20 @@ module _ (rows space : List ℕ) (seeds goals removed : VertexSet) {r : Reach} (
   met : length space ≡ search_space → r.goal < capacity → is_found here ≡ true
   met size h = lt-ltb here.goal capacity (subst (λ (x : Reach). x.goal < capacity) (answer_is rows space seeds goals removed size e) h)
 
-  pub found_in : {out : List ℕ} → out ≡ left_in space here → {p : Vertices} → r.goal < capacity → p.items ≡ route_in out r
+  pub path_in : {out : List ℕ} → out ≡ left_in space here → {p : Vertices} → r.goal < capacity → p.items ≡ route_in out r
       → Ok p ≡ found_of (answered_in space here removed [])
-  found_in {out} o {p} h q = go (eqb (length space) search_space) refl
+  path_in {out} o {p} h q = go (eqb (length space) search_space) refl
     where
       go : (b : Bool) → eqb (length space) search_space ≡ b → Ok p ≡ found_of (answered_in space here removed [])
       go true t =
           let size : length space ≡ search_space = eqb-true (length space) search_space t in
           let w : p.items ≡ route here ++ [] = q ∙ routed rows space seeds goals removed size o e ∙ sym (append-nil (route here)) in
-          found_ok here [] w ∙ ap found_of (by_found space here removed [] (met size h) ∙ by_size space here removed [] t)
+          found_route here [] w ∙ ap found_of (by_found space here removed [] (met size h) ∙ by_size space here removed [] t)
       go false t = let z = ap (λ (x : Reach). x.goal) (unsized space here t e) in absurd (omega arith)
+
+  pub found_in : {out : List ℕ} → out ≡ left_in space here → {p : Vertices} → r.goal < capacity → p.items ≡ route_in out r
+      → Ok p ≡ settled_of (answered_in space here removed [])
+  found_in o h q = ap settled (path_in o h q) ∙ answered-settles space here removed []
 
 -- ---- one vertex more; a search that failed leaves no path
 
@@ -164,26 +184,50 @@ module _ (space : List ℕ) (m : searching.Reach) (removed : VertexSet) (x : ℕ
           stays (ap (λ (y : construction.Found). y.path) (sym (by_size space m removed [] t))) (sym (by_size space m removed (x ∷ []) t) ∙ by_size space m removed [] t)
 
   module _ {p : Vertices} (e : Ok p ≡ found_of one) where
-    pub goes_room : length p.items < path_room
-    goes_room = go ways
+    pub grows_room : length p.items < path_room
+    grows_room = go ways
       where
         go : Goes m x one two → length p.items < path_room
         go (stays a b) = absurd (found_some one e a)
         go (goes a b) = let z = ap length (found_path one e ∙ ap (λ (y : construction.Found). y.path) a) in omega (arith, route-short m)
 
-    pub goes_on : {q : Vertices} → q.items ≡ p.items ++ (x ∷ []) → Ok q ≡ found_of two
-    goes_on {q} k = go ways
+    pub grows_on : {q : Vertices} → q.items ≡ p.items ++ (x ∷ []) → Ok q ≡ found_of two
+    grows_on {q} k = go ways
       where
         go : Goes m x one two → Ok q ≡ found_of two
         go (stays a b) = absurd (found_some one e a)
-        go (goes a b) = found_ok m (x ∷ []) (k ∙ ap (λ (l : List ℕ). l ++ (x ∷ [])) (found_path one e ∙ ap (λ (y : construction.Found). y.path) a)) ∙ ap found_of (sym b)
+        go (goes a b) = found_route m (x ∷ []) (k ∙ ap (λ (l : List ℕ). l ++ (x ∷ [])) (found_path one e ∙ ap (λ (y : construction.Found). y.path) a)) ∙ ap found_of (sym b)
 
-  pub goes_none : {c : Cut} → Err c ≡ found_of one → Err c ≡ found_of two
-  goes_none {c} e = go ways
+  pub grows_none : {c : Cut} → Err c ≡ found_of one → Err c ≡ found_of two
+  grows_none {c} e = go ways
     where
       go : Goes m x one two → Err c ≡ found_of two
       go (stays a b) = e ∙ ap found_of (sym b)
       go (goes a b) = let z : Err c ≡ found_of (found (route m)) = e ∙ ap found_of a in cc
+
+  -- the same of what is settled, be the path empty
+  module _ {p : Vertices} (e : Ok p ≡ settled_of one) where
+    pub goes_room : length p.items < path_room
+    goes_room = go ways
+      where
+        go : Goes m x one two → length p.items < path_room
+        go (stays a b) = let z = ap length (ok_path one e ∙ a) in omega arith
+        go (goes a b) = let z = ap length (ok_path one e ∙ ap (λ (y : construction.Found). y.path) a) in omega (arith, route-short m)
+
+    pub goes_none : length p.items ≡ 0 → Ok p ≡ settled_of two
+    goes_none h = go ways
+      where
+        go : Goes m x one two → Ok p ≡ settled_of two
+        go (stays a b) = e ∙ ap settled_of (sym b)
+        go (goes a b) = let z = sym h ∙ ap length (ok_path one e ∙ ap (λ (y : construction.Found). y.path) a) in absurd (omega arith)
+
+    pub goes_on : length p.items ≢ 0 → {q : Vertices} → q.items ≡ p.items ++ (x ∷ []) → Ok q ≡ settled_of two
+    goes_on h {q} k = go ways
+      where
+        go : Goes m x one two → Ok q ≡ settled_of two
+        go (stays a b) = absurd (h (ap length (ok_path one e ∙ a)))
+        go (goes a b) =
+            found_ok (route m ++ (x ∷ [])) (k ∙ ap (λ (l : List ℕ). l ++ (x ∷ [])) (ok_path one e ∙ ap (λ (y : construction.Found). y.path) a)) ∙ ap settled_of (sym b)
 
 -- ---- out and back: what comes of the search, whatever is asked of it
 
@@ -238,50 +282,69 @@ module _ {A : Type 0} (told : searching.Reach → VertexSet → List ℕ → A) 
     unfolding cycle_by
     cycle-found x a b g h l p q r = rw (← counted, le-ltb n 2 h, p, r, q, l, e)
 
--- ---- in a space of the right size the definition's answer comes
+-- ---- what is settled of these two, in any space
 
-module _ (rows : List ℕ) where
-  either_back : (set : VertexSet) (e : ℕ × ℕ) → Either (back_from rows set e)
+module _ (space rows : List ℕ) where
+  either_back : (set : VertexSet) (e : ℕ × ℕ) → Either (back_by (answered_in space) (failed empty_set set) rows set e)
   either_back set e = go (ltb e.0 capacity)
     where
-      go : (b : Bool) → Either (cond b (answered (explore rows (single e.1) (minus set (single e.0)) (single e.0)) (single e.0) (e.0 ∷ [])) (failed empty_set set))
-      go true = either_answered (explore rows (single e.1) (minus set (single e.0)) (single e.0)) (single e.0) (e.0 ∷ [])
+      go : (b : Bool) → Either (cond b (answered_in space (explore rows (single e.1) (minus set (single e.0)) (single e.0)) (single e.0) (e.0 ∷ [])) (failed empty_set set))
+      go true = either_in space (explore rows (single e.1) (minus set (single e.0)) (single e.0)) (single e.0) (e.0 ∷ [])
       go false = inl refl
 
-  either_detour : (n set : VertexSet) → Either (detour rows n set)
-  unfolding detour
+  either_detour : (n set : VertexSet) → Either (detour_in space rows n set)
+  unfolding detour_by
   either_detour n set = either_back set (way_out rows n set)
 
-  either_cycle : Either (cycle rows)
-  unfolding cycle
+  either_cycle : Either (cycle_in space rows)
+  unfolding cycle_by
   either_cycle = go (ltb (count (row_of rows 0).words) 2)
     where
-      go : (b : Bool) → Either
-          (cond b (failed (row_of rows 0) (single 0)) (answered (explore rows (single (least (row_of rows 0))) (minus (row_of rows 0) (single (least (row_of rows 0)))) (single 0)) (single 0) (0 ∷ [])))
+      go : (b : Bool) → Either (cond b (failed (row_of rows 0) (single 0))
+          (answered_in space (explore rows (single (least (row_of rows 0))) (minus (row_of rows 0) (single (least (row_of rows 0)))) (single 0)) (single 0) (0 ∷ [])))
       go true = inl refl
-      go false = either_answered (explore rows (single (least (row_of rows 0))) (minus (row_of rows 0) (single (least (row_of rows 0)))) (single 0)) (single 0) (0 ∷ [])
+      go false = either_in space (explore rows (single (least (row_of rows 0))) (minus (row_of rows 0) (single (least (row_of rows 0)))) (single 0)) (single 0) (0 ∷ [])
+
+  pub detour-settles : (n set : VertexSet) → settled (found_of (detour_in space rows n set)) ≡ settled_of (detour_in space rows n set)
+  detour-settles n set = settles (detour_in space rows n set) (either_detour n set)
+
+  pub cycle-settles : settled (found_of (cycle_in space rows)) ≡ settled_of (cycle_in space rows)
+  cycle-settles = settles (cycle_in space rows) either_cycle
+
+-- ---- in a space of the right size the definition's answer comes
 
 module _ (space : List ℕ) (size : length space ≡ search_space) (rows : List ℕ) where
   told-sized : answered_in space ≡ answered
   told-sized i m removed more = answered-sized space m removed more size i
 
-  detour-sized : (n set : VertexSet) → detour_in space rows n set ≡ detour rows n set
+  pub detour-sized : (n set : VertexSet) → detour_in space rows n set ≡ detour rows n set
   unfolding detour detour_by
   detour-sized n set = ap (λ (told : searching.Reach → VertexSet → List ℕ → construction.Found). back_by told (failed empty_set set) rows set (way_out rows n set)) told-sized
 
-  cycle-sized : cycle_in space rows ≡ cycle rows
+  pub cycle-sized : cycle_in space rows ≡ cycle rows
   unfolding cycle cycle_by
   cycle-sized =
       ap (λ (told : searching.Reach → VertexSet → List ℕ → construction.Found).
       cond (ltb (count (row_of rows 0).words) 2) (failed (row_of rows 0) (single 0)) (told (explore rows (single (least (row_of rows 0))) (minus (row_of rows 0) (single (least (row_of rows 0)))) (single 0)) (single 0) (0 ∷ [])))
       told-sized
 
-  pub detour-told : (n set : VertexSet) {x s : Found} → x ≡ found_of (detour_in space rows n set) → s ≡ settled x → s ≡ settled_of (detour rows n set)
-  detour-told n set e = settled_on (either_detour rows n set) e (detour-sized n set)
+  pub detour-told : (n set : VertexSet) {f : Found} → f ≡ settled_of (detour_in space rows n set) → f ≡ settled_of (detour rows n set)
+  detour-told n set e = e ∙ ap settled_of (detour-sized n set)
 
-  pub cycle-told : {x s : Found} → x ≡ found_of (cycle_in space rows) → s ≡ settled x → s ≡ settled_of (cycle rows)
-  cycle-told e = settled_on (either_cycle rows) e cycle-sized
+  pub cycle-told : {f : Found} → f ≡ settled_of (cycle_in space rows) → f ≡ settled_of (cycle rows)
+  cycle-told e = e ∙ ap settled_of cycle-sized
 
-pub answered-told : (space : List ℕ) → length space ≡ search_space → (m : searching.Reach) (removed : VertexSet) (more : List ℕ) {f : construction.Found} → answered m removed more ≡ f → {x s : Found}
+  -- the same, from the search's own answer
+  pub detour-settled : (n set : VertexSet) {x s : Found} → x ≡ found_of (detour_in space rows n set) → s ≡ settled x → s ≡ settled_of (detour rows n set)
+  detour-settled n set e q = detour-told n set (q ∙ ap settled e ∙ detour-settles space rows n set)
+
+  pub cycle-settled : {x s : Found} → x ≡ found_of (cycle_in space rows) → s ≡ settled x → s ≡ settled_of (cycle rows)
+  cycle-settled e q = cycle-told (q ∙ ap settled e ∙ cycle-settles space rows)
+
+pub answered-told : (space : List ℕ) → length space ≡ search_space → (m : searching.Reach) (removed : VertexSet) (more : List ℕ) {f : Found}
+    → f ≡ settled_of (answered_in space m removed more) → f ≡ settled_of (answered m removed more)
+answered-told space size m removed more e = e ∙ ap settled_of (answered-sized space m removed more size)
+
+pub answered-settled : (space : List ℕ) → length space ≡ search_space → (m : searching.Reach) (removed : VertexSet) (more : List ℕ) {f : construction.Found} → answered m removed more ≡ f → {x s : Found}
     → x ≡ found_of (answered_in space m removed more) → s ≡ settled x → s ≡ settled_of f
-answered-told space size m removed more w e q = settled_on (either_answered m removed more) e (answered-sized space m removed more size) q ∙ ap settled_of w
+answered-settled space size m removed more w e q = answered-told space size m removed more (q ∙ ap settled e ∙ answered-settles space m removed more) ∙ ap settled_of w

@@ -2,7 +2,7 @@
 
 use mathlib.Core.Path.{◌∙◌}
 use borrow.Author.Rules.{rules}
-use Rattle.detours.proofs.Answered.{detour-told}
+use Rattle.detours.proofs.Answered.{detour-settled}
 use Rattle.detours.proofs.Earing.{first_ear_lem, earing_end, earing_full, earing_cut, earing_on}
 use Rattle.detours.proofs.more_ears.Goals as goal
 
@@ -18,12 +18,12 @@ pub returns-in-Err : goal.returns-in-Err
 returns-in-Err c = let a = c.args in
     c.ears_of-in-Err.ensures
     ∙ earing_cut c.loop.invariant c.loop-test.true c.minus.ensures c.is_empty.ensures c.if-is_empty.false
-    (detour-told c.loop.space (search rules) a.rows.now c.loop.near c.loop.set c.detour.ensures.value c.in-Err.ensures)
+    (detour-settled c.loop.space (search rules) a.rows.now c.loop.near c.loop.set c.detour.ensures.value c.in-Err.ensures)
 
 pub loop-preserved : goal.loop-preserved
 loop-preserved c = let a = c.args in
     earing_on c.loop.invariant c.loop-test.true c.minus.ensures c.is_empty.ensures c.if-is_empty.false
-    (detour-told c.loop.space (search rules) a.rows.now c.loop.near c.loop.set c.detour.ensures.value c.in-Ok.ensures) c.as_slice-path.ensures.value
+    (detour-settled c.loop.space (search rules) a.rows.now c.loop.near c.loop.set c.detour.ensures.value c.in-Ok.ensures) c.as_slice-path.ensures.value
     c.add_path-len-in-loop.ensures.flat_after c.add_path-len-in-loop.ensures.value c.with_all-set-in-loop.ensures c.near_all-near-in-loop.ensures
 
 pub returns : goal.returns
